@@ -1,1 +1,10 @@
 pub mod Cases
+pub mod Tests
+pub mod AllLaws
+pub mod AnswerLaws
+pub mod Search
+pub mod Given
+pub mod FoundLaws
+pub mod LimitLaws
+pub mod AcceptedLaws
+pub mod PartLaws
