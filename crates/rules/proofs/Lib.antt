@@ -7,4 +7,11 @@ pub mod Given
 pub mod FoundLaws
 pub mod LimitLaws
 pub mod AcceptedLaws
+pub mod HalvesLaws
+pub mod SizeLaws
+pub mod RecordLaws
+pub mod KeepingLaws
+pub mod ConvertsLaws
+pub mod Twins
+pub mod Demand3
 pub mod PartLaws
