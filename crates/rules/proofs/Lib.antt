@@ -7,6 +7,8 @@ pub mod Given
 pub mod FoundLaws
 pub mod LimitLaws
 pub mod AcceptedLaws
+pub mod WordLaws
+pub mod ReelLaws
 pub mod HalvesLaws
 pub mod SizeLaws
 pub mod RecordLaws
@@ -15,3 +17,7 @@ pub mod ConvertsLaws
 pub mod Twins
 pub mod Demand3
 pub mod PartLaws
+pub mod HeaderSteps
+pub mod ReelSteps
+pub mod ReelWriting
+pub mod Bounds
