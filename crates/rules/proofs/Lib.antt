@@ -21,6 +21,15 @@ pub mod HalvesLaws
 pub mod SizeLaws
 pub mod RecordLaws
 pub mod KeepingLaws
+pub mod ReaderLaws
+pub mod ListLaws
+pub mod NumberLaws
+pub mod ChoiceLaws
+pub mod ItemLaws
+pub mod ParameterLaws
+pub mod LetterLaws
+pub mod GrammarLaws
+pub mod CardLaws
 pub mod ConvertsLaws
 pub mod Twins
 pub mod Demand3
@@ -32,4 +41,6 @@ pub mod HeaderSteps
 pub mod ReelSteps
 pub mod ReelWriting
 pub mod Bounds
+pub mod LineLaws
+pub mod CardPlaces
 pub mod PieceLaws
