@@ -5,6 +5,10 @@ pub mod AnswerLaws
 pub mod Search
 pub mod Given
 pub mod FoundLaws
+pub mod OrderOutcome
+pub mod ParameterOutcome
+pub mod CardsOutcome
+pub mod BarrenOutcome
 pub mod FillLaws
 pub mod FillSteps
 pub mod FitSteps
@@ -21,6 +25,9 @@ pub mod HalvesLaws
 pub mod SizeLaws
 pub mod RecordLaws
 pub mod KeepingLaws
+pub mod BlocksOutcome
+pub mod Overfull
+pub mod FitOutcome
 pub mod ReaderLaws
 pub mod ListLaws
 pub mod NumberLaws
@@ -29,6 +36,9 @@ pub mod ItemLaws
 pub mod ParameterLaws
 pub mod LetterLaws
 pub mod GrammarLaws
+pub mod AskedTable
+pub mod PlanTable
+pub mod RunTable
 pub mod CardLaws
 pub mod ConvertsLaws
 pub mod Twins
@@ -44,3 +54,4 @@ pub mod Bounds
 pub mod LineLaws
 pub mod CardPlaces
 pub mod PieceLaws
+pub mod ScanLaws
