@@ -53,5 +53,10 @@ pub mod ReelWriting
 pub mod Bounds
 pub mod LineLaws
 pub mod CardPlaces
+pub mod RunParts
+pub mod Never
+pub mod CopyLaws
+pub mod FullBlocks
+pub mod ReadBack
 pub mod PieceLaws
 pub mod ScanLaws
