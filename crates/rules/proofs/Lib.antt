@@ -24,6 +24,16 @@ pub mod OneRecord
 pub mod HalvesLaws
 pub mod SizeLaws
 pub mod RecordLaws
+pub mod PlaceLaws
+pub mod BytePlaces
+pub mod HalfBytes
+pub mod PermittedLaws
+pub mod PackHalves
+pub mod PackLaws
+pub mod FieldSteps
+pub mod SourceSteps
+pub mod FieldChecks
+pub mod KeepingSteps
 pub mod KeepingLaws
 pub mod BlocksOutcome
 pub mod Overfull
@@ -51,6 +61,7 @@ pub mod HeaderSteps
 pub mod ReelSteps
 pub mod ReelWriting
 pub mod Bounds
+pub mod MarkLaws
 pub mod LineLaws
 pub mod CardPlaces
 pub mod RunParts
