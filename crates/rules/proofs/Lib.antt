@@ -33,6 +33,7 @@ pub mod PackLaws
 pub mod FieldSteps
 pub mod SourceSteps
 pub mod FieldChecks
+pub mod FieldTests
 pub mod KeepingSteps
 pub mod KeepingLaws
 pub mod BlocksOutcome
@@ -57,6 +58,7 @@ pub mod BlockSteps
 pub mod RecordSteps
 pub mod TakenLaws
 pub mod PartLaws
+pub mod LentParts
 pub mod HeaderSteps
 pub mod ReelSteps
 pub mod ReelWriting
@@ -69,5 +71,10 @@ pub mod Never
 pub mod CopyLaws
 pub mod FullBlocks
 pub mod ReadBack
+pub mod PlanSteps
 pub mod PieceLaws
 pub mod ScanLaws
+pub mod MarkedLaws
+pub mod CardSteps
+pub mod ParameterSteps
+pub mod MeasureLaws
