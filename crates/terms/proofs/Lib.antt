@@ -1,0 +1,2 @@
+pub mod PlanOf
+pub mod Entries

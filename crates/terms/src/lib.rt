@@ -1,0 +1,78 @@
+// What cards name, as types that every floor above shares. No function.
+
+// T: copy, field select, reblock, both.
+pub enum Mode {
+    TC,
+    TF,
+    TR,
+    TRF,
+}
+
+// F: fixed, variable, undefined.
+pub enum Format {
+    FF,
+    FV,
+    FU,
+}
+
+// A or B: (n,m) or (g).
+pub enum Size {
+    Two { n: usize, m: usize },
+    One { g: usize },
+}
+
+// What a field does.
+pub enum Kind {
+    Copy,
+    Pack,
+    Unpack,
+}
+
+// A field: so many input bytes from position r on give so many output bytes from position t on; for a copy both are s.
+pub struct Field {
+    pub kind: Kind,
+    pub r: usize,
+    pub input: usize,
+    pub output: usize,
+    pub t: usize,
+}
+
+// What the cards of a deck ask for: the parameters of the U card, R being 1 where it is not given; the fields with the card of each, and how
+// many they are; how many FS cards there are; and the card of CV, or 0.
+pub struct Asked {
+    pub mode: Mode,
+    pub format: Format,
+    pub input: Size,
+    pub output: Size,
+    pub first: usize,
+    pub fields: [Field; 64],
+    pub cards: [usize; 64],
+    pub count: usize,
+    pub fs: usize,
+    pub cv: usize,
+}
+
+// What a run needs of a plan, as numbers: A's n and A's m (or g), the least data of a record, B's n as the width of an output record, B's m (or g), what a block and each record
+// of it take besides the data, R, and whether CV is given.
+pub struct Task {
+    pub mode: Mode,
+    pub format: Format,
+    pub n: usize,
+    pub m: usize,
+    pub least: usize,
+    pub width: usize,
+    pub limit: usize,
+    pub cost: usize,
+    pub first: usize,
+    pub carries: bool,
+}
+
+// A field as it stands in a lent table: 0, 1 or 2 for copy, pack or unpack, and its numbers, for a copy its size in both places.
+#[repr(C)]
+pub struct Entry {
+    pub kind: u8,
+    pub r: u16,
+    pub input: u16,
+    pub output: u16,
+    pub t: u16,
+}
