@@ -1,0 +1,131 @@
+// Pack and unpack fields of 1 to 16 bytes (document 01, "Half bytes").
+ghost use mathlib.Core.Path.{_≡_};
+ghost use Prim.Native.Nat.{_+_, _*_, _-_, _/_, _%_, _≤_, _<_};
+ghost use lib.ListN.{length, getD};
+ghost use Rattle.rules.specs.Base.{within};
+ghost use Rattle.rules.specs.Halves.{halves, packed, value, packBytes, unpackBytes};
+ghost use Rattle.rules.specs.Lent.{zoneF};
+ghost use Rattle.halves.specs.Promise.{bothAllowed, packedInto, unpackedInto};
+
+// F, which stands before each unpacked digit.
+const ZONE: u8 = 15;
+
+// Whether a field that packs or unpacks may have this size.
+fn allowed(size: usize) -> bool
+    ensures { λ r. ⌜ r ≡ within 1 16 size ⌝ }
+{
+    1 <= size && size <= 16
+}
+
+// Whether n bytes may become m.
+fn both_allowed(n: usize, m: usize) -> bool
+    ensures { λ r. ⌜ r ≡ bothAllowed n m ⌝ }
+{
+    allowed(n) && allowed(m)
+}
+
+// The halves of src packed into 16 bytes, the most that a field has. A smaller field ends as they do.
+fn row_of(src: &[u8]) -> [u8; 32]
+    requires { ⌜ (1 ≤ length (now src)) × (length (now src) ≤ 16) ⌝ }
+    ensures { λ r. ⌜ r ≡ packed value 16 (halves (now (src .entry))) ⌝ }
+{
+    let mut row = [0u8; 32];
+    let last = src.len() - 1;
+    let mut i = 0;
+    while i < last {
+        row[30 - last + i] = src[i] % 16;
+        i += 1;
+    }
+    // The last byte's halves change places.
+    let byte = src[last];
+    row[30] = byte % 16;
+    row[31] = byte / 16;
+    row
+}
+
+// src packed into all of dst: the last halves of the row, two to a byte.
+fn put_packed(src: &[u8], dst: &mut [u8])
+    requires { ⌜ (1 ≤ length (now src)) × (length (now src) ≤ 16) ⌝ }
+    requires { ⌜ (1 ≤ length (now dst)) × (length (now dst) ≤ 16) ⌝ }
+    ensures { λ _. ⌜ now (dst .exit) ≡ packBytes (length (now (dst .entry))) (now (src .entry)) ⌝ }
+{
+    let row = row_of(src);
+    let m = dst.len();
+    let first = 32 - 2 * m;
+    let mut i = 0;
+    while i < m {
+        let at = first + 2 * i;
+        let high = row[at];
+        let low = row[at + 1];
+        dst[i] = high * 16 + low;
+        i += 1;
+    }
+}
+
+// Packs src into dst, where both sizes are allowed.
+pub fn pack(src: &[u8], dst: &mut [u8])
+    ensures { λ _. ⌜ now (dst .exit) ≡ packedInto (now (src .entry)) (now (dst .entry)) ⌝ }
+{
+    if both_allowed(src.len(), dst.len()) {
+        put_packed(src, dst);
+    }
+}
+
+// A byte whose halves have changed places.
+fn turned(byte: u8) -> u8
+    ensures { λ r. ⌜ r ≡ 16 * (byte % 16) + byte / 16 ⌝ }
+{
+    byte % 16 * 16 + byte / 16
+}
+
+// The half of src at a place.
+fn half_at(src: &[u8], place: usize) -> u8
+    requires { ⌜ place < 2 * length (now src) ⌝ }
+    ensures { λ r. ⌜ (r ≡ getD (halves (now (src .entry))) place 0) × (r < 16) ⌝ }
+{
+    let byte = src[place / 2];
+    if place % 2 == 0 {
+        return byte / 16;
+    }
+    byte % 16
+}
+
+// Byte i of src unpacked into m bytes. Going left from the last byte, on both sides, one half makes one byte.
+fn unpack_at(src: &[u8], m: usize, i: usize) -> u8
+    requires { ⌜ (1 ≤ length (now src)) × (length (now src) ≤ 16) × (i < m) ⌝ }
+    ensures { λ r. ⌜ r ≡ getD (unpackBytes zoneF m (now (src .entry))) i 0 ⌝ }
+{
+    let last = src.len() - 1;
+    let before = m - 1 - i;
+    if before == 0 {
+        return turned(src[last]);
+    }
+    // Past the first half the fill is F0.
+    if 2 * last < before {
+        return ZONE * 16;
+    }
+    ZONE * 16 + half_at(src, 2 * last - before)
+}
+
+// src unpacked into all of dst.
+fn put_unpacked(src: &[u8], dst: &mut [u8])
+    requires { ⌜ (1 ≤ length (now src)) × (length (now src) ≤ 16) ⌝ }
+    requires { ⌜ (1 ≤ length (now dst)) × (length (now dst) ≤ 16) ⌝ }
+    ensures { λ _. ⌜ now (dst .exit) ≡ unpackBytes zoneF (length (now (dst .entry))) (now (src .entry)) ⌝ }
+{
+    let m = dst.len();
+    let mut i = 0;
+    while i < m {
+        dst[i] = unpack_at(src, m, i);
+        i += 1;
+    }
+}
+
+// Unpacks src into dst, where both sizes are allowed.
+pub fn unpack(src: &[u8], dst: &mut [u8])
+    ensures { λ _. ⌜ now (dst .exit) ≡ unpackedInto (now (src .entry)) (now (dst .entry)) ⌝ }
+{
+    if both_allowed(src.len(), dst.len()) {
+        put_unpacked(src, dst);
+    }
+}
