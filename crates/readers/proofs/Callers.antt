@@ -1,0 +1,111 @@
+-- What callers lean on: what was read took a byte or more, and every number that was read is at most 99,999, since a number is 1 to 5 digits.
+use mathlib.Core.List.{List}
+use Prim.Native.Nat.{ℕ, _≤_, _<_}
+use native.Mathlib.Omega.{arith}
+use lib.ListN.{drop}
+use Rattle.rules.specs.Reader.{Reader, number}
+use Rattle.rules.specs.Halves.{Kind as RuleKind, inputSize, outputSize}
+use Rattle.rules.specs.Grammar.{Size as RuleSize, two, one, Parameter as RuleParameter, modeIs, formatIs, inputIs, outputIs, rewindIn, rewindOut, firstIs, Item, field, cv, parameter, item}
+use Rattle.rules.specs.Texts.{SizeText, ParameterText, KindText, ItemText}
+use Rattle.rules.proofs.ReaderLaws.{Within, within-read, within-number}
+use Rattle.rules.proofs.NumberLaws.{number-small as value-small, text-small}
+use Rattle.rules.proofs.ParameterLaws.{within-parameter}
+use Rattle.rules.proofs.ItemLaws.{within-item}
+use Rattle.rules.proofs.GrammarLaws.{parameter-sound, item-sound}
+use Rattle.terms.specs.Meaning.{fieldOf}
+use Rattle.terms.specs.declared.Field.{Field}
+use Rattle.readers.specs.Meaning.{Reads, NumberSays, parameterOf, ParameterSays, ItemSays}
+use Rattle.readers.specs.declared.NumberRead.the-variants.{IsNumber}
+use Rattle.readers.specs.declared.UParameter.{UParameter}
+use Rattle.readers.specs.declared.ParameterRead.the-variants.{IsParameter}
+use Rattle.readers.specs.declared.ItemRead.the-variants.{IsField, IsCV}
+use Rattle.readers.proofs.OnlyOne.{taken-once, kind-back}
+
+-- ---- a byte or more
+
+takes : {A : Type 0} (p : Reader A) → Within 1 p → (s : List ℕ) (a : A) (n : ℕ) → Reads p s a n → 1 ≤ n
+takes p w s a n r =
+    let k = within-read 1 p w s a (drop n s) (r .1) in
+    omega (arith, k .least, taken-once s n (k .taken) (r .0) (k .most) (k .is))
+
+pub number-takes : (s : List ℕ) (v n : ℕ) → NumberSays s (IsNumber v n) → 1 ≤ n
+number-takes s v n r = takes number within-number s v n r
+
+pub parameter-takes : (s : List ℕ) (u : UParameter) (n : ℕ) → ParameterSays s (IsParameter u n) → 1 ≤ n
+parameter-takes s u n r = takes parameter within-parameter s (parameterOf u) n r
+
+pub field-takes : (s : List ℕ) (f : Field) (n : ℕ) → ItemSays s (IsField f n) → 1 ≤ n
+field-takes s f n r = takes item within-item s (field (fieldOf f)) n (r .0)
+
+pub cv-takes : (s : List ℕ) (n : ℕ) → ItemSays s (IsCV n) → 1 ≤ n
+cv-takes s n r = takes item within-item s cv n r
+
+-- ---- at most 99,999
+
+pub number-small : (s : List ℕ) (v n : ℕ) → NumberSays s (IsNumber v n) → v < 100000
+number-small s v n r = value-small s v (drop n s) (r .1)
+
+abbrev pub SmallSize : RuleSize → Type 0
+SmallSize (two n m) = (n < 100000) × (m < 100000)
+SmallSize (one g) = g < 100000
+
+abbrev pub SmallParameter : RuleParameter → Type 0
+SmallParameter (modeIs m) = Unit
+SmallParameter (formatIs f) = Unit
+SmallParameter (inputIs z) = SmallSize z
+SmallParameter (outputIs z) = SmallSize z
+SmallParameter rewindIn = Unit
+SmallParameter rewindOut = Unit
+SmallParameter (firstIs n) = n < 100000
+
+small-size : {x : List ℕ} {z : RuleSize} → SizeText x z → SmallSize z
+small-size (SizeText.pair a b) = (text-small a, text-small b)
+small-size (SizeText.single a) = text-small a
+
+small-parameter : {x : List ℕ} {p : RuleParameter} → ParameterText x p → SmallParameter p
+small-parameter ParameterText.TC = tt
+small-parameter ParameterText.TF = tt
+small-parameter ParameterText.TR = tt
+small-parameter ParameterText.TRF = tt
+small-parameter ParameterText.FF = tt
+small-parameter ParameterText.FV = tt
+small-parameter ParameterText.FU = tt
+small-parameter (ParameterText.A= z) = small-size z
+small-parameter (ParameterText.B= z) = small-size z
+small-parameter ParameterText.IR = tt
+small-parameter ParameterText.IN = tt
+small-parameter ParameterText.IU = tt
+small-parameter ParameterText.OR = tt
+small-parameter ParameterText.ON = tt
+small-parameter ParameterText.OU = tt
+small-parameter (ParameterText.R a) = text-small a
+
+pub parameter-small : (s : List ℕ) (u : UParameter) (n : ℕ) → ParameterSays s (IsParameter u n) → SmallParameter (parameterOf u)
+parameter-small s u n r = small-parameter (parameter-sound s (parameterOf u) (drop n s) (r .1) .2)
+
+-- the numbers of a field
+pub record SmallField (f : Field) : Type 0 where
+  pub r : f .r < 100000
+  pub input : f .input < 100000
+  pub output : f .output < 100000
+  pub t : f .t < 100000
+
+abbrev SmallItem : Item → Type 0
+SmallItem (field f) = (f .r < 100000) × (inputSize (f .kind) < 100000) × (outputSize (f .kind) < 100000) × (f .t < 100000)
+SmallItem cv = Unit
+
+small-kind : {x : List ℕ} {k : RuleKind} → KindText x k → (inputSize k < 100000) × (outputSize k < 100000)
+small-kind (KindText.copies a) = (text-small a, text-small a)
+small-kind (KindText.packs a b) = (text-small a, text-small b)
+small-kind (KindText.unpacks a b) = (text-small a, text-small b)
+
+small-item : {x : List ℕ} {i : Item} → ItemText x i → SmallItem i
+small-item (ItemText.aField a k c) = let h = small-kind k in (text-small a, h .0, h .1, text-small c)
+small-item ItemText.CV = tt
+
+pub field-small : (s : List ℕ) (f : Field) (n : ℕ) → ItemSays s (IsField f n) → SmallField f
+unfolding fieldOf
+field-small s f n q =
+    let h : SmallItem (field (fieldOf f)) = small-item (item-sound s (field (fieldOf f)) (drop n s) (q .0 .1) .2) in
+    let e = kind-back (f .kind) (f .input) (f .output) (q .1) in
+    record { r = h .0; input = omega (arith, h .1, e .1); output = omega (arith, h .2, e .2); t = h .3 }

@@ -1,0 +1,44 @@
+-- `readers::format` meets its contract: by the byte behind the F. Assumes nothing.
+use mathlib.Core.Path.{sym, _∙_}
+use borrow.Author.Needs.{needs}
+use denote.Ref.{now}
+use native.Mathlib.Omega.{arith}
+use Rattle.rules.proofs.ChoiceLaws.{byte-inside, parameter-FF, parameter-FV, parameter-FU, parameter-F-else}
+use Rattle.readers.proofs.format.Statement.{statement}
+use Rattle.readers.proofs.format.Tie as tie
+
+peek-requires : tie.Need-peek-requires
+peek-requires c κs = search needs
+
+returns : tie.Need-returns
+returns c =
+    let b = c .before .before .before in
+    let s = now (b .args .s) in
+    let e = sym (c .before .peek .ensures) ∙ c .match .keys1 in
+    (omega (arith, byte-inside s 1 70 e (omega arith)), parameter-FF s (b .pre) e)
+
+returns-2 : tie.Need-returns-2
+returns-2 c =
+    let b = c .before .before .before in
+    let s = now (b .args .s) in
+    let e = sym (c .before .peek .ensures) ∙ c .match .keys2 in
+    (omega (arith, byte-inside s 1 86 e (omega arith)), parameter-FV s (b .pre) e)
+
+returns-3 : tie.Need-returns-3
+returns-3 c =
+    let b = c .before .before .before in
+    let s = now (b .args .s) in
+    let e = sym (c .before .peek .ensures) ∙ c .match .keys3 in
+    (omega (arith, byte-inside s 1 85 e (omega arith)), parameter-FU s (b .pre) e)
+
+returns-4 : tie.Need-returns-4
+returns-4 c =
+    let b = c .before .before .before in
+    let s = now (b .args .s) in
+    let e = c .before .peek .ensures in (
+      omega (arith, byte-inside s 0 70 (b .pre) (omega arith)),
+      parameter-F-else s (b .pre) (λ z. c .match .rest .0 .0 .1 (e ∙ z)) (λ z. c .match .rest .0 .1 (e ∙ z)) (λ z. c .match .rest .1 (e ∙ z)),
+    )
+
+pub format-spec : {M : Type 1} → statement M
+format-spec = tie.close (tie.spec peek-requires returns returns-2 returns-3 returns-4)

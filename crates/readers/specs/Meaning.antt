@@ -1,0 +1,103 @@
+-- What the answers of the readers mean: each says what the rules' reader of the same text answers, and where. Assumes nothing.
+use mathlib.Core.Path.{_≡_}
+use mathlib.Core.Bool.{cond}
+use mathlib.Core.List.{List}
+use Prim.Native.Nat.{ℕ, _-_, _≤_}
+use lib.ListN.{length, drop}
+use Rattle.rules.specs.Reader.{read, stopped, Reader, isDigit, number}
+use Rattle.rules.specs.Halves.{Kind as RuleKind}
+use Rattle.rules.specs.Grammar.{Size as RuleSize, Parameter as RuleParameter, modeIs, formatIs, inputIs, outputIs, rewindIn, rewindOut, firstIs, Item, field, cv, parameter, item}
+use Rattle.terms.specs.Meaning.{modeOf, formatOf, sizeOf, kindOf, fieldOf}
+use Rattle.terms.specs.declared.Kind.{Kind}
+use Rattle.terms.specs.declared.Kind.the-variants.{Copy, Pack, Unpack}
+use Rattle.readers.specs.declared.NumberRead.{NumberRead}
+use Rattle.readers.specs.declared.NumberRead.the-variants.{IsNumber, NoNumber}
+use Rattle.readers.specs.declared.SizeRead.{SizeRead}
+use Rattle.readers.specs.declared.SizeRead.the-variants.{IsSize, NoSize}
+use Rattle.readers.specs.declared.KindRead.{KindRead}
+use Rattle.readers.specs.declared.KindRead.the-variants.{IsKind, NoKind}
+use Rattle.readers.specs.declared.UParameter.{UParameter}
+use Rattle.readers.specs.declared.UParameter.the-variants.{ModeIs, FormatIs, InputIs, OutputIs, RewindIn, RewindOut, FirstIs}
+use Rattle.readers.specs.declared.ParameterRead.{ParameterRead}
+use Rattle.readers.specs.declared.ParameterRead.the-variants.{IsParameter, NoParameter}
+use Rattle.readers.specs.declared.ItemRead.{ItemRead}
+use Rattle.readers.specs.declared.ItemRead.the-variants.{IsField, IsCV, NoItem}
+
+-- ---- what is read, and where it stops
+
+module _ {A : Type 0} (p : Reader A) where
+  -- from a place of s on p reads a, up to another place
+  abbrev pub ReadsFrom : ℕ → List ℕ → A → ℕ → Type 0
+  ReadsFrom from s a to = (to ≤ length s) × (p (drop from s) ≡ read a (drop to s))
+
+  -- p stops: from the other place on nothing could be right
+  abbrev pub StopsFrom : ℕ → List ℕ → ℕ → Type 0
+  StopsFrom from s at = (at ≤ length s) × (p (drop from s) ≡ stopped (drop at s))
+
+  -- from the front of s on p reads a and takes so many bytes
+  abbrev pub Reads : List ℕ → A → ℕ → Type 0
+  Reads s a used = (used ≤ length s) × (p s ≡ read a (drop used s))
+
+  abbrev pub Stops : List ℕ → ℕ → Type 0
+  Stops s at = (at ≤ length s) × (p s ≡ stopped (drop at s))
+
+-- ---- a number
+
+-- the value of a digit, and 10 for what is no digit
+abbrev pub digitValue : ℕ → ℕ
+digitValue b = cond (isDigit b) (b - 48) 10
+
+abbrev pub NumberFrom : Reader ℕ → ℕ → List ℕ → NumberRead → Type 0
+NumberFrom p from s (IsNumber v n) = ReadsFrom p from s v n
+NumberFrom p from s (NoNumber a) = StopsFrom p from s a
+
+abbrev pub NumberSays : List ℕ → NumberRead → Type 0
+NumberSays s (IsNumber v n) = Reads number s v n
+NumberSays s (NoNumber a) = Stops number s a
+
+-- ---- a parameter
+
+abbrev pub SizeFrom : Reader RuleSize → ℕ → List ℕ → SizeRead → Type 0
+SizeFrom p from s (IsSize z n) = ReadsFrom p from s (sizeOf z) n
+SizeFrom p from s (NoSize a) = StopsFrom p from s a
+
+abbrev pub parameterOf : UParameter → RuleParameter
+parameterOf (ModeIs m) = modeIs (modeOf m)
+parameterOf (FormatIs f) = formatIs (formatOf f)
+parameterOf (InputIs z) = inputIs (sizeOf z)
+parameterOf (OutputIs z) = outputIs (sizeOf z)
+parameterOf RewindIn = rewindIn
+parameterOf RewindOut = rewindOut
+parameterOf (FirstIs n) = firstIs n
+
+abbrev pub ParameterSays : List ℕ → ParameterRead → Type 0
+ParameterSays s (IsParameter u n) = Reads parameter s (parameterOf u) n
+ParameterSays s (NoParameter a) = Stops parameter s a
+
+-- ---- an item
+
+-- a kind that has two sizes
+abbrev pub Sized : Kind → Type 0
+Sized Copy = ⊥
+Sized Pack = Unit
+Sized Unpack = Unit
+
+-- a copy has one size, which stands in both places
+abbrev pub OneSize : Kind → ℕ → ℕ → Type 0
+OneSize Copy input output = output ≡ input
+OneSize Pack input output = Unit
+OneSize Unpack input output = Unit
+
+abbrev pub KindFrom : Reader RuleKind → ℕ → List ℕ → KindRead → Type 0
+KindFrom p from s (IsKind k input output n) = ReadsFrom p from s (kindOf k input output) n × OneSize k input output
+KindFrom p from s (NoKind a) = StopsFrom p from s a
+
+abbrev pub ItemFrom : Reader Item → ℕ → List ℕ → ItemRead → Type 0
+ItemFrom p from s (IsField f n) = ReadsFrom p from s (field (fieldOf f)) n × OneSize (f .kind) (f .input) (f .output)
+ItemFrom p from s (IsCV n) = ReadsFrom p from s cv n
+ItemFrom p from s (NoItem a) = StopsFrom p from s a
+
+abbrev pub ItemSays : List ℕ → ItemRead → Type 0
+ItemSays s (IsField f n) = Reads item s (field (fieldOf f)) n × OneSize (f .kind) (f .input) (f .output)
+ItemSays s (IsCV n) = Reads item s cv n
+ItemSays s (NoItem a) = Stops item s a

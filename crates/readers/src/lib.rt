@@ -1,0 +1,479 @@
+// From the text at the front of a slice to a value: numbers, parameters of the U card, items of the FS card.
+// Document 01, "The deck". Each answer also says how many bytes were taken, or the first byte at which no continuation could be right.
+ghost use mathlib.Core.Logic.{_⊎_};
+ghost use mathlib.Core.Path.{_≡_};
+ghost use Prim.Native.Nat.{_≤_};
+ghost use lib.ListN.{length, getD};
+ghost use Rattle.rules.specs.Reader.{number as ruleNumber};
+ghost use Rattle.rules.specs.Grammar.{sizeReader, kindReader};
+ghost use Rattle.rules.proofs.ChoiceLaws.{numberThen, sizeBehind, sizesBehind, fieldBehind};
+ghost use Rattle.terms.specs.Meaning.{kindOf};
+ghost use Rattle.readers.specs.Meaning.{digitValue, NumberSays, NumberFrom, SizeFrom, KindFrom, Sized, ParameterSays, ItemSays, ItemFrom};
+use terms::Field;
+use terms::Format;
+use terms::Kind;
+use terms::Mode;
+use terms::Size;
+
+// The marks and letters of the grammar, as `peek` answers them.
+const OPEN: usize = b'(' as usize;
+
+const CLOSE: usize = b')' as usize;
+
+const COMMA: usize = b',' as usize;
+
+const EQUALS: usize = b'=' as usize;
+
+const LETTER_A: usize = b'A' as usize;
+
+const LETTER_B: usize = b'B' as usize;
+
+const LETTER_C: usize = b'C' as usize;
+
+const LETTER_F: usize = b'F' as usize;
+
+const LETTER_I: usize = b'I' as usize;
+
+const LETTER_N: usize = b'N' as usize;
+
+const LETTER_O: usize = b'O' as usize;
+
+const LETTER_P: usize = b'P' as usize;
+
+const LETTER_R: usize = b'R' as usize;
+
+const LETTER_T: usize = b'T' as usize;
+
+const LETTER_U: usize = b'U' as usize;
+
+const LETTER_V: usize = b'V' as usize;
+
+// A number and how many bytes it took, or the byte at which it stops; the other answers likewise.
+pub enum NumberRead {
+    IsNumber { value: usize, used: usize },
+    NoNumber { at: usize },
+}
+
+// A size of A or B, and the place behind it.
+enum SizeRead {
+    IsSize { size: Size, used: usize },
+    NoSize { at: usize },
+}
+
+// The middle of an item, and the place behind it.
+enum KindRead {
+    IsKind {
+        kind: Kind,
+        input: usize,
+        output: usize,
+        used: usize,
+    },
+    NoKind {
+        at: usize,
+    },
+}
+
+// A parameter of the U card. The letters of I and O are read and ignored.
+pub enum UParameter {
+    ModeIs(Mode),
+    FormatIs(Format),
+    InputIs(Size),
+    OutputIs(Size),
+    RewindIn,
+    RewindOut,
+    FirstIs(usize),
+}
+
+pub enum ParameterRead {
+    IsParameter { parameter: UParameter, used: usize },
+    NoParameter { at: usize },
+}
+
+// An item of an FS card: a field or CV.
+pub enum ItemRead {
+    IsField { field: Field, used: usize },
+    IsCV { used: usize },
+    NoItem { at: usize },
+}
+
+// ---- numbers
+
+// The byte at a place, and 256 past the end.
+fn peek(s: &[u8], at: usize) -> usize
+    ensures { λ r. ⌜ r ≡ getD (now (s .entry)) at 256 ⌝ }
+{
+    if at < s.len() {
+        return s[at] as usize;
+    }
+    256
+}
+
+// The value of a digit, and 10 for what is no digit.
+fn digit(byte: usize) -> usize
+    ensures { λ r. ⌜ r ≡ digitValue byte ⌝ }
+{
+    if byte < 48 {
+        return 10;
+    }
+    if 57 < byte {
+        return 10;
+    }
+    byte - 48
+}
+
+// A number is 1 to 5 digits; of six or more it stops at the sixth.
+pub fn number(s: &[u8]) -> NumberRead
+    ensures { λ r. ⌜ NumberSays (now (s .entry)) r ⌝ }
+{
+    let mut value: usize = 0;
+    let mut used: usize = 0;
+    while used < 6 {
+        let byte = peek(s, used);
+        let next = digit(byte);
+        if 9 < next {
+            if used == 0 {
+                return NumberRead::NoNumber { at: 0 };
+            }
+            return NumberRead::IsNumber { value, used };
+        }
+        value = 10 * value + next;
+        used += 1;
+    }
+    NumberRead::NoNumber { at: 5 }
+}
+
+// A number from a place on.
+fn number_at(s: &[u8], from: usize) -> NumberRead
+    requires { ⌜ from ≤ length (now s) ⌝ }
+    ensures { λ r. ⌜ NumberFrom ruleNumber from (now (s .entry)) r ⌝ }
+{
+    let n = number(&s[from..]);
+    match n {
+        NumberRead::IsNumber { value, used } => NumberRead::IsNumber {
+            value,
+            used: from + used,
+        },
+        NumberRead::NoNumber { at } => NumberRead::NoNumber { at: from + at },
+    }
+}
+
+// A number from a place on, and the mark behind it.
+fn number_then(s: &[u8], from: usize, mark: u8) -> NumberRead
+    requires { ⌜ from ≤ length (now s) ⌝ }
+    ensures { λ r. ⌜ NumberFrom (numberThen mark) from (now (s .entry)) r ⌝ }
+{
+    let n = number_at(s, from);
+    match n {
+        NumberRead::IsNumber { value, used } => {
+            let byte = peek(s, used);
+            if byte == mark as usize {
+                return NumberRead::IsNumber {
+                    value,
+                    used: used + 1,
+                };
+            }
+            NumberRead::NoNumber { at: used }
+        }
+        NumberRead::NoNumber { at } => NumberRead::NoNumber { at },
+    }
+}
+
+// ---- U
+
+// `,m)` or `)` behind `(n`.
+fn size_behind(s: &[u8], from: usize, n: usize) -> SizeRead
+    requires { ⌜ from ≤ length (now s) ⌝ }
+    ensures { λ r. ⌜ SizeFrom (sizeBehind n) from (now (s .entry)) r ⌝ }
+{
+    let mark = peek(s, from);
+    if mark == CLOSE {
+        return SizeRead::IsSize {
+            size: Size::One { g: n },
+            used: from + 1,
+        };
+    }
+    if mark != COMMA {
+        return SizeRead::NoSize { at: from };
+    }
+    let m = number_then(s, from + 1, b')');
+    match m {
+        NumberRead::IsNumber { value, used } => SizeRead::IsSize {
+            size: Size::Two { n, m: value },
+            used,
+        },
+        NumberRead::NoNumber { at } => SizeRead::NoSize { at },
+    }
+}
+
+// `(n,m)` or `(g)`.
+fn size(s: &[u8], from: usize) -> SizeRead
+    requires { ⌜ from ≤ length (now s) ⌝ }
+    ensures { λ r. ⌜ SizeFrom sizeReader from (now (s .entry)) r ⌝ }
+{
+    let first = peek(s, from);
+    if first != OPEN {
+        return SizeRead::NoSize { at: from };
+    }
+    let n = number_at(s, from + 1);
+    match n {
+        NumberRead::IsNumber { value, used } => size_behind(s, used, value),
+        NumberRead::NoNumber { at } => SizeRead::NoSize { at },
+    }
+}
+
+// `TC`, `TF`, `TR` or `TRF`: the text begins with T.
+fn mode(s: &[u8]) -> ParameterRead
+    requires { ⌜ getD (now s) 0 256 ≡ 84 ⌝ }
+    ensures { λ r. ⌜ ParameterSays (now (s .entry)) r ⌝ }
+{
+    let second = peek(s, 1);
+    if second == LETTER_C {
+        return ParameterRead::IsParameter {
+            parameter: UParameter::ModeIs(Mode::TC),
+            used: 2,
+        };
+    }
+    if second == LETTER_F {
+        return ParameterRead::IsParameter {
+            parameter: UParameter::ModeIs(Mode::TF),
+            used: 2,
+        };
+    }
+    if second != LETTER_R {
+        return ParameterRead::NoParameter { at: 1 };
+    }
+    let third = peek(s, 2);
+    if third == LETTER_F {
+        return ParameterRead::IsParameter {
+            parameter: UParameter::ModeIs(Mode::TRF),
+            used: 3,
+        };
+    }
+    ParameterRead::IsParameter {
+        parameter: UParameter::ModeIs(Mode::TR),
+        used: 2,
+    }
+}
+
+// `FF`, `FV` or `FU`: the text begins with F.
+fn format(s: &[u8]) -> ParameterRead
+    requires { ⌜ getD (now s) 0 256 ≡ 70 ⌝ }
+    ensures { λ r. ⌜ ParameterSays (now (s .entry)) r ⌝ }
+{
+    let second = peek(s, 1);
+    match second {
+        LETTER_F => ParameterRead::IsParameter {
+            parameter: UParameter::FormatIs(Format::FF),
+            used: 2,
+        },
+        LETTER_V => ParameterRead::IsParameter {
+            parameter: UParameter::FormatIs(Format::FV),
+            used: 2,
+        },
+        LETTER_U => ParameterRead::IsParameter {
+            parameter: UParameter::FormatIs(Format::FU),
+            used: 2,
+        },
+        _ => ParameterRead::NoParameter { at: 1 },
+    }
+}
+
+// `A=` or `B=` and a size: the text begins with A or B.
+fn sizes(s: &[u8]) -> ParameterRead
+    requires { ⌜ (getD (now s) 0 256 ≡ 65) ⊎ (getD (now s) 0 256 ≡ 66) ⌝ }
+    ensures { λ r. ⌜ ParameterSays (now (s .entry)) r ⌝ }
+{
+    let letter = peek(s, 0);
+    let second = peek(s, 1);
+    if second != EQUALS {
+        return ParameterRead::NoParameter { at: 1 };
+    }
+    let given = size(s, 2);
+    match given {
+        SizeRead::IsSize { size, used } => {
+            if letter == LETTER_A {
+                return ParameterRead::IsParameter {
+                    parameter: UParameter::InputIs(size),
+                    used,
+                };
+            }
+            ParameterRead::IsParameter {
+                parameter: UParameter::OutputIs(size),
+                used,
+            }
+        }
+        SizeRead::NoSize { at } => ParameterRead::NoParameter { at },
+    }
+}
+
+// I or O and one of R, N and U: the text begins with I or O.
+fn rewind(s: &[u8]) -> ParameterRead
+    requires { ⌜ (getD (now s) 0 256 ≡ 73) ⊎ (getD (now s) 0 256 ≡ 79) ⌝ }
+    ensures { λ r. ⌜ ParameterSays (now (s .entry)) r ⌝ }
+{
+    let letter = peek(s, 0);
+    let second = peek(s, 1);
+    match second {
+        LETTER_R | LETTER_N | LETTER_U => {
+            if letter == LETTER_I {
+                return ParameterRead::IsParameter {
+                    parameter: UParameter::RewindIn,
+                    used: 2,
+                };
+            }
+            ParameterRead::IsParameter {
+                parameter: UParameter::RewindOut,
+                used: 2,
+            }
+        }
+        _ => ParameterRead::NoParameter { at: 1 },
+    }
+}
+
+// R and a number: the text begins with R.
+fn first_record(s: &[u8]) -> ParameterRead
+    requires { ⌜ getD (now s) 0 256 ≡ 82 ⌝ }
+    ensures { λ r. ⌜ ParameterSays (now (s .entry)) r ⌝ }
+{
+    let n = number_at(s, 1);
+    match n {
+        NumberRead::IsNumber { value, used } => ParameterRead::IsParameter {
+            parameter: UParameter::FirstIs(value),
+            used,
+        },
+        NumberRead::NoNumber { at } => ParameterRead::NoParameter { at },
+    }
+}
+
+// A parameter of the U card.
+pub fn parameter(s: &[u8]) -> ParameterRead
+    ensures { λ r. ⌜ ParameterSays (now (s .entry)) r ⌝ }
+{
+    let letter = peek(s, 0);
+    match letter {
+        LETTER_T => mode(s),
+        LETTER_F => format(s),
+        LETTER_A | LETTER_B => sizes(s),
+        LETTER_I | LETTER_O => rewind(s),
+        LETTER_R => first_record(s),
+        _ => ParameterRead::NoParameter { at: 0 },
+    }
+}
+
+// ---- FS
+
+// `,n,m)` behind the letter.
+fn sizes_behind(s: &[u8], from: usize, kind: Kind) -> KindRead
+    requires { ⌜ (from ≤ length (now s)) × Sized kind ⌝ }
+    ensures { λ r. ⌜ KindFrom (sizesBehind (kindOf kind)) from (now (s .entry)) r ⌝ }
+{
+    let mark = peek(s, from);
+    if mark != COMMA {
+        return KindRead::NoKind { at: from };
+    }
+    let n = number_then(s, from + 1, b',');
+    match n {
+        NumberRead::IsNumber {
+            value: input,
+            used: behind,
+        } => {
+            let m = number_then(s, behind, b')');
+            match m {
+                NumberRead::IsNumber {
+                    value: output,
+                    used,
+                } => KindRead::IsKind {
+                    kind,
+                    input,
+                    output,
+                    used,
+                },
+                NumberRead::NoNumber { at } => KindRead::NoKind { at },
+            }
+        }
+        NumberRead::NoNumber { at } => KindRead::NoKind { at },
+    }
+}
+
+// `s`, `(P,n,m)` or `(U,n,m)`.
+fn kind(s: &[u8], from: usize) -> KindRead
+    requires { ⌜ from ≤ length (now s) ⌝ }
+    ensures { λ r. ⌜ KindFrom kindReader from (now (s .entry)) r ⌝ }
+{
+    let first = peek(s, from);
+    if first == OPEN {
+        let letter = peek(s, from + 1);
+        if letter == LETTER_P {
+            return sizes_behind(s, from + 2, Kind::Pack);
+        }
+        if letter == LETTER_U {
+            return sizes_behind(s, from + 2, Kind::Unpack);
+        }
+        return KindRead::NoKind { at: from + 1 };
+    }
+    let n = number_at(s, from);
+    match n {
+        NumberRead::IsNumber { value, used } => KindRead::IsKind {
+            kind: Kind::Copy,
+            input: value,
+            output: value,
+            used,
+        },
+        NumberRead::NoNumber { at } => KindRead::NoKind { at },
+    }
+}
+
+// The middle, a comma and t, behind `r,`.
+fn field_behind(s: &[u8], from: usize, r: usize) -> ItemRead
+    requires { ⌜ from ≤ length (now s) ⌝ }
+    ensures { λ x. ⌜ ItemFrom (fieldBehind r) from (now (s .entry)) x ⌝ }
+{
+    let middle = kind(s, from);
+    match middle {
+        KindRead::IsKind {
+            kind,
+            input,
+            output,
+            used: end,
+        } => {
+            let mark = peek(s, end);
+            if mark != COMMA {
+                return ItemRead::NoItem { at: end };
+            }
+            let n = number_at(s, end + 1);
+            match n {
+                NumberRead::IsNumber { value: t, used } => ItemRead::IsField {
+                    field: Field {
+                        kind,
+                        r,
+                        input,
+                        output,
+                        t,
+                    },
+                    used,
+                },
+                NumberRead::NoNumber { at } => ItemRead::NoItem { at },
+            }
+        }
+        KindRead::NoKind { at } => ItemRead::NoItem { at },
+    }
+}
+
+// `r,s,t`, `r,(P,n,m),t`, `r,(U,n,m),t` or `CV`.
+pub fn item(s: &[u8]) -> ItemRead
+    ensures { λ r. ⌜ ItemSays (now (s .entry)) r ⌝ }
+{
+    let first = peek(s, 0);
+    if first == LETTER_C {
+        let second = peek(s, 1);
+        if second == LETTER_V {
+            return ItemRead::IsCV { used: 2 };
+        }
+        return ItemRead::NoItem { at: 1 };
+    }
+    let n = number_then(s, 0, b',');
+    match n {
+        NumberRead::IsNumber { value, used } => field_behind(s, used, value),
+        NumberRead::NoNumber { at } => ItemRead::NoItem { at },
+    }
+}
