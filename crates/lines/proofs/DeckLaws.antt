@@ -1,0 +1,178 @@
+-- A scan of a deck comes to its refusal 1 or 2, or to the number of its cards, in whatever pieces the deck is fed: after any bytes the state holds
+-- what the lines ended so far come to, and as much of the begun line as a card can have. By going along the bytes.
+use mathlib.Core.Path.{_≡_, refl, ap, sym, _∙_, subst}
+use mathlib.Core.Bool.{Bool, true, false}
+use mathlib.Core.List.{List, [], _∷_, _++_, append-nil, append-assoc, map-append}
+use Prim.Native.Nat.{ℕ, suc, min, _+_, _≤_, _<_}
+use native.Mathlib.Omega.{arith}
+use lib.Dec.{leb, eqb}
+use lib.ListN.{length, take, length-append, length-set}
+use lib.Seq.{take-suc-set}
+use borrow.Author.Tests.{eqb-true, eqb-false, leb-true, leb-false}
+use Rattle.rules.specs.Deck.{lines, cardOf}
+use Rattle.rules.specs.Order.{operandsOf}
+use Rattle.rules.proofs.LineLaws.{Passed, passed-none, passed-byte, passed-end, passed-all, passed-last, lines-most}
+use Rattle.rules.proofs.CardPlaces.{tidy-long, card-untidy}
+use Rattle.lines.specs.Scanning.{most, kindOf, begunKind, judgedOf, withByte, stepOf, start, scanFrom, verdictOf, scannedOf, orderOf}
+use Rattle.lines.specs.declared.CardKind.{CardKind}
+use Rattle.lines.specs.declared.Scanner.{Scanner}
+use Rattle.lines.proofs.StepLaws.{begun-long, begun-short, byte-kept, byte-past, step-end, step-byte, scanned-between, scanned-inside}
+use Rattle.lines.proofs.TallyLaws.{judge, tallied, tallied-more, kinds, Clear, lines-tallied}
+
+-- ---- pieces
+
+-- feeding x and then y is feeding x with y behind it
+pub scan-pieces : (st : Scanner) (x y : List ℕ) → scanFrom (scanFrom st x) y ≡ scanFrom st (x ++ y)
+scan-pieces st [] y = refl
+scan-pieces st (b ∷ x) y = scan-pieces (stepOf st b) x y
+
+-- ---- what a state holds
+
+-- a state without the begun line
+abbrev tallyOf : Scanner → Scanner
+tallyOf st = record { lines = st .lines; begun = []; size = 0; bad = st .bad; fault = st .fault; ended = st .ended }
+
+tally-judged : (st : Scanner) → tallyOf (judgedOf st) ≡ judge (tallyOf st) (begunKind st)
+unfolding judgedOf
+tally-judged st = refl
+
+tally-verdict : (st : Scanner) → verdictOf st ≡ verdictOf (tallyOf st)
+unfolding verdictOf
+tally-verdict st = refl
+
+-- after the bytes x
+pub record Held (x : List ℕ) (st : Scanner) : Type 0 where
+  pub done : List (List ℕ)
+  pub line : List ℕ
+  pub passed : Passed x done line
+  pub tally : tallyOf st ≡ tallied (tallyOf start) (kinds done)
+  pub room : length (st .begun) ≡ 80
+  pub long : st .size ≡ min (length line) 81
+  pub kept : length line ≤ 80 → take (length line) (st .begun) ≡ line
+
+pub held-start : Held [] start
+unfolding start
+held-start =
+    record { done = []; line = []; passed = passed-none; tally = refl; room = refl; long = refl; kept = λ h. refl }
+
+-- the begun line is judged as the whole line is
+held-kind : {x : List ℕ} {st : Scanner} (h : Held x st) → begunKind st ≡ kindOf (cardOf (h .line))
+held-kind {x} {st} h = go (leb (length (h .line)) 80) refl
+  where
+    go : (t : Bool) → leb (length (h .line)) 80 ≡ t → begunKind st ≡ kindOf (cardOf (h .line))
+    go true t =
+        let m : length (h .line) ≤ 80 = leb-true (length (h .line)) 80 t in
+        let e : st .size ≡ length (h .line) = omega (arith, h .long) in
+        begun-short st (omega arith) ∙ ap (λ (n : ℕ). kindOf (cardOf (take n (st .begun)))) e ∙ ap (λ (l : List ℕ). kindOf (cardOf l)) (h .kept m)
+    go false t =
+        let m : 80 < length (h .line) = leb-false (length (h .line)) 80 t in
+        begun-long st (omega (arith, h .long)) ∙ sym (ap kindOf (card-untidy (h .line) (tidy-long (h .line) m)))
+
+held-tally : {x : List ℕ} {st : Scanner} (h : Held x st) → tallyOf (judgedOf st) ≡ tallied (tallyOf start) (kinds (h .done ++ (h .line ∷ [])))
+held-tally {x} {st} h =
+    let k : CardKind = kindOf (cardOf (h .line)) in
+    tally-judged st
+    ∙ ap (judge (tallyOf st)) (held-kind h)
+    ∙ ap (λ (t : Scanner). judge t k) (h .tally)
+    ∙ sym (tallied-more (tallyOf start) (kinds (h .done)) k)
+    ∙ ap (tallied (tallyOf start)) (sym (map-append (λ l. kindOf (cardOf l)) (h .done) (h .line ∷ [])))
+
+-- a line ends
+held-end : {x : List ℕ} {st : Scanner} → Held x st → Held (x ++ (0x0A ∷ [])) (judgedOf st)
+unfolding judgedOf
+held-end {x} {st} h =
+    record {
+      done = h .done ++ (h .line ∷ []);
+      line = [];
+      passed = passed-end (h .passed);
+      tally = held-tally h;
+      room = h .room;
+      long = refl;
+      kept = λ m. refl;
+    }
+
+-- a byte more
+held-byte : {x : List ℕ} {st : Scanner} (b : ℕ) → (b ≡ 0x0A → ⊥) → Held x st → Held (x ++ (b ∷ [])) (withByte st b)
+held-byte {x} {st} b n h = go (leb 80 (length (h .line))) refl
+  where
+    longer : length (h .line ++ (b ∷ [])) ≡ suc (length (h .line))
+    longer = omega (arith, length-append (h .line) (b ∷ []))
+
+    go : (t : Bool) → leb 80 (length (h .line)) ≡ t → Held (x ++ (b ∷ [])) (withByte st b)
+    go false t =
+        let m : length (h .line) < 80 = leb-false 80 (length (h .line)) t in
+        let e : st .size ≡ length (h .line) = omega (arith, h .long) in
+        subst (Held (x ++ (b ∷ []))) (byte-kept st b (omega arith))
+        (record {
+          done = h .done;
+          line = h .line ++ (b ∷ []);
+          passed = passed-byte (h .passed) b n;
+          tally = h .tally;
+          room = length-set (st .begun) (st .size) b ∙ h .room;
+          long = omega (arith, longer);
+          kept = λ z. rw (longer, e)
+              (take-suc-set (st .begun) (length (h .line)) b (omega (arith, h .room)) ∙ ap (λ (l : List ℕ). l ++ (b ∷ [])) (h .kept (omega arith)));
+        })
+    go true t =
+        let m : 80 ≤ length (h .line) = leb-true 80 (length (h .line)) t in
+        subst (Held (x ++ (b ∷ []))) (byte-past st b (omega (arith, h .long)))
+        (record {
+          done = h .done;
+          line = h .line ++ (b ∷ []);
+          passed = passed-byte (h .passed) b n;
+          tally = h .tally;
+          room = h .room;
+          long = omega (arith, longer);
+          kept = λ z. absurd (omega (arith, longer));
+        })
+
+held-step : {x : List ℕ} {st : Scanner} (b : ℕ) → Held x st → Held (x ++ (b ∷ [])) (stepOf st b)
+held-step {x} {st} b h = go (eqb b 0x0A) refl
+  where
+    go : (t : Bool) → eqb b 0x0A ≡ t → Held (x ++ (b ∷ [])) (stepOf st b)
+    go true t =
+        let e : b ≡ 0x0A = eqb-true b 0x0A t in
+        subst (Held (x ++ (b ∷ []))) (sym (step-end st b e)) (subst (λ (z : ℕ). Held (x ++ (z ∷ [])) (judgedOf st)) (sym e) (held-end h))
+    go false t =
+        let n : b ≡ 0x0A → ⊥ = eqb-false b 0x0A t in
+        subst (Held (x ++ (b ∷ []))) (sym (step-byte st b n)) (held-byte b n h)
+
+-- a piece more
+pub held-piece : {x : List ℕ} {st : Scanner} (y : List ℕ) → Held x st → Held (x ++ y) (scanFrom st y)
+held-piece {x} {st} [] h = subst (λ (l : List ℕ). Held l st) (sym (append-nil x)) h
+held-piece {x} {st} (b ∷ y) h =
+    subst (λ (l : List ℕ). Held l (scanFrom (stepOf st b) y)) (append-assoc x (b ∷ []) y) (held-piece y (held-step b h))
+
+-- ---- what a scan comes to
+
+clear-start : Clear (tallyOf start) 0 false
+unfolding start
+clear-start = record { count = refl; good = refl; right = refl; end = refl }
+
+-- a state that holds a deck answers for it
+pub held-deck : (x : List ℕ) (st : Scanner) → Held x st → length x < most → scannedOf st ≡ orderOf (operandsOf x)
+unfolding operandsOf
+held-deck x st h few = go (h .line) refl
+  where
+    told : (ls : List (List ℕ)) (q : Scanner) → lines x ≡ ls → tallyOf q ≡ tallied (tallyOf start) (kinds ls) → verdictOf q ≡ orderOf (operandsOf x)
+    told ls q e t =
+        tally-verdict q
+        ∙ ap verdictOf t
+        ∙ lines-tallied (tallyOf start) ls clear-start (omega (arith, lines-most x, ap length e))
+        ∙ rw e refl
+
+    go : (line : List ℕ) → h .line ≡ line → scannedOf st ≡ orderOf (operandsOf x)
+    go [] e =
+        scanned-between st (omega (arith, h .long, ap length e))
+        ∙ told (h .done) st (passed-all (subst (Passed x (h .done)) e (h .passed))) (h .tally)
+    go (b ∷ l) e =
+        scanned-inside st (λ z. omega (arith, h .long, ap length e))
+        ∙ told (h .done ++ (h .line ∷ [])) (judgedOf st) (passed-last (h .passed) (omega (arith, ap length e))) (held-tally h)
+
+-- the scan of a deck
+pub scanned-deck : (x : List ℕ) → length x < most → scannedOf (scanFrom start x) ≡ orderOf (operandsOf x)
+scanned-deck x few = held-deck x (scanFrom start x) (held-piece x held-start) few
+
+-- in two pieces
+pub scanned-pieces : (x y : List ℕ) → length (x ++ y) < most → scannedOf (scanFrom (scanFrom start x) y) ≡ orderOf (operandsOf (x ++ y))
+scanned-pieces x y few = ap scannedOf (scan-pieces start x y) ∙ scanned-deck (x ++ y) few

@@ -1,0 +1,5 @@
+pub mod MeaningLaws
+pub mod PromiseLaws
+pub mod StepLaws
+pub mod TallyLaws
+pub mod DeckLaws

@@ -1,0 +1,149 @@
+-- A step of a scan, for code that takes it: what each way through the code answers is what the scan's definition says. By the tests on the way.
+use mathlib.Core.Path.{_≡_, refl, ap, sym, _∙_}
+use mathlib.Core.Bool.{Bool, true, false, cond, _&&_}
+use mathlib.Core.List.{List}
+use Prim.Native.Nat.{ℕ, _+_, _≤_, _<_}
+use native.Mathlib.Numerals.{add-one}
+use lib.Dec.{ltb, eqb}
+use lib.ListN.{length, getD, take, drop, set, drop-of-length-le}
+use lib.Seq.{drop-cons}
+use borrow.Author.Tests.{eq-eqb, ne-eqb, lt-ltb, le-ltb, le-leb, lt-leb}
+use Rattle.rules.specs.Deck.{cardOf}
+use Rattle.lines.specs.Meaning.{CardSays}
+use Rattle.lines.specs.Scanning.{most, counted, firstOf, kindOf, isOther, closed, faulty, misplaced, begunKind, judgedOf, withByte, stepOf, scanFrom, verdictOf, scannedOf}
+use Rattle.lines.specs.declared.CardRead.{CardRead}
+use Rattle.lines.specs.declared.CardRead.the-variants.{UCard, FsCard, EndCard, NoCard}
+use Rattle.lines.specs.declared.CardKind.{CardKind}
+use Rattle.lines.specs.declared.CardKind.the-variants.{Utility, Select, End, Other}
+use Rattle.lines.specs.declared.Scanner.{Scanner}
+use Rattle.lines.specs.declared.OrderRead.the-variants.{Refused, Ordered}
+
+-- ---- places
+
+pub counted-more : (n : ℕ) → n < most → counted n ≡ n + 1
+unfolding counted
+counted-more n h = rw (lt-ltb n most h)
+
+pub counted-most : (n : ℕ) → most ≤ n → counted n ≡ n
+unfolding counted
+counted-most n h = rw (le-ltb n most h)
+
+module _ (old : ℕ) (marked : Bool) (place : ℕ) where
+  pub first-stays : (old ≡ 0 → ⊥) → firstOf old marked place ≡ old
+  unfolding firstOf
+  first-stays n = rw (ne-eqb old 0 n)
+
+  pub first-place : old ≡ 0 → marked ≡ true → firstOf old marked place ≡ place
+  unfolding firstOf
+  first-place e m = rw (eq-eqb old 0 e, m)
+
+  pub first-unmarked : marked ≡ false → firstOf old marked place ≡ old
+  unfolding firstOf
+  first-unmarked m = go (eqb old 0)
+    where
+      go : (t : Bool) → cond (t && marked) place old ≡ old
+      go true = rw m
+      go false = refl
+
+module _ (place : ℕ) (ended : Bool) where
+  pub faulty-first : place ≡ 1 → faulty place ended ≡ true
+  unfolding faulty
+  faulty-first e = rw (eq-eqb place 1 e)
+
+  pub faulty-ended : (place ≡ 1 → ⊥) → ended ≡ true → faulty place ended ≡ true
+  unfolding faulty
+  faulty-ended n e = rw (ne-eqb place 1 n, e)
+
+  pub faulty-past : (place ≡ 1 → ⊥) → ended ≡ false → faulty place ended ≡ ltb 64 place
+  unfolding faulty
+  faulty-past n e = rw (ne-eqb place 1 n, e)
+
+-- ---- cards
+
+abbrev readKind : CardRead → CardKind
+readKind (UCard s e) = Utility
+readKind (FsCard s e) = Select
+readKind EndCard = End
+readKind NoCard = Other
+
+kind-read : (l : List ℕ) (r : CardRead) → CardSays l r → readKind r ≡ kindOf (cardOf l)
+kind-read l (UCard s e) x = rw (x .3)
+kind-read l (FsCard s e) x = rw (x .3)
+kind-read l EndCard x = rw x
+kind-read l NoCard x = rw x
+
+-- which card a line is that was read
+pub kind-is : (l : List ℕ) (r q : CardRead) → CardSays l r → r ≡ q → readKind q ≡ kindOf (cardOf l)
+kind-is l r q x e = ap readKind (sym e) ∙ kind-read l r x
+
+-- ---- lines
+
+module _ (st : Scanner) where
+  pub begun-long : 80 < st .size → begunKind st ≡ Other
+  unfolding begunKind
+  begun-long h = rw (lt-leb (st .size) 80 h)
+
+  pub begun-short : st .size ≤ 80 → begunKind st ≡ kindOf (cardOf (take (st .size) (st .begun)))
+  unfolding begunKind
+  begun-short h = rw (le-leb (st .size) 80 h)
+
+  -- the begun line, judged in five answers
+  pub judged-is : {place bad fault : ℕ} {kind : CardKind} {other apart ended : Bool} → place ≡ counted (st .lines) → kind ≡ begunKind st → other ≡ isOther kind
+      → bad ≡ firstOf (st .bad) other place → apart ≡ misplaced kind place (st .ended) → fault ≡ firstOf (st .fault) apart place → ended ≡ closed kind (st .ended)
+      → _≡_ {A = Scanner} (record { lines = place; begun = st .begun; size = 0; bad = bad; fault = fault; ended = ended }) (judgedOf st)
+  unfolding judgedOf
+  judged-is a b c d e f g = rw (g, f, e, d, c, b, a)
+
+  module _ (b : ℕ) where
+    pub byte-kept : st .size < 80
+        → _≡_ {A = Scanner} (record { lines = st .lines; begun = set (st .begun) (st .size) b; size = st .size + 1; bad = st .bad; fault = st .fault; ended = st .ended })
+        (withByte st b)
+    unfolding withByte
+    byte-kept h = rw (lt-ltb (st .size) 80 h)
+
+    pub byte-past : 80 ≤ st .size
+        → _≡_ {A = Scanner} (record { lines = st .lines; begun = st .begun; size = 81; bad = st .bad; fault = st .fault; ended = st .ended }) (withByte st b)
+    unfolding withByte
+    byte-past h = rw (le-ltb (st .size) 80 h)
+
+    pub step-end : b ≡ 0x0A → stepOf st b ≡ judgedOf st
+    unfolding stepOf
+    step-end e = rw (eq-eqb b 0x0A e)
+
+    pub step-byte : (b ≡ 0x0A → ⊥) → stepOf st b ≡ withByte st b
+    unfolding stepOf
+    step-byte n = rw (ne-eqb b 0x0A n)
+
+  -- ---- decks
+
+  pub scan-next : (s : List ℕ) (i : ℕ) → i < length s → scanFrom st (drop i s) ≡ scanFrom (stepOf st (getD s i 0)) (drop (i + 1) s)
+  scan-next s i h = rw (add-one i, drop-cons s i 0 h)
+
+  pub scan-end : (s : List ℕ) (i : ℕ) → length s ≤ i → scanFrom st (drop i s) ≡ st
+  scan-end s i h = rw (drop-of-length-le s {i = i} h)
+
+  module _ (other : (st .bad ≡ 0) → ⊥) where
+    pub verdict-bad : verdictOf st ≡ Refused 1 (st .bad)
+    unfolding verdictOf
+    verdict-bad = rw (ne-eqb (st .bad) 0 other)
+
+  module _ (good : st .bad ≡ 0) where
+    pub verdict-fault : (st .fault ≡ 0 → ⊥) → verdictOf st ≡ Refused 2 (st .fault)
+    unfolding verdictOf
+    verdict-fault n = rw (eq-eqb (st .bad) 0 good, ne-eqb (st .fault) 0 n)
+
+    pub verdict-ordered : st .fault ≡ 0 → st .ended ≡ true → verdictOf st ≡ Ordered (st .lines)
+    unfolding verdictOf
+    verdict-ordered e t = rw (eq-eqb (st .bad) 0 good, eq-eqb (st .fault) 0 e, t)
+
+    pub verdict-open : st .fault ≡ 0 → st .ended ≡ false → verdictOf st ≡ Refused 2 (counted (st .lines))
+    unfolding verdictOf
+    verdict-open e t = rw (eq-eqb (st .bad) 0 good, eq-eqb (st .fault) 0 e, t)
+
+  pub scanned-between : st .size ≡ 0 → scannedOf st ≡ verdictOf st
+  unfolding scannedOf
+  scanned-between e = rw (eq-eqb (st .size) 0 e)
+
+  pub scanned-inside : (st .size ≡ 0 → ⊥) → scannedOf st ≡ verdictOf (judgedOf st)
+  unfolding scannedOf
+  scanned-inside n = rw (ne-eqb (st .size) 0 n)

@@ -1,0 +1,12 @@
+-- `lines::begin` meets its contract: its answer is the definition's. Assumes nothing.
+use mathlib.Core.Path.{refl}
+use Rattle.lines.specs.Scanning.{start}
+use Rattle.lines.proofs.begin.Statement.{statement}
+use Rattle.lines.proofs.begin.Tie as tie
+
+returns : tie.Need-returns
+unfolding start
+returns c = refl
+
+pub begin-spec : {M : Type 1} → statement M
+begin-spec = tie.close (tie.spec returns)

@@ -1,0 +1,125 @@
+-- A scan of a deck, byte by byte: what it knows of the lines that have ended and of the line that is begun. What it comes to is a refusal 1 or 2 of
+-- document 01, "The deck", or the number of the cards. Assumes nothing.
+use mathlib.Core.Bool.{Bool, true, false, cond, _&&_}
+use mathlib.Core.List.{List, [], _∷_}
+use mathlib.Core.Option.{Option, none, some}
+use Prim.Native.Nat.{ℕ, _+_}
+use lib.Dec.{ltb, leb, eqb}
+use lib.ListN.{length, take, set, replicate}
+use Rattle.rules.specs.Answer.{Answer, fine, refuse}
+use Rattle.rules.specs.Deck.{Card, uCard, fsCard, endCard, cardOf}
+use Rattle.rules.specs.Order.{Operands}
+use Rattle.lines.specs.declared.Scanner.{Scanner}
+use Rattle.lines.specs.declared.CardKind.{CardKind}
+use Rattle.lines.specs.declared.CardKind.the-variants.{Utility, Select, End, Other}
+use Rattle.lines.specs.declared.OrderRead.{OrderRead}
+use Rattle.lines.specs.declared.OrderRead.the-variants.{Refused, Ordered}
+
+-- ---- places
+
+-- the highest number that is counted
+abbrev pub most : ℕ
+most = 18446744073709551615
+
+-- one more; the highest stays
+unfoldable pub counted : ℕ → ℕ
+counted n = cond (ltb n most) (n + 1) n
+
+-- the first place that is marked stays; 0 is none
+unfoldable pub firstOf : ℕ → Bool → ℕ → ℕ
+firstOf old marked place = cond (eqb old 0 && marked) place old
+
+-- ---- cards
+
+abbrev pub kindOf : Option Card → CardKind
+kindOf none = Other
+kindOf (some (uCard o)) = Utility
+kindOf (some (fsCard o)) = Select
+kindOf (some endCard) = End
+
+abbrev pub isOther : CardKind → Bool
+isOther Utility = false
+isOther Select = false
+isOther End = false
+isOther Other = true
+
+-- whether an END card has stood, with this one
+abbrev pub closed : CardKind → Bool → Bool
+closed Utility ended = ended
+closed Select ended = ended
+closed End ended = true
+closed Other ended = ended
+
+-- whether an FS or END card is at fault at its place
+unfoldable pub faulty : ℕ → Bool → Bool
+faulty place ended = cond (eqb place 1) true (cond ended true (ltb 64 place))
+
+-- whether a card is
+abbrev pub misplaced : CardKind → ℕ → Bool → Bool
+misplaced Utility place ended = ltb 1 place
+misplaced Select place ended = faulty place ended
+misplaced End place ended = faulty place ended
+misplaced Other place ended = false
+
+-- ---- lines
+
+-- the begun line, of 80 bytes or fewer
+unfoldable pub begunKind : Scanner → CardKind
+begunKind st = cond (leb (st .size) 80) (kindOf (cardOf (take (st .size) (st .begun)))) Other
+
+-- the begun line has ended
+unfoldable pub judgedOf : Scanner → Scanner
+judgedOf st =
+    record {
+      lines = counted (st .lines);
+      begun = st .begun;
+      size = 0;
+      bad = firstOf (st .bad) (isOther (begunKind st)) (counted (st .lines));
+      fault = firstOf (st .fault) (misplaced (begunKind st) (counted (st .lines)) (st .ended)) (counted (st .lines));
+      ended = closed (begunKind st) (st .ended);
+    }
+
+-- it has a byte more
+unfoldable pub withByte : Scanner → ℕ → Scanner
+withByte st b =
+    cond (ltb (st .size) 80)
+    (record {
+      lines = st .lines;
+      begun = set (st .begun) (st .size) b;
+      size = st .size + 1;
+      bad = st .bad;
+      fault = st .fault;
+      ended = st .ended;
+    })
+    (record { lines = st .lines; begun = st .begun; size = 81; bad = st .bad; fault = st .fault; ended = st .ended })
+
+unfoldable pub stepOf : Scanner → ℕ → Scanner
+stepOf st b = cond (eqb b 0x0A) (judgedOf st) (withByte st b)
+
+-- ---- decks
+
+unfoldable pub start : Scanner
+start = record { lines = 0; begun = replicate 80 0; size = 0; bad = 0; fault = 0; ended = false }
+
+-- byte by byte
+abbrev pub scanFrom : Scanner → List ℕ → Scanner
+scanFrom st [] = st
+scanFrom st (b ∷ bs) = scanFrom (stepOf st b) bs
+
+-- the lowest refusal, or the cards
+unfoldable pub verdictOf : Scanner → OrderRead
+verdictOf st =
+    cond (eqb (st .bad) 0)
+    (cond (eqb (st .fault) 0)
+    (cond (st .ended) (Ordered (st .lines)) (Refused 2 (counted (st .lines))))
+    (Refused 2 (st .fault)))
+    (Refused 1 (st .bad))
+
+-- a line that is begun where the deck ends is the last
+unfoldable pub scannedOf : Scanner → OrderRead
+scannedOf st = verdictOf (cond (eqb (st .size) 0) st (judgedOf st))
+
+-- what the rules answer of the cards' order: a refusal, or one U card, the FS cards and one END card
+abbrev pub orderOf : Answer Operands → OrderRead
+orderOf (refuse r) = Refused (r .number) (r .place)
+orderOf (fine os) = Ordered (2 + length (os .fs))

@@ -1,0 +1,411 @@
+// The lines of a deck, what card a line is, and the order of the cards (document 01, "The deck"): refusals 1 and 2.
+ghost use mathlib.Core.Path.{_≡_};
+ghost use mathlib.Core.Bool.{true};
+ghost use Prim.Native.Nat.{_≤_};
+ghost use lib.ListN.{length};
+ghost use Rattle.rules.specs.Base.{ascii, within, every};
+ghost use Rattle.rules.specs.Deck.{tidy, cardOf};
+ghost use Rattle.rules.specs.Order.{operandsOf};
+ghost use Rattle.lines.specs.Meaning.{BeginsSays, OperandEnds, CardSays, LineSays};
+ghost use Rattle.lines.specs.Scanning.{counted, kindOf, begunKind, firstOf, isOther, faulty, misplaced, closed, judgedOf, withByte, stepOf, start, scanFrom, verdictOf, scannedOf, orderOf};
+
+// The most bytes of a card.
+const LONGEST: usize = 80;
+
+// The most cards of a deck.
+const CARDS: usize = 64;
+
+// The highest number.
+const MOST: usize = 18446744073709551615;
+
+const BLANK: u8 = 0x20;
+
+const LINE_END: u8 = 0x0A;
+
+// Whether a card may have this byte.
+fn allowed(byte: u8) -> bool
+    ensures { λ r. ⌜ r ≡ within 0x20 0x7E byte ⌝ }
+{
+    0x20 <= byte && byte <= 0x7E
+}
+
+// Whether a card may have each byte of the line.
+fn plain(line: &[u8]) -> bool
+    ensures { λ r. ⌜ r ≡ every (within 0x20 0x7E) (now (line .entry)) ⌝ }
+{
+    let mut i = 0;
+    while i < line.len() {
+        if !allowed(line[i]) {
+            return false;
+        }
+        i += 1;
+    }
+    true
+}
+
+// Whether a line has the length and the bytes of a card. A longer line's bytes are not looked at.
+fn is_tidy(line: &[u8]) -> bool
+    ensures { λ r. ⌜ r ≡ tidy (now (line .entry)) ⌝ }
+{
+    let length = line.len();
+    if length == 0 {
+        return false;
+    }
+    if LONGEST < length {
+        return false;
+    }
+    plain(line)
+}
+
+// Whether the line begins with the text.
+fn begins(line: &[u8], text: &[u8]) -> bool
+    ensures { λ r. ⌜ BeginsSays (now (text .entry)) (now (line .entry)) r ⌝ }
+{
+    let mut i = 0;
+    while i < text.len() {
+        if line.len() <= i {
+            return false;
+        }
+        if line[i] != text[i] {
+            return false;
+        }
+        i += 1;
+    }
+    true
+}
+
+// Where the operand that starts at `start` ends: at the first blank, or the line's end.
+fn operand_end(line: &[u8], start: usize) -> usize
+    requires { ⌜ start ≤ length (now line) ⌝ }
+    ensures { λ r. ⌜ OperandEnds (now (line .entry)) start r ⌝ }
+{
+    let mut i = start;
+    while i < line.len() {
+        if line[i] == BLANK {
+            return i;
+        }
+        i += 1;
+    }
+    i
+}
+
+// What a line is: a card, with where its operand starts and ends, or no card.
+pub enum CardRead {
+    UCard { start: usize, end: usize },
+    FsCard { start: usize, end: usize },
+    EndCard,
+    NoCard,
+}
+
+// A line that begins as an END card does: that is all of it, or a blank follows.
+fn end_card(line: &[u8]) -> CardRead
+    requires { ⌜ tidy (now line) ≡ true ⌝ }
+    requires { ⌜ BeginsSays (ascii "// END") (now line) true ⌝ }
+    ensures { λ r. ⌜ CardSays (now (line .entry)) r ⌝ }
+{
+    if line.len() == 6 {
+        return CardRead::EndCard;
+    }
+    if line[6] == BLANK {
+        return CardRead::EndCard;
+    }
+    CardRead::NoCard
+}
+
+// A line that has the length and the bytes of a card: its first bytes say which it is.
+fn tidy_card(line: &[u8]) -> CardRead
+    requires { ⌜ tidy (now line) ≡ true ⌝ }
+    ensures { λ r. ⌜ CardSays (now (line .entry)) r ⌝ }
+{
+    if begins(line, b"// U ") {
+        let end = operand_end(line, 5);
+        return CardRead::UCard { start: 5, end };
+    }
+    if begins(line, b"// UTT ") {
+        let end = operand_end(line, 7);
+        return CardRead::UCard { start: 7, end };
+    }
+    if begins(line, b"// FS ") {
+        let end = operand_end(line, 6);
+        return CardRead::FsCard { start: 6, end };
+    }
+    if begins(line, b"// END") {
+        return end_card(line);
+    }
+    CardRead::NoCard
+}
+
+// What card a line is.
+pub fn card(line: &[u8]) -> CardRead
+    ensures { λ r. ⌜ CardSays (now (line .entry)) r ⌝ }
+{
+    if is_tidy(line) {
+        return tidy_card(line);
+    }
+    CardRead::NoCard
+}
+
+// A line of a deck: where it ends, and where the next one begins.
+pub enum LineRead {
+    Line { end: usize, next: usize },
+    NoLine,
+}
+
+// The line that begins at a place. The last one may lack its end.
+pub fn line(deck: &[u8], at: usize) -> LineRead
+    ensures { λ r. ⌜ LineSays (now (deck .entry)) at r ⌝ }
+{
+    if deck.len() <= at {
+        return LineRead::NoLine;
+    }
+    let mut end = at;
+    while end < deck.len() {
+        if deck[end] == LINE_END {
+            return LineRead::Line { end, next: end + 1 };
+        }
+        end += 1;
+    }
+    LineRead::Line { end, next: end }
+}
+
+// How far a scan has come: what it must know of the bytes before to go on with the next. A deck can so be scanned piece by piece.
+pub struct Scanner {
+    // How many lines have ended.
+    pub lines: usize,
+    // The bytes of the line that is begun.
+    pub begun: [u8; 80],
+    // How many there are, or 81 for more than a card has.
+    pub size: usize,
+    // The first line that is no card, or 0.
+    pub bad: usize,
+    // The first card at fault, or 0.
+    pub fault: usize,
+    // Whether an END card has stood.
+    pub ended: bool,
+}
+
+// What a scan comes to: a refusal, or cards in order.
+pub enum OrderRead {
+    Refused { number: usize, place: usize },
+    Ordered { cards: usize },
+}
+
+// Which card a line is.
+enum CardKind {
+    Utility,
+    Select,
+    End,
+    Other,
+}
+
+// One more. The highest number stays, so that no deck is too long to be scanned.
+fn count(n: usize) -> usize
+    ensures { λ r. ⌜ r ≡ counted n ⌝ }
+{
+    if n < MOST {
+        return n + 1;
+    }
+    n
+}
+
+// The first place that is marked stays.
+fn first(old: usize, marked: bool, place: usize) -> usize
+    ensures { λ r. ⌜ r ≡ firstOf old marked place ⌝ }
+{
+    if old != 0 {
+        return old;
+    }
+    if marked {
+        return place;
+    }
+    old
+}
+
+fn is_other(kind: CardKind) -> bool
+    ensures { λ r. ⌜ r ≡ isOther kind ⌝ }
+{
+    match kind {
+        CardKind::Utility => false,
+        CardKind::Select => false,
+        CardKind::End => false,
+        CardKind::Other => true,
+    }
+}
+
+// Whether an END card has stood, with this one.
+fn closes(kind: CardKind, ended: bool) -> bool
+    ensures { λ r. ⌜ r ≡ closed kind ended ⌝ }
+{
+    match kind {
+        CardKind::Utility => ended,
+        CardKind::Select => ended,
+        CardKind::End => true,
+        CardKind::Other => ended,
+    }
+}
+
+// Whether an FS or END card is at fault at its place: first, after an END card, or past the 64th.
+fn is_faulty(place: usize, ended: bool) -> bool
+    ensures { λ r. ⌜ r ≡ faulty place ended ⌝ }
+{
+    if place == 1 {
+        return true;
+    }
+    if ended {
+        return true;
+    }
+    CARDS < place
+}
+
+// Whether a card is at fault at its place. A U card can only be the first.
+fn is_misplaced(kind: CardKind, place: usize, ended: bool) -> bool
+    ensures { λ r. ⌜ r ≡ misplaced kind place ended ⌝ }
+{
+    match kind {
+        CardKind::Utility => 1 < place,
+        CardKind::Select => is_faulty(place, ended),
+        CardKind::End => is_faulty(place, ended),
+        CardKind::Other => false,
+    }
+}
+
+fn kind(line: &[u8]) -> CardKind
+    ensures { λ r. ⌜ r ≡ kindOf (cardOf (now (line .entry))) ⌝ }
+{
+    let read = card(line);
+    match read {
+        CardRead::UCard { start: _, end: _ } => CardKind::Utility,
+        CardRead::FsCard { start: _, end: _ } => CardKind::Select,
+        CardRead::EndCard => CardKind::End,
+        CardRead::NoCard => CardKind::Other,
+    }
+}
+
+// Which card the begun line is. One of more than 80 bytes is none.
+fn begun_kind(state: Scanner) -> CardKind
+    ensures { λ r. ⌜ r ≡ begunKind state ⌝ }
+{
+    let size = state.size;
+    if LONGEST < size {
+        return CardKind::Other;
+    }
+    let begun = state.begun;
+    kind(&begun[..size])
+}
+
+// The begun line has ended and is judged; the next has no bytes yet.
+fn judged(state: Scanner) -> Scanner
+    ensures { λ r. ⌜ r ≡ judgedOf state ⌝ }
+{
+    let place = count(state.lines);
+    let kind = begun_kind(state);
+    let bad = first(state.bad, is_other(kind), place);
+    let fault = first(state.fault, is_misplaced(kind, place, state.ended), place);
+    let ended = closes(kind, state.ended);
+    let begun = state.begun;
+    Scanner {
+        lines: place,
+        begun,
+        size: 0,
+        bad,
+        fault,
+        ended,
+    }
+}
+
+// The begun line has a byte more. No byte past the 80th is kept, since the line is no card.
+fn with_byte(state: Scanner, byte: u8) -> Scanner
+    ensures { λ r. ⌜ r ≡ withByte state byte ⌝ }
+{
+    let size = state.size;
+    let mut next = state;
+    if size < LONGEST {
+        next.begun[size] = byte;
+        next.size = size + 1;
+        return next;
+    }
+    next.size = 81;
+    next
+}
+
+fn step(state: Scanner, byte: u8) -> Scanner
+    ensures { λ r. ⌜ r ≡ stepOf state byte ⌝ }
+{
+    if byte == LINE_END {
+        return judged(state);
+    }
+    with_byte(state, byte)
+}
+
+// A scan of no bytes.
+pub fn begin() -> Scanner
+    ensures { λ r. ⌜ r ≡ start ⌝ }
+{
+    Scanner {
+        lines: 0,
+        begun: [0u8; 80],
+        size: 0,
+        bad: 0,
+        fault: 0,
+        ended: false,
+    }
+}
+
+// The scan goes on over the next piece of a deck.
+pub fn scan(state: Scanner, piece: &[u8]) -> Scanner
+    ensures { λ r. ⌜ r ≡ scanFrom state (now (piece .entry)) ⌝ }
+{
+    let mut current = state;
+    let mut i = 0;
+    while i < piece.len() {
+        current = step(current, piece[i]);
+        i += 1;
+    }
+    current
+}
+
+// The lowest refusal: a line that is no card, before a card at fault, before an END card that is missing.
+fn verdict(state: Scanner) -> OrderRead
+    ensures { λ r. ⌜ r ≡ verdictOf state ⌝ }
+{
+    let bad = state.bad;
+    if bad != 0 {
+        return OrderRead::Refused {
+            number: 1,
+            place: bad,
+        };
+    }
+    let fault = state.fault;
+    if fault != 0 {
+        return OrderRead::Refused {
+            number: 2,
+            place: fault,
+        };
+    }
+    if state.ended {
+        return OrderRead::Ordered { cards: state.lines };
+    }
+    OrderRead::Refused {
+        number: 2,
+        place: count(state.lines),
+    }
+}
+
+// What the scan comes to, where the deck ends here. A line that is begun is the last.
+pub fn scanned(state: Scanner) -> OrderRead
+    ensures { λ r. ⌜ r ≡ scannedOf state ⌝ }
+{
+    if state.size == 0 {
+        return verdict(state);
+    }
+    verdict(judged(state))
+}
+
+// The order of a whole deck's cards.
+pub fn order(deck: &[u8]) -> OrderRead
+    ensures { λ r. ⌜ r ≡ orderOf (operandsOf (now (deck .entry))) ⌝ }
+{
+    let none = begin();
+    let state = scan(none, deck);
+    scanned(state)
+}
