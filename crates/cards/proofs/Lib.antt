@@ -1,0 +1,10 @@
+pub mod FieldLaws
+pub mod ListSteps
+pub mod SelectedLaws
+pub mod ListedLaws
+pub mod ParameterLaws
+pub mod DeckLaws
+pub mod VerdictLaws
+pub mod OrderedLaws
+pub mod PromiseLaws
+pub mod CopySizes

@@ -1,0 +1,120 @@
+-- `cards::read_ordered` meets its contract: the first card is a U card, and each way out is one of the ways in which the cards are read. Assumes nothing.
+use mathlib.Core.Path.{_≡_, sym, subst}
+use mathlib.Core.Logic.{_⊎_, ⊎-elim}
+use mathlib.Core.List.{List}
+use Prim.Native.Nat.{ℕ}
+use native.Mathlib.Omega.{arith}
+use denote.Ref.{now}
+use denote.Enum.Declared.{tagOf}
+use lib.Seq.{slice}
+use borrow.Author.Tests.{not-true, not-false}
+use borrow.Author.Needs.{needs}
+use Rattle.rules.specs.Deck.{uCard}
+use Rattle.rules.specs.Grammar.{uOperand}
+use Rattle.rules.proofs.LineLaws.{slice-part}
+use Rattle.cards.specs.declared.CardAt.{CardAt}
+use Rattle.cards.specs.declared.CardAt.the-variants.{UAt, FsAt, NoOperand}
+use Rattle.cards.specs.Parameters.{UListed}
+use Rattle.cards.specs.Deck.{OperandAt, CardAtSays}
+use Rattle.cards.specs.Promise.{DeckSays, InOrder}
+use Rattle.cards.proofs.OrderedLaws.{first-u, first-not-fs, unread-u, unread-fs, all-read}
+use Rattle.cards.proofs.CardAt as card-type
+use Rattle.cards.proofs.read_ordered.Statement.{statement}
+use Rattle.cards.proofs.read_ordered.Tie as tie
+
+card-at-requires : tie.Need-card-at-requires
+card-at-requires c κs = search needs
+
+enum-known-first : tie.Need-enum-known-first
+enum-known-first c = search needs
+
+refused-requires : tie.Need-refused-requires
+refused-requires c κs = search needs
+
+-- a card whose number is not that of `UAt` is not the first of a deck in order
+never : (deck : List ℕ) (fs : ℕ) → InOrder deck fs → (r : CardAt) → CardAtSays deck 0 r → (tagOf card-type.the-type r ≡ 1) ⊎ (tagOf card-type.the-type r ≡ 2) → ⊥
+never deck fs o (UAt start end next) h k = ⊎-elim (λ e. omega arith) (λ e. omega arith) k
+never deck fs o (FsAt start end next) h k = first-not-fs deck fs o start end next h
+never deck fs o NoOperand h k = first-u deck fs o h
+
+-- the first card is a U card
+is-u : (c : tie.After-first)
+    → OperandAt uCard (now (c .before .before .before .before .args .deck)) 0 (c .first .given .0 .0) (c .first .given .0 .1 .0) (c .first .given .0 .1 .1 .0)
+is-u c = subst (CardAtSays (now (c .before .before .before .before .args .deck)) 0) (c .first .given .1) (c .before .before .card-at .ensures)
+
+-- and this was read of it
+said : (c : tie.After-u-card) → UListed (uOperand (slice (c .before .before .before .first .given .0 .0) (c .before .before .before .first .given .0 .1 .0) (now (c .before .before .before .before .before .before .before .args .deck)))) (c .u-card .result)
+said c =
+    let g = c .before .before .before .first .given .0 in
+    subst (λ (o : List ℕ). UListed (uOperand o) (c .u-card .result)) (sym (slice-part (g .0) (g .1 .0) (now (c .before .before .before .before .before .before .before .args .deck)) (is-u (c .before .before .before) .from))) (c .u-card .ensures)
+
+returns : tie.Need-returns
+returns c =
+    absurd (never (now (c .before .before .before .before .args .deck)) (c .before .before .before .before .args .fs) (c .before .before .before .before .pre) (c .before .before .card-at .result) (c .before .before .card-at .ensures) (c .before .match .keys2))
+
+sub-u-card : tie.Need-sub-u-card
+sub-u-card c = is-u (c .before) .from
+
+part-u-card-start : tie.Need-part-u-card-start
+part-u-card-start c = is-u (c .before) .from
+
+part-u-card-end : tie.Need-part-u-card-end
+part-u-card-end c = is-u (c .before) .upto
+
+u-card-requires : tie.Need-u-card-requires
+u-card-requires c κs = search needs
+
+refused-requires-2 : tie.Need-refused-requires-2
+refused-requires-2 c κs = search needs
+
+returns-2 : tie.Need-returns-2
+returns-2 c =
+    let a = c .before .before .before .before .before .before .before .before .before .before .args in
+    let g = c .before .before .before .before .before .before .first .given .0 in
+    subst (DeckSays (now (a .deck))) (sym (c .refused2 .ensures))
+    (unread-u (now (a .deck)) (a .fs) (c .before .before .before .before .before .before .before .before .before .before .pre) (g .0) (g .1 .0) (g .1 .1 .0) (is-u (c .before .before .before .before .before .before)) (c .before .before .before .u-card .result) (said (c .before .before .before)) (not-true _ (c .before .if1 .taken)))
+
+fs-cards-requires : tie.Need-fs-cards-requires
+fs-cards-requires c κs = search needs
+
+refused-requires-3 : tie.Need-refused-requires-3
+refused-requires-3 c κs = search needs
+
+returns-3 : tie.Need-returns-3
+returns-3 c =
+    let a = c .before .before .before .before .before .before .before .before .before .before .before .before .args in
+    let g = c .before .before .before .before .before .before .before .before .first .given .0 in
+    subst (DeckSays (now (a .deck))) (sym (c .refused3 .ensures))
+    (unread-fs (now (a .deck)) (a .fs) (c .before .before .before .before .before .before .before .before .before .before .before .before .pre) (g .0) (g .1 .0) (g .1 .1 .0) (is-u (c .before .before .before .before .before .before .before .before)) (c .before .before .before .before .before .u-card .result) (said (c .before .before .before .before .before)) (not-false _ (c .before .before .before .if1 .left))
+    (c .before .before .fs-cards .result) (c .before .before .fs-cards .ensures) (c .before .if2 .taken))
+
+judged-requires : tie.Need-judged-requires
+judged-requires c κs = search needs
+
+returns-4 : tie.Need-returns-4
+returns-4 c =
+    let a = c .before .before .before .before .before .before .before .before .before .before .before .before .before .before .args in
+    let g = c .before .before .before .before .before .before .before .before .before .before .first .given .0 in
+    subst (DeckSays (now (a .deck))) (sym (c .judged .ensures))
+    (all-read (now (a .deck)) (a .fs) (c .before .before .before .before .before .before .before .before .before .before .before .before .before .before .pre) (g .0) (g .1 .0) (g .1 .1 .0) (is-u (c .before .before .before .before .before .before .before .before .before .before)) (c .before .before .before .before .before .before .before .u-card .result) (said (c .before .before .before .before .before .before .before)) (not-false _ (c .before .before .before .before .before .if1 .left))
+    (c .before .before .before .before .fs-cards .result) (c .before .before .before .before .fs-cards .ensures) (c .before .before .before .if2 .left))
+
+pub read-ordered-spec : {M : Type 1} → statement M
+read-ordered-spec =
+    tie.close
+    (tie.spec
+    card-at-requires
+    enum-known-first
+    refused-requires
+    returns
+    sub-u-card
+    part-u-card-start
+    part-u-card-end
+    u-card-requires
+    refused-requires-2
+    returns-2
+    fs-cards-requires
+    refused-requires-3
+    returns-3
+    judged-requires
+    returns-4)

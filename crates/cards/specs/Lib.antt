@@ -1,0 +1,5 @@
+pub mod Promise
+pub mod Selected
+pub mod Parameters
+pub mod Verdict
+pub mod Deck
