@@ -1,0 +1,243 @@
+-- What `combine` answers is what the rules refuse with 8 or 9: the lines of place 1 are theirs where as many numbers stand as are wanted, and fail
+-- in both where not; CV and the fields are sought in the same order.
+use mathlib.Core.Path.{_≡_, refl, ap, sym, _∙_, subst}
+use mathlib.Core.Bool.{Bool, true, false, cond, not, _&&_, _||_, and-true, and-false, and-assoc}
+use mathlib.Core.List.{List, [], _∷_, map}
+use Prim.Native.Nat.{ℕ, suc, _/_, _≤_}
+use native.Mathlib.Omega.{arith}
+use lib.Dec.{eqb}
+use lib.ListN.{length, take}
+use borrow.Author.Tests.{eq-eqb, ne-eqb}
+use Rattle.rules.specs.Base.{_⇒_, every, isEmpty, joined}
+use Rattle.rules.specs.Places.{All, noMore, also}
+use Rattle.rules.specs.Answer.{Answer, _>>_, unless, each}
+use Rattle.rules.specs.Grammar.{Mode, tc, tf, tr, trf, Format, ff, fv, fu, Size, two, one, Item}
+use Rattle.rules.specs.Halves.{Field as RuleField}
+use Rattle.rules.specs.Asked.{Asked as RuleAsked, fieldsOf, cvs}
+use Rattle.rules.specs.Plan.{isTC, isTF, isTR, isFF, isFV, isFU, selects, numbers, wanted, recordLength, blockLength, whole, equal, roomy, combinations, sound, inside, inputHalves, barrenHalf, combined, assembled, Plan}
+use Rattle.rules.specs.Rows.{Within, SizeWithin, UtilityWithin, KindWithin, FieldWithin}
+use Rattle.terms.specs.Meaning.{modeOf, formatOf, sizeOf, kindOf, fieldOf, OneSize, utilityOf, fieldsIn, cvCard, Means, planIn}
+use Rattle.terms.proofs.PlanOf.{plan-means}
+use Rattle.terms.specs.declared.Kind.{Kind}
+use Rattle.terms.specs.declared.Kind.the-variants.{Copy, Pack, Unpack}
+use Rattle.terms.specs.declared.Field.{Field}
+use Rattle.terms.specs.declared.Asked.{Asked}
+use Rattle.combinations.specs.Lines.{countLine, lengthsEqual, formatLines, allLines}
+use Rattle.combinations.specs.Promise.{firstOutside, combinedOf, answerOf, FieldFair, AskedFair}
+use Rattle.combinations.specs.declared.Combined.{Combined}
+use Rattle.combinations.specs.declared.Combined.the-variants.{Sound, Broken, Outside}
+use Rattle.combinations.proofs.LineLaws.{counted}
+
+-- ---- the lines of place 1
+
+-- FU only with TC. TC only with R1
+copy-same : (c u e : Bool) → cond c e (not u) ≡ ((u ⇒ c) && (c ⇒ e))
+copy-same true true e = refl
+copy-same true false e = refl
+copy-same false true e = refl
+copy-same false false e = refl
+
+where-asked : (c e : Bool) → cond c e true ≡ (c ⇒ e)
+where-asked true e = refl
+where-asked false e = refl
+
+-- where as many numbers stand in A as in B
+equal-same : (a b : Size) → numbers a ≡ numbers b → equal a b ≡ lengthsEqual a b
+equal-same a b e = rw (eq-eqb (numbers a) (numbers b) e)
+
+-- the lines of the rules that go by the format
+abbrev byFormat : Mode → Format → Size → Size → Bool
+byFormat t f a b =
+    (isFF f ⇒ (whole a && whole b))
+    && (((isTR t && isFF f) ⇒ eqb (recordLength a) (recordLength b))
+    && (((isTF t && isFF f) ⇒ eqb (blockLength a / recordLength a) (blockLength b / recordLength b))
+    && (((isFV f && eqb (numbers a) 2) ⇒ roomy a) && ((isFV f && eqb (numbers b) 2) ⇒ roomy b))))
+
+module _ (a b : Size) where
+  fixed-same : (t : Mode) → formatLines t ff a b ≡ byFormat t ff a b
+  fixed-same tc = refl
+  fixed-same tf = rw (and-true (eqb (blockLength a / recordLength a) (blockLength b / recordLength b)))
+  fixed-same tr = rw (and-true (eqb (recordLength a) (recordLength b)))
+  fixed-same trf = refl
+
+  variable-same : (t : Mode) → numbers a ≡ wanted t fv → numbers b ≡ wanted t fv → formatLines t fv a b ≡ byFormat t fv a b
+  variable-same tc p q = rw (ne-eqb (numbers a) 2 (λ e. omega arith), ne-eqb (numbers b) 2 (λ e. omega arith))
+  variable-same tf p q = rw (eq-eqb (numbers a) 2 p, eq-eqb (numbers b) 2 q)
+  variable-same tr p q = rw (ne-eqb (numbers a) 2 (λ e. omega arith), ne-eqb (numbers b) 2 (λ e. omega arith))
+  variable-same trf p q = rw (eq-eqb (numbers a) 2 p, eq-eqb (numbers b) 2 q)
+
+  undefined-same : (t : Mode) → formatLines t fu a b ≡ byFormat t fu a b
+  undefined-same tc = refl
+  undefined-same tf = refl
+  undefined-same tr = refl
+  undefined-same trf = refl
+
+  format-same : (t : Mode) (f : Format) → numbers a ≡ wanted t f → numbers b ≡ wanted t f → formatLines t f a b ≡ byFormat t f a b
+  format-same t ff p q = fixed-same t
+  format-same t fv p q = variable-same t p q
+  format-same t fu p q = undefined-same t
+
+-- the same tests in another order
+moved : (s n w rest : Bool) → (s && (n && (w && rest))) ≡ (w && (s && (rest && n)))
+moved true true true rest = sym (and-true rest)
+moved true true false rest = refl
+moved true false true rest = sym (and-false rest)
+moved true false false rest = refl
+moved false n true rest = refl
+moved false n false rest = refl
+
+reordered : (x y s n w r q v : Bool)
+    → ((x && y) && (s && (n && (w && (r && (q && v)))))) ≡ (x && (y && (w && (s && (r && (q && (v && (n && true))))))))
+reordered x y s n w r q v = ap ((x && y) &&_) (moved s n w (r && (q && v))) ∙ simp (and-assoc, and-true)
+
+-- all lines of place 1 hold as the code asks them exactly if all of the rules' hold
+pub lines-same : (t : Mode) (f : Format) (a b : Size) (first fs : ℕ)
+    → allLines t f a b first fs ≡ every (λ holds. holds) (combinations t f a b first (not (eqb fs 0)))
+unfolding allLines combinations
+lines-same t f a b first fs = go (countLine t f a b) refl
+  where
+    go : (k : Bool) → countLine t f a b ≡ k → allLines t f a b first fs ≡ every (λ holds. holds) (combinations t f a b first (not (eqb fs 0)))
+    go true e =
+        let w = counted t f a b e in
+        rw (e, copy-same (isTC t) (isFU f) (eqb first 1), where-asked (isTC t) (lengthsEqual a b), where-asked (selects t) (not (eqb fs 0)), format-same a b t f (w .0) (w .1), equal-same a b (w .0 ∙ sym (w .1)))
+        (reordered
+        (isFU f ⇒ isTC t)
+        (isTC t ⇒ eqb first 1)
+        (isTC t ⇒ lengthsEqual a b)
+        (selects t ⇒ not (eqb fs 0))
+        (isFF f ⇒ (whole a && whole b))
+        ((isTR t && isFF f) ⇒ eqb (recordLength a) (recordLength b))
+        ((isTF t && isFF f) ⇒ eqb (blockLength a / recordLength a) (blockLength b / recordLength b))
+        (((isFV f && eqb (numbers a) 2) ⇒ roomy a) && ((isFV f && eqb (numbers b) 2) ⇒ roomy b)))
+    go false e = rw (e, copy-same (isTC t) (isFU f) (eqb first 1)) (and-assoc (isFU f ⇒ isTC t) (isTC t ⇒ eqb first 1) false)
+
+-- ---- the answer of the rules
+
+-- no card
+no-card : (cards : List (List Item)) → isEmpty cards ≡ eqb (length cards) 0
+no-card [] = refl
+no-card (c ∷ cards) = sym (ne-eqb (length (c ∷ cards)) 0 (λ e. omega arith))
+
+-- the first card that says CV is refused, except in FV
+cv-same : (variable : Bool) (i : ℕ) → 1 ≤ i → (cards : List (List Item))
+    → each 8 (λ c. variable || eqb (cvs c) 0) i cards ≡ unless (variable || eqb (cvCard i cards) 0) 8 (cvCard i cards)
+unfolding each unless
+cv-same true i l [] = refl
+cv-same true i l (c ∷ cards) = cv-same true (suc i) (omega arith) cards
+cv-same false i l [] = refl
+cv-same false i l (c ∷ cards) = go (cv-same false (suc i) (omega arith) cards) (eqb (cvs c) 0) refl
+  where
+    go : each 8 (λ c. eqb (cvs c) 0) (suc i) cards ≡ unless (eqb (cvCard (suc i) cards) 0) 8 (cvCard (suc i) cards)
+        → (t : Bool) → eqb (cvs c) 0 ≡ t → each 8 (λ c. eqb (cvs c) 0) i (c ∷ cards) ≡ unless (eqb (cvCard i (c ∷ cards)) 0) 8 (cvCard i (c ∷ cards))
+    go ih true t = rw t ih
+    go ih false t = rw (t, ne-eqb i 0 (λ e. omega arith))
+
+-- the first field outside its records is refused
+outside-same : (a b i : ℕ) → 1 ≤ i → (fs : List RuleField)
+    → each 9 (inside a b) i fs ≡ unless (eqb (firstOutside a b i fs) 0) 9 (firstOutside a b i fs)
+unfolding each unless
+outside-same a b i l [] = refl
+outside-same a b i l (f ∷ fs) = go (outside-same a b (suc i) (omega arith) fs) (inside a b f) refl
+  where
+    go : each 9 (inside a b) (suc i) fs ≡ unless (eqb (firstOutside a b (suc i) fs) 0) 9 (firstOutside a b (suc i) fs)
+        → (t : Bool) → inside a b f ≡ t → each 9 (inside a b) i (f ∷ fs) ≡ unless (eqb (firstOutside a b i (f ∷ fs)) 0) 9 (firstOutside a b i (f ∷ fs))
+    go ih true t = rw t ih
+    go ih false t = rw (t, ne-eqb i 0 (λ e. omega arith))
+
+-- test after test
+in-turn : (s1 s2 s3 s4 : Bool) (cv i : ℕ) (next : Answer Unit) → (do
+  unless s1 8 1
+  unless s2 8 2
+  unless s3 8 cv
+  unless s4 9 i
+  next) ≡ answerOf (cond s1 (cond s2 (cond s3 (cond s4 Sound (Outside i)) (Broken cv)) (Broken 2)) (Broken 1)) next
+unfolding unless _>>_
+in-turn true true true true cv i next = refl
+in-turn true true true false cv i next = refl
+in-turn true true false s4 cv i next = refl
+in-turn true false s3 s4 cv i next = refl
+in-turn false s2 s3 s4 cv i next = refl
+
+-- what the rules ask after refusals 8 and 9
+abbrev pub refusal10 : Plan → Answer Unit
+refusal10 p = unless (eqb (barrenHalf p) (inputHalves p)) 10 (barrenHalf p)
+
+in-plan : (zone : ℕ) (x : Asked) (cards : List (List Item)) → x .fs ≡ length cards → x .cv ≡ cvCard 2 cards
+    → combined (planIn zone x) cards ≡ answerOf (combinedOf x) (refusal10 (planIn zone x))
+unfolding combined sound planIn combinedOf
+in-plan zone x cards fs cv =
+    let t = modeOf (x .mode) in
+    let f = formatOf (x .format) in
+    let a = sizeOf (x .input) in
+    let b = sizeOf (x .output) in
+    rw (
+      no-card cards,
+      ← fs,
+      ← (lines-same t f a b (x .first) (x .fs)),
+      cv-same (isFV f) 2 (omega arith) cards,
+      ← cv,
+      outside-same (recordLength a) (recordLength b) 1 (omega arith) (fieldsIn x),
+    ) (in-turn _ _ _ _ _ _ _)
+
+-- where the struct says what the deck asks for, `combine` answers what the rules do
+pub combined-same : (zone : ℕ) (x : Asked) (a : RuleAsked) → Means x a
+    → combined (assembled zone a) (a .cards) ≡ answerOf (combinedOf x) (refusal10 (assembled zone a))
+combined-same zone x a m =
+    subst (λ (p : Plan). combined p (a .cards) ≡ answerOf (combinedOf x) (refusal10 p)) (plan-means zone x a m) (in-plan zone x (a .cards) (m .fs) (m .cv))
+
+-- ---- what `combine` asks holds within the limits
+
+size-some : (f : Format) (s : Size) → SizeWithin f s → numbers s ≡ 2 → 1 ≤ recordLength s
+size-some f (two n m) w e = w .0 .0
+size-some f (one g) w e = absurd (omega arith)
+
+size-most : (f : Format) (s : Size) → SizeWithin f s → recordLength s ≤ 4096
+size-most f (two n m) w = w .0 .1
+size-most f (one g) w = omega arith
+
+-- the two sizes that stand in a field within its limits
+sizes-within : (k : Kind) (input output : ℕ) → KindWithin (kindOf k input output) → (k ≡ Copy → input ≡ output) → Within 1 4096 input × Within 1 4096 output
+sizes-within Copy input output w e = let q = e refl in omega arith
+sizes-within Pack input output w e = omega arith
+sizes-within Unpack input output w e = omega arith
+
+field-fair : (f : Field) → FieldWithin (fieldOf f) → OneSize f → FieldFair f
+unfolding fieldOf
+field-fair f w e =
+    let s = sizes-within (f .kind) (f .input) (f .output) (w .kind) e in
+    record {
+      r-low = w .r .0;
+      r-high = w .r .1;
+      input-low = s .0 .0;
+      input-high = s .0 .1;
+      output-low = s .1 .0;
+      output-high = s .1 .1;
+      t-low = w .t .0;
+      t-high = w .t .1;
+      one-size = e;
+    }
+
+fields-fair : (fs : List Field) → All FieldWithin (map fieldOf fs) → All OneSize fs → All FieldFair fs
+fields-fair [] w e = noMore
+fields-fair (f ∷ fs) (also p w) (also q e) = also (field-fair f p q) (fields-fair fs w e)
+
+pub asked-fair : (x : Asked) (a : RuleAsked) → Means x a → UtilityWithin (a .utility) → All FieldWithin (fieldsOf (joined (a .cards)))
+    → All OneSize (take (x .count) (x .fields)) → AskedFair x
+unfolding utilityOf fieldsIn
+asked-fair x a m u w e =
+    let v = subst UtilityWithin (sym (m .utility)) u in
+    record {
+      sizes =
+          record {
+            some-A = size-some (formatOf (x .format)) (sizeOf (x .input)) (v .input);
+            some-B = size-some (formatOf (x .format)) (sizeOf (x .output)) (v .output);
+            most-A = size-most (formatOf (x .format)) (sizeOf (x .input)) (v .input);
+            most-B = size-most (formatOf (x .format)) (sizeOf (x .output)) (v .output);
+          };
+      fields = record { few = m .few; each = fields-fair (take (x .count) (x .fields)) (subst (All FieldWithin) (sym (m .fields)) w) e };
+    }
+
+-- ---- one outcome
+
+pub only-one : (x : Asked) (r s : Combined) → r ≡ combinedOf x → s ≡ combinedOf x → r ≡ s
+only-one x r s e q = e ∙ sym q

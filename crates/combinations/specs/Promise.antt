@@ -1,0 +1,61 @@
+-- What is promised of the combinations and of the fields' places: refusals 8 and 9. Assumes nothing.
+use mathlib.Core.Bool.{cond, _||_}
+use mathlib.Core.List.{List, [], _∷_}
+use Prim.Native.Nat.{ℕ, suc, _≤_}
+use lib.Dec.{eqb}
+use lib.ListN.{take}
+use Rattle.rules.specs.Places.{All}
+use Rattle.rules.specs.Answer.{Answer, refused}
+use Rattle.rules.specs.Halves.{Field as RuleField}
+use Rattle.rules.specs.Plan.{selects, isFV, recordLength, inside}
+use Rattle.terms.specs.Meaning.{modeOf, formatOf, sizeOf, OneSize, fieldsIn}
+use Rattle.terms.specs.declared.Field.{Field}
+use Rattle.terms.specs.declared.Asked.{Asked}
+use Rattle.combinations.specs.Lines.{FormatFair, allLines}
+use Rattle.combinations.specs.declared.Combined.{Combined}
+use Rattle.combinations.specs.declared.Combined.the-variants.{Sound, Broken, Outside}
+
+-- the number of the first field, the first of which has number i, that is outside its records, or 0
+abbrev pub firstOutside : ℕ → ℕ → ℕ → List RuleField → ℕ
+firstOutside a b i [] = 0
+firstOutside a b i (f ∷ fs) = let later = firstOutside a b (suc i) fs in cond (inside a b f) later i
+
+unfoldable pub combinedOf : Asked → Combined
+combinedOf x =
+    cond (allLines (modeOf (x .mode)) (formatOf (x .format)) (sizeOf (x .input)) (sizeOf (x .output)) (x .first) (x .fs))
+    (cond (selects (modeOf (x .mode)) || eqb (x .fs) 0)
+    (cond (isFV (formatOf (x .format)) || eqb (x .cv) 0)
+    (cond (eqb (firstOutside (recordLength (sizeOf (x .input))) (recordLength (sizeOf (x .output))) 1 (fieldsIn x)) 0)
+    Sound
+    (Outside (firstOutside (recordLength (sizeOf (x .input))) (recordLength (sizeOf (x .output))) 1 (fieldsIn x))))
+    (Broken (x .cv)))
+    (Broken 2))
+    (Broken 1)
+
+-- what it answers in the rules, where next is what they ask after refusals 8 and 9
+abbrev pub answerOf : Combined → Answer Unit → Answer Unit
+answerOf Sound next = next
+answerOf (Broken place) next = refused 8 place
+answerOf (Outside field) next = refused 9 field
+
+-- a field whose numbers are within their limits
+pub record FieldFair (f : Field) : Type 0 where
+  pub r-low : 1 ≤ f .r
+  pub r-high : f .r ≤ 4096
+  pub input-low : 1 ≤ f .input
+  pub input-high : f .input ≤ 4096
+  pub output-low : 1 ≤ f .output
+  pub output-high : f .output ≤ 4096
+  pub t-low : 1 ≤ f .t
+  pub t-high : f .t ≤ 4096
+  pub one-size : OneSize f
+
+-- so many of an array of 64
+pub record FieldsFair (fields : List Field) (count : ℕ) : Type 0 where
+  pub few : count ≤ 64
+  pub each : All FieldFair (take count fields)
+
+-- what a deck asks for once its numbers are within their limits
+pub record AskedFair (x : Asked) : Type 0 where
+  pub sizes : FormatFair (sizeOf (x .input)) (sizeOf (x .output))
+  pub fields : FieldsFair (x .fields) (x .count)

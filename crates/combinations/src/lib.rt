@@ -1,0 +1,320 @@
+// The combinations that document 01 requires of the parameters, and that every field lies inside its records: refusals 8 and 9.
+use terms::Asked;
+use terms::Field;
+use terms::Format;
+use terms::Mode;
+use terms::Size;
+ghost use mathlib.Core.Path.{_≡_};
+ghost use mathlib.Core.Bool.{true, _&&_, _||_};
+ghost use mathlib.Core.List.{map};
+ghost use Prim.Native.Nat.{_+_, _≤_};
+ghost use lib.Dec.{leb, eqb};
+ghost use lib.ListN.{take};
+ghost use Rattle.rules.specs.Plan.{isTC, selects as ruleSelects, isFV, isFU, numbers as ruleNumbers, wanted as ruleWanted, recordLength, blockLength, inside};
+ghost use Rattle.terms.specs.Meaning.{modeOf, formatOf, sizeOf, fieldOf};
+ghost use Rattle.combinations.specs.Lines.{copyLines, countLine, lengthsEqual, fixedLines, FormatFair, formatLines, copyEqual, cardLine, allLines};
+ghost use Rattle.combinations.specs.Promise.{firstOutside, combinedOf, FieldFair, FieldsFair, AskedFair};
+
+// ---- what the letters say
+
+fn is_tc(mode: Mode) -> bool
+    ensures { λ r. ⌜ r ≡ isTC (modeOf mode) ⌝ }
+{
+    match mode {
+        Mode::TC => true,
+        Mode::TF => false,
+        Mode::TR => false,
+        Mode::TRF => false,
+    }
+}
+
+fn is_fu(format: Format) -> bool
+    ensures { λ r. ⌜ r ≡ isFU (formatOf format) ⌝ }
+{
+    match format {
+        Format::FF => false,
+        Format::FV => false,
+        Format::FU => true,
+    }
+}
+
+pub fn is_fv(format: Format) -> bool
+    ensures { λ r. ⌜ r ≡ isFV (formatOf format) ⌝ }
+{
+    match format {
+        Format::FF => false,
+        Format::FV => true,
+        Format::FU => false,
+    }
+}
+
+// TF or TRF.
+pub fn selects(mode: Mode) -> bool
+    ensures { λ r. ⌜ r ≡ ruleSelects (modeOf mode) ⌝ }
+{
+    match mode {
+        Mode::TC => false,
+        Mode::TF => true,
+        Mode::TR => false,
+        Mode::TRF => true,
+    }
+}
+
+// How many numbers stand in A or B, and how many should.
+fn numbers(size: Size) -> usize
+    ensures { λ r. ⌜ r ≡ ruleNumbers (sizeOf size) ⌝ }
+{
+    match size {
+        Size::Two { n: _, m: _ } => 2,
+        Size::One { g: _ } => 1,
+    }
+}
+
+fn wanted(mode: Mode, format: Format) -> usize
+    ensures { λ r. ⌜ r ≡ ruleWanted (modeOf mode) (formatOf format) ⌝ }
+{
+    match format {
+        Format::FF => 2,
+        Format::FU => 1,
+        Format::FV => {
+            if selects(mode) {
+                return 2;
+            }
+            1
+        }
+    }
+}
+
+// n, or 0 where one number stands.
+pub fn record_length(size: Size) -> usize
+    ensures { λ r. ⌜ r ≡ recordLength (sizeOf size) ⌝ }
+{
+    match size {
+        Size::Two { n, m: _ } => n,
+        Size::One { g: _ } => 0,
+    }
+}
+
+// m, or the single number.
+pub fn block_length(size: Size) -> usize
+    ensures { λ r. ⌜ r ≡ blockLength (sizeOf size) ⌝ }
+{
+    match size {
+        Size::Two { n: _, m } => m,
+        Size::One { g } => g,
+    }
+}
+
+// ---- the lines of the paper
+
+// FU only with TC. TC only with R1.
+fn copies(mode: Mode, format: Format, first: usize) -> bool
+    ensures { λ r. ⌜ r ≡ copyLines (modeOf mode) (formatOf format) first ⌝ }
+{
+    if is_tc(mode) {
+        return first == 1;
+    }
+    !is_fu(format)
+}
+
+// FF: two numbers each. FU: one. FV: two with TF or TRF, else one.
+fn counts(mode: Mode, format: Format, a: Size, b: Size) -> bool
+    ensures { λ r. ⌜ r ≡ countLine (modeOf mode) (formatOf format) (sizeOf a) (sizeOf b) ⌝ }
+{
+    let want = wanted(mode, format);
+    if numbers(a) == want {
+        return numbers(b) == want;
+    }
+    false
+}
+
+// TC: A equals B, where as many numbers stand in both.
+fn equal(a: Size, b: Size) -> bool
+    ensures { λ r. ⌜ r ≡ lengthsEqual (sizeOf a) (sizeOf b) ⌝ }
+{
+    if record_length(a) == record_length(b) {
+        return block_length(a) == block_length(b);
+    }
+    false
+}
+
+// FF: m a multiple of n, in A and in B; TR: equal record lengths; TF: equal m divided by n.
+fn fixed(mode: Mode, n: usize, m: usize, n2: usize, m2: usize) -> bool
+    requires { ⌜ (1 ≤ n) × (1 ≤ n2) ⌝ }
+    ensures { λ r. ⌜ r ≡ fixedLines (modeOf mode) n m n2 m2 ⌝ }
+{
+    if m % n != 0 {
+        return false;
+    }
+    if m2 % n2 != 0 {
+        return false;
+    }
+    match mode {
+        Mode::TC => true,
+        Mode::TF => m / n == m2 / n2,
+        Mode::TR => n == n2,
+        Mode::TRF => true,
+    }
+}
+
+// FV with two numbers: n+8 at most m, in A and in B.
+fn roomy(n: usize, m: usize, n2: usize, m2: usize) -> bool
+    requires { ⌜ (n ≤ 4096) × (n2 ≤ 4096) ⌝ }
+    ensures { λ r. ⌜ r ≡ (leb (n + 8) m && leb (n2 + 8) m2) ⌝ }
+{
+    if m < n + 8 {
+        return false;
+    }
+    n2 + 8 <= m2
+}
+
+// By the format, where as many numbers stand as are wanted.
+fn by_format(mode: Mode, format: Format, a: Size, b: Size) -> bool
+    requires { ⌜ FormatFair (sizeOf a) (sizeOf b) ⌝ }
+    requires { ⌜ countLine (modeOf mode) (formatOf format) (sizeOf a) (sizeOf b) ≡ true ⌝ }
+    ensures { λ r. ⌜ r ≡ formatLines (modeOf mode) (formatOf format) (sizeOf a) (sizeOf b) ⌝ }
+{
+    let n = record_length(a);
+    let m = block_length(a);
+    let n2 = record_length(b);
+    let m2 = block_length(b);
+    match format {
+        Format::FF => return fixed(mode, n, m, n2, m2),
+        Format::FU => return true,
+        Format::FV => {
+            if selects(mode) {
+                return roomy(n, m, n2, m2);
+            }
+            return true;
+        }
+    }
+}
+
+// TC: A equals B.
+fn copied(mode: Mode, a: Size, b: Size) -> bool
+    ensures { λ r. ⌜ r ≡ copyEqual (modeOf mode) (sizeOf a) (sizeOf b) ⌝ }
+{
+    if is_tc(mode) {
+        return equal(a, b);
+    }
+    true
+}
+
+// TF and TRF need an FS card.
+fn carded(mode: Mode, fs: usize) -> bool
+    ensures { λ r. ⌜ r ≡ cardLine (modeOf mode) fs ⌝ }
+{
+    if selects(mode) {
+        return fs != 0;
+    }
+    true
+}
+
+// The combinations whose place is 1.
+fn sound(mode: Mode, format: Format, a: Size, b: Size, first: usize, fs: usize) -> bool
+    requires { ⌜ FormatFair (sizeOf a) (sizeOf b) ⌝ }
+    ensures { λ r. ⌜ r ≡ allLines (modeOf mode) (formatOf format) (sizeOf a) (sizeOf b) first fs ⌝ }
+{
+    if !copies(mode, format, first) {
+        return false;
+    }
+    if !counts(mode, format, a, b) {
+        return false;
+    }
+    if !copied(mode, a, b) {
+        return false;
+    }
+    if !carded(mode, fs) {
+        return false;
+    }
+    by_format(mode, format, a, b)
+}
+
+// TC and TR allow no FS card.
+fn cards_allowed(mode: Mode, fs: usize) -> bool
+    ensures { λ r. ⌜ r ≡ (ruleSelects (modeOf mode) || eqb fs 0) ⌝ }
+{
+    if selects(mode) {
+        return true;
+    }
+    fs == 0
+}
+
+// CV only with FV.
+fn cv_allowed(format: Format, cv: usize) -> bool
+    ensures { λ r. ⌜ r ≡ (isFV (formatOf format) || eqb cv 0) ⌝ }
+{
+    if is_fv(format) {
+        return true;
+    }
+    cv == 0
+}
+
+// ---- fields
+
+// Whether a field lies inside records of so many bytes.
+fn lies_inside(f: Field, a: usize, b: usize) -> bool
+    requires { ⌜ FieldFair f ⌝ }
+    ensures { λ r. ⌜ r ≡ inside a b (fieldOf f) ⌝ }
+{
+    if a < f.r + f.input - 1 {
+        return false;
+    }
+    f.t + f.output - 1 <= b
+}
+
+// The number of the first field, from 1, that is outside its records, or 0.
+fn first_outside(fields: [Field; 64], count: usize, a: usize, b: usize) -> usize
+    requires { ⌜ FieldsFair fields count ⌝ }
+    ensures { λ r. ⌜ r ≡ firstOutside a b 1 (map fieldOf (take count fields)) ⌝ }
+{
+    let mut i: usize = 0;
+    while i < count {
+        let f = fields[i];
+        if !lies_inside(f, a, b) {
+            return i + 1;
+        }
+        i += 1;
+    }
+    0
+}
+
+// What refusals 8 and 9 say of what a deck asks for.
+pub enum Combined {
+    Sound,
+    Broken { place: usize },
+    Outside { field: usize },
+}
+
+// Place 1 before an FS card in TC or TR before CV outside FV; then the fields.
+pub fn combine(asked: Asked) -> Combined
+    requires { ⌜ AskedFair asked ⌝ }
+    ensures { λ r. ⌜ r ≡ combinedOf asked ⌝ }
+{
+    let mode = asked.mode;
+    let format = asked.format;
+    let input = asked.input;
+    let output = asked.output;
+    let fs = asked.fs;
+    let cv = asked.cv;
+    if !sound(mode, format, input, output, asked.first, fs) {
+        return Combined::Broken { place: 1 };
+    }
+    if !cards_allowed(mode, fs) {
+        return Combined::Broken { place: 2 };
+    }
+    if !cv_allowed(format, cv) {
+        return Combined::Broken { place: cv };
+    }
+    let fields = asked.fields;
+    let field = first_outside(
+        fields,
+        asked.count,
+        record_length(input),
+        record_length(output),
+    );
+    if field != 0 {
+        return Combined::Outside { field };
+    }
+    Combined::Sound
+}
