@@ -1,0 +1,65 @@
+-- What a field does to the marks and to the sources of the halves that it reads and writes, and that it leaves all others as they are.
+use mathlib.Core.Path.{_≡_, refl, ap, sym, subst, _∙_}
+use mathlib.Core.Bool.{Bool, _&&_}
+use Prim.Native.Nat.{ℕ, _+_, _-_, _*_, _≤_, _<_}
+use native.Mathlib.Omega.{arith}
+use Rattle.rules.specs.Halves.{readsFrom, writesFrom}
+use Rattle.rules.specs.Permitted.{kindAllows, allows}
+use Rattle.rules.specs.Lent.{zoneF}
+use Rattle.rules.proofs.PermittedLaws.{any-of, allows-before, allows-inside, allows-after}
+use Rattle.terms.specs.Meaning.{fieldOf}
+use Rattle.terms.specs.declared.Field.{Field}
+use Rattle.keeping.specs.Marks.{markAllows, meetOf, Says, Gives}
+use Rattle.keeping.specs.Promise.{FairField}
+use Rattle.keeping.specs.declared.Mark.{Mark}
+use Rattle.keeping.proofs.Fields.{input-is}
+use Rattle.keeping.proofs.Meets.{meet-allows}
+
+-- half h has mark b after a field, where it had mark a: it permits what both permit
+unfoldable pub Met : Field → ℕ → Mark → Mark → Type 0
+Met f h a b = Says b (λ v. allows zoneF (fieldOf f) h v && markAllows a v)
+
+-- half g of the output has a source of number b after a field, where it had one of number a
+pub record Put (f : Field) (g a b : ℕ) : Type 0 where
+  pub before : g < writesFrom (fieldOf f) → b ≡ a
+  pub inside : (j : ℕ) → g ≡ writesFrom (fieldOf f) + j → j < 2 * f .output → Gives f j b
+  pub after : writesFrom (fieldOf f) + 2 * f .output ≤ g → b ≡ a
+
+module _ (n m : ℕ) (f : Field) (ok : FairField n m f) (h : ℕ) where
+  -- ---- marks
+
+  from-is : readsFrom (fieldOf f) ≡ 2 * f .r - 2
+  unfolding fieldOf
+  from-is = omega (arith, ok .r-low)
+
+  pub met-below : (a : Mark) → h < 2 * f .r - 2 → Met f h a a
+  unfolding Met
+  met-below a b v l = rw (allows-before zoneF (fieldOf f) v h (omega (arith, from-is)), any-of v l)
+
+  pub met-above : (a : Mark) → 2 * f .r - 2 + 2 * f .input ≤ h → Met f h a a
+  unfolding Met
+  met-above a b v l = rw (allows-after zoneF (fieldOf f) v h (omega (arith, from-is, input-is f)), any-of v l)
+
+  pub met-inside : (j : ℕ) (a b : Mark) → h ≡ 2 * f .r - 2 + j → j < 2 * f .input → Says b (kindAllows zoneF (fieldOf f .kind) j) → Met f h a (meetOf b a)
+  unfolding Met
+  met-inside j a b e l says v s =
+      meet-allows b a v s
+      ∙ ap (λ (t : Bool). t && markAllows a v) (says v s ∙ sym (allows-inside zoneF (fieldOf f) v h j (omega (arith, from-is)) (omega (arith, input-is f))))
+
+  -- ---- sources
+
+  pub put-below : (a : ℕ) → h < 2 * f .t - 2 → Put f h a a
+  unfolding fieldOf
+  put-below a b = record { before = λ l. refl; inside = λ j e l. absurd (omega (arith, ok .t-low)); after = λ l. refl }
+
+  pub put-above : (a : ℕ) → 2 * f .t - 2 + 2 * f .output ≤ h → Put f h a a
+  unfolding fieldOf
+  put-above a b = record { before = λ l. refl; inside = λ j e l. absurd (omega (arith, ok .t-low)); after = λ l. refl }
+
+  pub put-inside : (j a b : ℕ) → h ≡ 2 * f .t - 2 + j → j < 2 * f .output → Gives f j b → Put f h a b
+  unfolding fieldOf
+  put-inside j a b e l gives = record {
+    before = λ p. absurd (omega (arith, ok .t-low));
+    inside = λ i p q. subst (λ (x : ℕ). Gives f x b) (let z : j ≡ i = omega (arith, ok .t-low) in z) gives;
+    after = λ p. absurd (omega (arith, ok .t-low));
+  }

@@ -1,0 +1,56 @@
+-- A field of the code, as a field of the rules: its sizes, and that it lies inside its records. By cases on what the field does.
+use mathlib.Core.Path.{_≡_, refl, ap}
+use Prim.Native.Nat.{ℕ, _≤_}
+use native.Mathlib.Omega.{arith}
+use Rattle.rules.specs.Halves.{inputSize, outputSize}
+use Rattle.rules.proofs.SizeLaws.{Fits}
+use Rattle.terms.specs.Meaning.{kindOf, fieldOf}
+use Rattle.terms.specs.declared.Field.{Field}
+use Rattle.terms.specs.declared.Kind.{Kind}
+use Rattle.terms.specs.declared.Kind.the-variants.{Copy, Pack, Unpack}
+use Rattle.keeping.specs.Promise.{FairField}
+
+pub kind-of : (f : Field) (c : Kind) → f .kind ≡ c → fieldOf f .kind ≡ kindOf c (f .input) (f .output)
+unfolding fieldOf
+kind-of f c q = ap (λ (d : Kind). kindOf d (f .input) (f .output)) q
+
+pub input-is : (f : Field) → inputSize (fieldOf f .kind) ≡ f .input
+unfolding fieldOf
+input-is f = go (f .kind)
+  where
+    go : (c : Kind) → inputSize (kindOf c (f .input) (f .output)) ≡ f .input
+    go Copy = refl
+    go Pack = refl
+    go Unpack = refl
+
+pub output-is : (f : Field) → (f .kind ≡ Copy → f .input ≡ f .output) → outputSize (fieldOf f .kind) ≡ f .output
+unfolding fieldOf
+output-is f copies = go (f .kind) copies
+  where
+    go : (c : Kind) → (c ≡ Copy → f .input ≡ f .output) → outputSize (kindOf c (f .input) (f .output)) ≡ f .output
+    go Copy same = same refl
+    go Pack same = refl
+    go Unpack same = refl
+
+pub fair-fits : (n m : ℕ) (f : Field) → FairField n m f → Fits n m (fieldOf f)
+unfolding fieldOf
+fair-fits n m f ok = record {
+  r-low = ok .r-low;
+  t-low = ok .t-low;
+  input-low = omega (arith, input-is f, ok .input-low);
+  output-low = omega (arith, output-is f (ok .copies), ok .output-low);
+  input-high = omega (arith, input-is f, ok .r-high);
+  output-high = omega (arith, output-is f (ok .copies), ok .t-high);
+}
+
+-- inside records, and so inside longer ones
+pub fair-longer : (n m n′ m′ : ℕ) (f : Field) → n ≤ n′ → m ≤ m′ → FairField n m f → FairField n′ m′ f
+fair-longer n m n′ m′ f a b ok = record {
+  r-low = ok .r-low;
+  r-high = omega (arith, ok .r-high);
+  t-low = ok .t-low;
+  t-high = omega (arith, ok .t-high);
+  input-low = ok .input-low;
+  output-low = ok .output-low;
+  copies = ok .copies;
+}

@@ -1,0 +1,10 @@
+pub mod Fields
+pub mod Meets
+pub mod FieldSources
+pub mod Walk
+pub mod Arrays
+pub mod AllFields
+pub mod Seen
+pub mod Searches
+pub mod Weighs
+pub mod PlanLaws

@@ -1,0 +1,75 @@
+-- What `weigh` answers is what the rules say: the marks permit what the fields permit, and the numbers stand for the sources, so the searches
+-- over the arrays end where those of the rules end. And the promise allows one answer alone.
+use mathlib.Core.Path.{_≡_, ap, sym, _∙_}
+use mathlib.Core.List.{List}
+use Prim.Native.Nat.{ℕ, _*_, _≤_, _<_}
+use native.Mathlib.Omega.{arith}
+use lib.Dec.{eqb}
+use lib.ListN.{getD}
+use borrow.Author.Tests.{lt-ltb, le-ltb, eq-eqb, ne-eqb}
+use Rattle.rules.specs.Halves.{Field as RuleField, sources}
+use Rattle.rules.specs.Permitted.{permitted, choices}
+use Rattle.rules.specs.Keeping.{missing, lostHalf}
+use Rattle.rules.specs.Lent.{zoneF}
+use Rattle.rules.proofs.Search.{first-most}
+use Rattle.rules.proofs.MarkLaws.{choices-alike, first-alike, lost-alike}
+use Rattle.terms.specs.Meaning.{noField}
+use Rattle.terms.specs.declared.Field.{Field}
+use Rattle.keeping.specs.Marks.{Says, permitsIn}
+use Rattle.keeping.specs.Promise.{Fair, barrenOf, lostOf, weighedOf}
+use Rattle.keeping.specs.declared.Mark.{Mark}
+use Rattle.keeping.specs.declared.Mark.the-variants.{Any}
+use Rattle.keeping.specs.declared.Weighed.{Weighed}
+use Rattle.keeping.specs.declared.Weighed.the-variants.{Barren, Kept, Lost}
+use Rattle.keeping.proofs.Fields.{fair-longer}
+
+-- fields inside their records lie inside the longest
+pub fair-longest : (fields : List Field) (count n m : ℕ) → Fair fields count n m → Fair fields count 4096 4096
+fair-longest fields count n m fair = record {
+  few = fair .few;
+  n-high = omega arith;
+  m-high = omega arith;
+  each = λ k l. fair-longer n m 4096 4096 (getD fields k noField) (fair .n-high) (fair .m-high) (fair .each k l);
+}
+
+-- ---- from the arrays to the rules
+
+module _ (marks : List Mark) (fs : List RuleField) (n : ℕ) (small : n ≤ 4096) (says : (h : ℕ) → h < 8192 → Says (getD marks h Any) (permitted zoneF fs h)) where
+  alike : (h v : ℕ) → h < 2 * n → v < 16 → permitsIn marks h v ≡ permitted zoneF fs h v
+  unfolding permitsIn
+  alike h v l s = says h (omega arith) v s
+
+  pub barren-alike : barrenOf (permitsIn marks) n ≡ barrenOf (permitted zoneF fs) n
+  unfolding barrenOf
+  barren-alike =
+      first-alike (λ i. eqb (choices (permitsIn marks) i) 0) (λ i. eqb (choices (permitted zoneF fs) i) 0) 0 (2 * n)
+      (λ j l. ap (λ (c : ℕ). eqb c 0) (choices-alike (permitsIn marks) (permitted zoneF fs) j (λ v s. alike j v (omega arith) s)))
+
+  pub lost-of : (m : ℕ) → lostHalf (permitsIn marks) (sources zoneF m fs (2 * n)) (2 * n) ≡ lostOf zoneF fs n m
+  unfolding lostOf
+  lost-of m = lost-alike (permitsIn marks) (permitted zoneF fs) (sources zoneF m fs (2 * n)) (2 * n) alike
+
+-- ---- the answer
+
+module _ (zone : ℕ) (fs : List RuleField) (n m b : ℕ) (barren : b ≡ barrenOf (permitted zone fs) n) where
+  pub weighed-barren : b < 2 * n → Barren b ≡ weighedOf zone fs n m
+  unfolding weighedOf
+  weighed-barren l = rw (← barren, lt-ltb b (2 * n) l)
+
+  module _ (none : 2 * n ≤ b) (h : ℕ) (lost : h ≡ lostOf zone fs n m) where
+    pub weighed-lost : h < 2 * n → Lost h ≡ weighedOf zone fs n m
+    unfolding weighedOf
+    weighed-lost l = rw (← barren, le-ltb b (2 * n) none, ← lost, ne-eqb h (2 * n) (λ e. omega arith))
+
+    no-more : h ≤ 2 * n
+    unfolding lostOf lostHalf
+    no-more = omega (arith, first-most (missing (permitted zone fs) (sources zone m fs (2 * n))) 0 (2 * n))
+
+    pub weighed-kept : 2 * n ≤ h → Kept ≡ weighedOf zone fs n m
+    unfolding weighedOf
+    weighed-kept l = rw (← barren, le-ltb b (2 * n) none, ← lost, eq-eqb h (2 * n) (omega (arith, no-more)))
+
+-- ---- one answer
+
+pub only-one : (zone : ℕ) (fs : List RuleField) (n m : ℕ) (r r′ : Weighed) → r ≡ weighedOf zone fs n m → r′ ≡ weighedOf zone fs n m → r ≡ r′
+only-one zone fs n m r r′ e e′ = e ∙ sym e′

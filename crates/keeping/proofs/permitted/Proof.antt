@@ -1,0 +1,152 @@
+-- `keeping::permitted` meets its contract: before each turn of the outer loop the marks permit what the first k fields permit; of the inner one, those
+-- below `from + j` have met the field, and the others are as they were.
+use mathlib.Core.Path.{_∙_, _≡_, refl, subst}
+use mathlib.Core.List.{List}
+use Prim.Native.Nat.{ℕ, _+_, _-_, _≤_, _<_}
+use native.Mathlib.Omega.{arith}
+use lib.ListN.{length, take, getD, getD-replicate, length-replicate}
+use borrow.Author.Needs.{needs}
+use Rattle.rules.specs.Permitted.{permitted}
+use Rattle.rules.specs.Lent.{zoneF}
+use Rattle.rules.specs.Halves.{Field}
+use Rattle.keeping.specs.declared.Mark.the-variants.{Any}
+use Rattle.keeping.specs.declared.Mark.{Mark}
+use Rattle.keeping.specs.Marks.{Says}
+use Rattle.keeping.specs.Promise.{FairField}
+use Rattle.keeping.proofs.AllFields.{planned, planned-all, says-none, says-more}
+use Rattle.keeping.proofs.Arrays.{Met, met-below, met-inside, met-above}
+use Rattle.keeping.proofs.Walk.{Upto, upto-none, upto-more, upto-all}
+use Rattle.keeping.proofs.permitted.Statement.{statement}
+use Rattle.keeping.proofs.permitted.Tie as tie
+
+abbrev Inv-loop2 : tie.InvT-loop2
+Inv-loop2 count fields out₀ k f from many j₀ out j = FairField 4096 4096 f × (length out₀ ≡ 8192) × (j ≤ many) × Upto Any (Met f) out₀ out (from + j)
+
+abbrev μ-loop2 : tie.MeasureT-loop2
+μ-loop2 count fields out₀ k f from many j₀ out j = many - j
+
+abbrev Inv-loop : tie.InvT-loop
+Inv-loop count fields out₀ k₀ out k = (length fields ≡ 64) × (length out ≡ 8192) × (k ≤ count) × ((h : ℕ) → h < 8192 → Says (getD out h Any) (permitted zoneF (take k (planned fields count)) h))
+
+abbrev μ-loop : tie.MeasureT-loop
+μ-loop count fields out₀ k₀ out k = count - k
+
+loop-holds : tie.Need-loop-holds Inv-loop2 μ-loop2 Inv-loop μ-loop
+loop-holds c =
+    let a = c .args in
+    (c .good .0 .1 .0 .1, length-replicate {A = Mark} 8192 Any, omega arith, λ h l. rw (getD-replicate {A = Mark} 8192 h Any Any l) (says-none (a .t1) (a .count) h))
+
+mul-f : tie.Need-mul-f Inv-loop2 μ-loop2 Inv-loop μ-loop
+mul-f c = search needs
+
+array-copy-out-f : tie.Need-array-copy-out-f Inv-loop2 μ-loop2 Inv-loop μ-loop
+array-copy-out-f c = search needs
+
+mul-from : tie.Need-mul-from Inv-loop2 μ-loop2 Inv-loop μ-loop
+mul-from c = let ok = (c .before .before .before .before .pre .each _ (c .before .before .loop-test .taken)) in omega (arith, ok .r-high)
+
+sub-from : tie.Need-sub-from Inv-loop2 μ-loop2 Inv-loop μ-loop
+sub-from c = let ok = (c .before .before .before .before .pre .each _ (c .before .before .loop-test .taken)) in omega (arith, ok .r-low)
+
+mul-many : tie.Need-mul-many Inv-loop2 μ-loop2 Inv-loop μ-loop
+mul-many c = let ok = (c .before .before .before .before .before .pre .each _ (c .before .before .before .loop-test .taken)) in omega (arith, ok .r-high)
+
+loop2-holds : tie.Need-loop2-holds Inv-loop2 μ-loop2 Inv-loop μ-loop
+loop2-holds c =
+    let ok = (c .before .before .before .before .before .pre .each _ (c .before .before .before .loop-test .taken)) in
+    (ok, c .before .before .before .before .loop .inv .1, omega arith, upto-none _ _ _ _ (λ k a l. met-below _ _ _ ok k a (omega arith)))
+
+add-at : tie.Need-add-at Inv-loop2 μ-loop2 Inv-loop μ-loop
+add-at c = search needs
+
+mul-old : tie.Need-mul-old Inv-loop2 μ-loop2 Inv-loop μ-loop
+mul-old c = search needs
+
+array-copy-out-old : tie.Need-array-copy-out-old Inv-loop2 μ-loop2 Inv-loop μ-loop
+array-copy-out-old c = search needs
+
+mark-of-requires : tie.Need-mark-of-requires Inv-loop2 μ-loop2 Inv-loop μ-loop
+mark-of-requires c κs = c .before .before .loop2 .inv .0
+
+meet-requires : tie.Need-meet-requires Inv-loop2 μ-loop2 Inv-loop μ-loop
+meet-requires c κs = search needs
+
+mul-out : tie.Need-mul-out Inv-loop2 μ-loop2 Inv-loop μ-loop
+mul-out c = search needs
+
+array-set-from-out : tie.Need-array-set-from-out Inv-loop2 μ-loop2 Inv-loop μ-loop
+array-set-from-out c = search needs
+
+add-j : tie.Need-add-j Inv-loop2 μ-loop2 Inv-loop μ-loop
+add-j c = search needs
+
+loop2-less : tie.Need-loop2-less Inv-loop2 μ-loop2 Inv-loop μ-loop
+loop2-less c = search needs
+
+loop2-again : tie.Need-loop2-again Inv-loop2 μ-loop2 Inv-loop μ-loop
+loop2-again c =
+    let i = c .before .before .before .before .loop2 .inv in (
+      i .0,
+      i .1,
+      omega arith,
+      upto-more _ _ _ _ _ _ _ (omega arith) (rw (i .1) (omega arith))
+          (rw (c .meet .ensures) (met-inside _ _ _ (i .0) _ _ _ (c .before .mark-of .result) refl (c .before .before .before .loop2-test .taken) (c .before .mark-of .ensures)))
+          (i .3),
+    )
+
+add-k : tie.Need-add-k Inv-loop2 μ-loop2 Inv-loop μ-loop
+add-k c = search needs
+
+loop-less : tie.Need-loop-less Inv-loop2 μ-loop2 Inv-loop μ-loop
+loop-less c = search needs
+
+loop-again : tie.Need-loop-again Inv-loop2 μ-loop2 Inv-loop μ-loop
+loop-again c =
+    let l = c .before .before .before .before .before .before in
+    let o = l .loop .inv in
+    let i = c .before .loop2 .inv in (
+      o .0,
+      i .3 .len ∙ i .1,
+      omega arith,
+      λ h t. says-more _ _ (omega (arith, o .0, l .before .pre .few)) _ (c .before .before .before .before .before .loop-test .taken) h _ _
+          (upto-all _ _ _ _ _ (λ j a e. met-above _ _ _ (i .0) j a (omega arith)) (i .3) h (rw (i .1) t)) (o .3 h t),
+    )
+
+returns : tie.Need-returns Inv-loop2 μ-loop2 Inv-loop μ-loop
+returns c =
+    λ h l.
+    let start = c .before .before in
+    let i = c .before .loop .inv in
+    subst (λ (fs : List Field). Says (getD (c .before .loop .out) h Any) (permitted zoneF fs h))
+    (planned-all (start .args .t1) (start .args .count) _ (c .loop-test .left) (omega (arith, i .0, start .pre .few)))
+    (i .3 h l)
+
+pub permitted-spec : {M : Type 1} → statement M
+permitted-spec =
+    tie.close
+    (tie.spec
+    Inv-loop2
+    μ-loop2
+    Inv-loop
+    μ-loop
+    loop-holds
+    mul-f
+    array-copy-out-f
+    mul-from
+    sub-from
+    mul-many
+    loop2-holds
+    add-at
+    mul-old
+    array-copy-out-old
+    mark-of-requires
+    meet-requires
+    mul-out
+    array-set-from-out
+    add-j
+    loop2-less
+    loop2-again
+    add-k
+    loop-less
+    loop-again
+    returns)

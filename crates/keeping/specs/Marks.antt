@@ -1,0 +1,79 @@
+-- What the marks and the numbers of the code mean in the rules: which values a mark permits, and which source a number stands for.
+-- Assumes nothing.
+use mathlib.Core.Path.{_≡_}
+use mathlib.Core.Bool.{Bool, true, false}
+use mathlib.Core.List.{List}
+use Prim.Native.Nat.{ℕ, _+_, _≤_, _<_}
+use lib.Dec.{eqb}
+use lib.ListN.{length, getD}
+use Rattle.rules.specs.Halves.{readsFrom, readsMany, blank, fieldHalves, Source, from, constant, froms}
+use Rattle.rules.specs.Permitted.{digit, sign, any, count}
+use Rattle.rules.specs.Lent.{zoneF}
+use Rattle.terms.specs.Meaning.{fieldOf}
+use Rattle.terms.specs.declared.Field.{Field}
+use Rattle.keeping.specs.declared.Mark.{Mark}
+use Rattle.keeping.specs.declared.Mark.the-variants.{Any, Digit, Sign, Only, Nothing}
+
+-- ---- marks
+
+-- a mark permits the value v
+abbrev pub markAllows : Mark → ℕ → Bool
+markAllows Any v = any v
+markAllows Digit v = digit v
+markAllows Sign v = sign v
+markAllows (Only w) v = eqb v w
+markAllows Nothing v = false
+
+-- w alone, where it is permitted
+abbrev pub onlyIf : Bool → ℕ → Mark
+onlyIf true w = Only w
+onlyIf false w = Nothing
+
+-- what both permit
+abbrev pub meetOf : Mark → Mark → Mark
+meetOf Any b = b
+meetOf Digit Any = Digit
+meetOf Digit Digit = Digit
+meetOf Digit Sign = Nothing
+meetOf Digit (Only w) = onlyIf (markAllows Digit w) w
+meetOf Digit Nothing = Nothing
+meetOf Sign Any = Sign
+meetOf Sign Digit = Nothing
+meetOf Sign Sign = Sign
+meetOf Sign (Only w) = onlyIf (markAllows Sign w) w
+meetOf Sign Nothing = Nothing
+meetOf (Only w) b = onlyIf (markAllows b w) w
+meetOf Nothing b = Nothing
+
+-- how many values a mark permits
+unfoldable pub choicesOf : Mark → ℕ
+choicesOf a = count (markAllows a) 16
+
+-- a mark permits just the halves that pass a test
+abbrev pub Says : Mark → (ℕ → Bool) → Type 0
+Says a p = (v : ℕ) → v < 16 → markAllows a v ≡ p v
+
+-- which values an array of marks permits in half i
+unfoldable pub permitsIn : List Mark → ℕ → ℕ → Bool
+permitsIn marks i v = markAllows (getD marks i Any) v
+
+-- ---- sources
+
+-- the number of a source: the input half, or one number for all that is taken from none
+abbrev pub numbered : Source → ℕ
+numbered (from i) = i
+numbered (constant c) = 8192
+
+-- what stands past the end of a list of sources
+abbrev pub nowhere : Source
+nowhere = constant (blank 0)
+
+-- the number of the source of half j of what a field writes, for an input of as many halves as the field reads, or more
+unfoldable pub Gives : Field → ℕ → ℕ → Type 0
+Gives f j s =
+    (many : ℕ) → readsFrom (fieldOf f) + readsMany (fieldOf f) ≤ many
+    → s ≡ numbered (getD (fieldHalves zoneF constant (fieldOf f) (froms 0 many)) j nowhere)
+
+-- the numbers stand for these sources, place by place
+unfoldable pub Stand : List ℕ → List Source → Type 0
+Stand s ss = (g : ℕ) → g < length ss → getD s g 0 ≡ numbered (getD ss g nowhere)

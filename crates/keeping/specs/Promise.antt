@@ -1,0 +1,53 @@
+-- What `weigh` promises: the lowest half with no permitted value; else whether every half is kept, or the lowest that is lost. Assumes nothing.
+use mathlib.Core.Path.{_≡_}
+use mathlib.Core.Bool.{Bool, true, false}
+use mathlib.Core.List.{List}
+use Prim.Native.Nat.{ℕ, _+_, _*_, _≤_, _<_}
+use lib.Dec.{ltb, eqb}
+use lib.ListN.{getD}
+use Rattle.rules.specs.Halves.{Field as RuleField, sources}
+use Rattle.rules.specs.Permitted.{permitted, choices, firstOf}
+use Rattle.rules.specs.Keeping.{lostHalf}
+use Rattle.terms.specs.Meaning.{noField}
+use Rattle.terms.specs.declared.Field.{Field}
+use Rattle.terms.specs.declared.Kind.the-variants.{Copy}
+use Rattle.keeping.specs.declared.Weighed.{Weighed}
+use Rattle.keeping.specs.declared.Weighed.the-variants.{Barren, Kept, Lost}
+
+-- ---- what it asks
+
+-- a field that lies inside records of n and m bytes
+pub record FairField (n m : ℕ) (f : Field) : Type 0 where
+  pub r-low : 1 ≤ f .r
+  pub r-high : f .r + f .input ≤ n + 1
+  pub t-low : 1 ≤ f .t
+  pub t-high : f .t + f .output ≤ m + 1
+  pub input-low : 1 ≤ f .input
+  pub output-low : 1 ≤ f .output
+  pub copies : f .kind ≡ Copy → f .input ≡ f .output
+
+-- the first so many fields lie inside records of n and m bytes
+pub record Fair (fields : List Field) (count n m : ℕ) : Type 0 where
+  pub few : count ≤ 64
+  pub n-high : n ≤ 4096
+  pub m-high : m ≤ 4096
+  pub each : (k : ℕ) → k < count → FairField n m (getD fields k noField)
+
+-- ---- what it answers
+
+abbrev pub pick : Bool → Weighed → Weighed → Weighed
+pick true a b = a
+pick false a b = b
+
+-- the lowest of the 2n halves with no permitted value, or 2n
+unfoldable pub barrenOf : (ℕ → ℕ → Bool) → ℕ → ℕ
+barrenOf p n = firstOf (λ i. eqb (choices p i) 0) 0 (2 * n)
+
+-- the lowest of the 2n halves with two or more permitted values that is missing from an output of m bytes, or 2n
+unfoldable pub lostOf : ℕ → List RuleField → ℕ → ℕ → ℕ
+lostOf zone fs n m = lostHalf (permitted zone fs) (sources zone m fs (2 * n)) (2 * n)
+
+unfoldable pub weighedOf : ℕ → List RuleField → ℕ → ℕ → Weighed
+weighedOf zone fs n m =
+    pick (ltb (barrenOf (permitted zone fs) n) (2 * n)) (Barren (barrenOf (permitted zone fs) n))
+    (pick (eqb (lostOf zone fs n m) (2 * n)) Kept (Lost (lostOf zone fs n m)))

@@ -1,0 +1,300 @@
+// Whether the fields of a plan leave every half byte a permitted value, and whether they keep every half byte (document 01, "Half bytes").
+ghost use mathlib.Core.Path.{_≡_};
+ghost use mathlib.Core.List.{List, map};
+ghost use Prim.Native.Nat.{ℕ, _+_, _-_, _*_, _≤_, _<_};
+ghost use lib.ListN.{length, take, getD};
+ghost use Rattle.rules.specs.Halves.{Source, sources as sourcesBy};
+ghost use Rattle.rules.specs.Permitted.{kindAllows, permitted as permittedBy};
+ghost use Rattle.rules.specs.Keeping.{lostHalf};
+ghost use Rattle.rules.specs.Lent.{zoneF};
+ghost use Rattle.terms.specs.Meaning.{fieldOf};
+ghost use Rattle.keeping.specs.Marks.{markAllows, onlyIf, meetOf, choicesOf, Says, permitsIn, Gives, Stand};
+ghost use Rattle.keeping.specs.Promise.{FairField, Fair, barrenOf, weighedOf};
+use terms::Field;
+use terms::Kind;
+
+// F, which stands before each unpacked digit.
+const ZONE: u8 = 15;
+
+// The source of a half that is taken from none: a fill, a zone or a blank. A smaller number is the input half that it is taken from.
+const NOWHERE: u16 = 8192;
+
+// Which values a half may have.
+enum Mark {
+    Any,
+    Digit,
+    Sign,
+    Only(u8),
+    Nothing,
+}
+
+// What a plan's fields do to its records: no value of a half would do for all of them; every half is kept; or some half is lost.
+pub enum Weighed {
+    Barren { half: usize },
+    Kept,
+    Lost { half: usize },
+}
+
+// Whether a mark permits a value.
+fn permits(a: Mark, v: u8) -> bool
+    ensures { λ r. ⌜ r ≡ markAllows a v ⌝ }
+{
+    match a {
+        Mark::Any => v <= 15,
+        Mark::Digit => v <= 9,
+        Mark::Sign => 10 <= v && v <= 15,
+        Mark::Only(w) => v == w,
+        Mark::Nothing => false,
+    }
+}
+
+// The value v alone, where a permits it.
+fn only(v: u8, a: Mark) -> Mark
+    ensures { λ r. ⌜ r ≡ onlyIf (markAllows a v) v ⌝ }
+{
+    if permits(a, v) {
+        Mark::Only(v)
+    } else {
+        Mark::Nothing
+    }
+}
+
+// What two marks both permit.
+fn meet(a: Mark, b: Mark) -> Mark
+    ensures { λ r. ⌜ r ≡ meetOf a b ⌝ }
+{
+    match a {
+        Mark::Any => b,
+        Mark::Digit => match b {
+            Mark::Any => a,
+            Mark::Digit => a,
+            Mark::Sign => Mark::Nothing,
+            Mark::Only(w) => only(w, a),
+            Mark::Nothing => b,
+        },
+        Mark::Sign => match b {
+            Mark::Any => a,
+            Mark::Digit => Mark::Nothing,
+            Mark::Sign => a,
+            Mark::Only(w) => only(w, a),
+            Mark::Nothing => b,
+        },
+        Mark::Only(v) => only(v, b),
+        Mark::Nothing => a,
+    }
+}
+
+// How many values a mark permits.
+fn choices(a: Mark) -> usize
+    ensures { λ r. ⌜ r ≡ choicesOf a ⌝ }
+{
+    match a {
+        Mark::Any => 16,
+        Mark::Digit => 10,
+        Mark::Sign => 6,
+        Mark::Only(v) => { if v <= 15 { 1 } else { 0 } }
+        Mark::Nothing => 0,
+    }
+}
+
+// What a field permits in half j of its own input.
+fn mark_of(f: Field, j: usize) -> Mark
+    requires { ⌜ FairField 4096 4096 f ⌝ }
+    ensures { λ r. ⌜ Says r (kindAllows zoneF (fieldOf f .kind) j) ⌝ }
+{
+    let kind = f.kind;
+    match kind {
+        Kind::Copy => Mark::Any,
+        Kind::Pack => {
+            if j % 2 == 1 {
+                Mark::Digit
+            } else if j == 2 * f.input - 2 {
+                Mark::Sign
+            } else {
+                Mark::Only(ZONE)
+            }
+        }
+        Kind::Unpack => {
+            if j == 2 * f.input - 1 {
+                Mark::Sign
+            } else {
+                Mark::Digit
+            }
+        }
+    }
+}
+
+// The marks of all fields: a half read by several must satisfy them all. A field asks nothing of the halves that it does not read, so each goes
+// through its own halves alone, in place: a function for each field would copy the array each time.
+fn permitted(fields: [Field; 64], count: usize) -> [Mark; 8192]
+    requires { ⌜ Fair fields count 4096 4096 ⌝ }
+    ensures { λ r. ⌜ ((h : ℕ) → h < 8192 → Says (getD r h Mark.Any) (permittedBy zoneF (map fieldOf (take count fields)) h)) ⌝ }
+{
+    let mut out = [Mark::Any; 8192];
+    let mut k = 0;
+    while k < count {
+        let f = fields[k];
+        let from = 2 * f.r - 2;
+        let many = 2 * f.input;
+        let mut j = 0;
+        while j < many {
+            let at = from + j;
+            let old = out[at];
+            out[at] = meet(mark_of(f, j), old);
+            j += 1;
+        }
+        k += 1;
+    }
+    out
+}
+
+// The lowest of the 2n halves with no permitted value, or 2n.
+fn barren_half(marks: [Mark; 8192], n: usize) -> usize
+    requires { ⌜ n ≤ 4096 ⌝ }
+    ensures { λ r. ⌜ r ≡ barrenOf (permitsIn marks) n ⌝ }
+{
+    let many = 2 * n;
+    let mut h = 0;
+    while h < many {
+        let mark = marks[h];
+        if choices(mark) == 0 {
+            return h;
+        }
+        h += 1;
+    }
+    many
+}
+
+// The source of half j of what a pack writes: the last byte's halves change places, the other low halves follow leftwards, then comes fill.
+fn pack_source(f: Field, j: usize) -> u16
+    requires { ⌜ FairField 4096 4096 f ⌝ }
+    requires { ⌜ (j < 2 * f .output) × (f .kind ≡ Kind.Pack) ⌝ }
+    ensures { λ r. ⌜ Gives f j r ⌝ }
+{
+    let end = 2 * (f.r + f.input) - 2;
+    let right = 2 * f.output - 1 - j;
+    if right == 0 {
+        return (end - 2) as u16;
+    }
+    if right == 1 {
+        return (end - 1) as u16;
+    }
+    if right <= f.input {
+        return (end + 1 - 2 * right) as u16;
+    }
+    NOWHERE
+}
+
+// The source of half j of what an unpack writes: the last byte's halves change places, every other half has a byte of its own with the zone
+// before it, then comes fill.
+fn unpack_source(f: Field, j: usize) -> u16
+    requires { ⌜ FairField 4096 4096 f ⌝ }
+    requires { ⌜ (j < 2 * f .output) × (f .kind ≡ Kind.Unpack) ⌝ }
+    ensures { λ r. ⌜ Gives f j r ⌝ }
+{
+    let end = 2 * (f.r + f.input) - 2;
+    let right = 2 * f.output - 1 - j;
+    if right == 0 {
+        return (end - 2) as u16;
+    }
+    if right == 1 {
+        return (end - 1) as u16;
+    }
+    if right % 2 == 1 {
+        return NOWHERE;
+    }
+    if right / 2 + 1 < 2 * f.input {
+        return (end - 2 - right / 2) as u16;
+    }
+    NOWHERE
+}
+
+// The source of half j of what a field writes.
+fn source(f: Field, j: usize) -> u16
+    requires { ⌜ FairField 4096 4096 f ⌝ }
+    requires { ⌜ j < 2 * f .output ⌝ }
+    ensures { λ r. ⌜ Gives f j r ⌝ }
+{
+    let kind = f.kind;
+    match kind {
+        Kind::Copy => (2 * f.r - 2 + j) as u16,
+        Kind::Pack => pack_source(f, j),
+        Kind::Unpack => unpack_source(f, j),
+    }
+}
+
+// The source of each half of the output record after all fields, a later one over an earlier one, in place as the marks.
+fn sources(fields: [Field; 64], count: usize) -> [u16; 8192]
+    requires { ⌜ Fair fields count 4096 4096 ⌝ }
+    ensures { λ r. ⌜ ((n m : ℕ) → Fair fields count n m → Stand r (sourcesBy zoneF m (map fieldOf (take count fields)) (2 * n))) ⌝ }
+{
+    let mut out = [NOWHERE; 8192];
+    let mut k = 0;
+    while k < count {
+        let f = fields[k];
+        let from = 2 * f.t - 2;
+        let many = 2 * f.output;
+        let mut j = 0;
+        while j < many {
+            let at = from + j;
+            out[at] = source(f, j);
+            j += 1;
+        }
+        k += 1;
+    }
+    out
+}
+
+// The lowest of the 2n input halves with two or more permitted values from which none of the 2m output halves is taken, or 2n. The inner walk
+// goes on where it last stood, so each output half is looked at once in all.
+fn lost_half(marks: [Mark; 8192], sources: &[u16; 8192], n: usize, m: usize) -> usize
+    requires { ⌜ (n ≤ 4096) × (m ≤ 4096) ⌝ }
+    ensures { λ r. ⌜ ((ss : List Source) → length ss ≡ 2 * m → Stand (now (sources .entry)) ss → r ≡ lostHalf (permitsIn marks) ss (2 * n)) ⌝ }
+{
+    let inputs = 2 * n;
+    let outputs = 2 * m;
+    let mut seen = [false; 8192];
+    let mut h = 0;
+    let mut g = 0;
+    let place = 'walk: loop {
+        if inputs <= h {
+            break 'walk inputs;
+        }
+        let mark = marks[h];
+        if choices(mark) < 2 {
+            h += 1;
+            continue 'walk;
+        }
+        while !seen[h] {
+            if outputs <= g {
+                break 'walk h;
+            }
+            let from = sources[g];
+            if from < NOWHERE {
+                let at = from as usize;
+                seen[at] = true;
+            }
+            g += 1;
+        }
+        h += 1;
+    };
+    place
+}
+
+// What the fields of a plan do to records of n bytes, which become m bytes.
+pub fn weigh(fields: [Field; 64], count: usize, n: usize, m: usize) -> Weighed
+    requires { ⌜ Fair fields count n m ⌝ }
+    ensures { λ r. ⌜ r ≡ weighedOf zoneF (map fieldOf (take count fields)) n m ⌝ }
+{
+    let marks = permitted(fields, count);
+    let barren = barren_half(marks, n);
+    if barren < 2 * n {
+        return Weighed::Barren { half: barren };
+    }
+    let taken = sources(fields, count);
+    let lost = lost_half(marks, &taken, n, m);
+    if lost < 2 * n {
+        return Weighed::Lost { half: lost };
+    }
+    Weighed::Kept
+}
