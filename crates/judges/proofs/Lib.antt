@@ -1,0 +1,2 @@
+pub mod FairLaws
+pub mod JudgeLaws

@@ -1,0 +1,105 @@
+-- What the fields of the plan do, told by weighing them, and then the tail. In TC and TR there is no field, so no half is without a value.
+use mathlib.Core.Path.{_≡_, sym, subst, _∙_}
+use mathlib.Core.Bool.{true}
+use lib.ListN.{length, length-map}
+use borrow.Author.Tests.{not-true, not-false}
+use borrow.Author.Needs.{needs}
+use Rattle.rules.specs.Lent.{zoneF}
+use Rattle.rules.specs.Plan.{selects}
+use Rattle.terms.specs.Meaning.{modeOf, fieldsIn, planIn}
+use Rattle.keeping.proofs.PlanLaws.{Tells, weighed-tells}
+use Rattle.judges.specs.Promise.{Judges}
+use Rattle.judges.proofs.FairLaws.{fair-sound}
+use Rattle.judges.proofs.JudgeLaws.{barren, carried, lost, kept}
+use Rattle.judges.proofs.by_halves.Statement.{statement}
+use Rattle.judges.proofs.by_halves.Tie as tie
+
+-- the array has 64 fields
+many : (c : tie.Start) → length (c .args .asked .fields) ≡ 64
+many c = sym (length-map (c .args .asked .fields) _) ∙ c .good .0 .1 .1 .1 .1 .1 .1 .1 .0 .1 .0 .1
+
+-- TF or TRF, past the first test
+selected : (c : tie.Else1) → selects (modeOf (c .before .before .args .asked .mode)) ≡ true
+selected c = sym (c .before .selects .ensures) ∙ not-false (c .before .selects .result) (c .if1 .left)
+
+-- what the weighing tells of the plan
+told : (c : tie.After-weigh) → Tells (planIn zoneF (c .before .before .before .before .before .before .args .asked)) (c .weigh .result)
+unfolding planIn fieldsIn
+told c =
+    weighed-tells (planIn zoneF (c .before .before .before .before .before .before .args .asked)) (c .weigh .result)
+    (rw (c .before .before .before .record-length .ensures, c .before .record-length2 .ensures) at (c .weigh .ensures))
+
+selects-requires : tie.Need-selects-requires
+selects-requires c κs = search needs
+
+returns : tie.Need-returns
+unfolding Judges
+returns c =
+    let start = c .before .before in
+    λ a m. carried (start .args .asked) a m (start .pre .1) (sym (c .before .selects .ensures) ∙ not-true (c .before .selects .result) (c .if1 .taken))
+
+record-length-requires : tie.Need-record-length-requires
+record-length-requires c κs = search needs
+
+record-length-requires-2 : tie.Need-record-length-requires-2
+record-length-requires-2 c κs = search needs
+
+weigh-requires : tie.Need-weigh-requires
+weigh-requires c κs =
+    let start = c .before .before .before .before .before in
+    rw (c .before .before .record-length .ensures, c .record-length2 .ensures) (fair-sound (start .args .asked) (start .pre .0) (many start) (start .pre .1))
+
+enum-known-weighed : tie.Need-enum-known-weighed
+enum-known-weighed c = search needs
+
+enum-known-weighed-2 : tie.Need-enum-known-weighed-2
+enum-known-weighed-2 c = search needs
+
+enum-told : tie.Need-enum-told
+enum-told c = search needs
+
+block-length-requires : tie.Need-block-length-requires
+block-length-requires c κs = search needs
+
+by-tail-requires : tie.Need-by-tail-requires
+by-tail-requires c κs = search needs
+
+returns-2 : tie.Need-returns-2
+unfolding Judges
+returns-2 c =
+    let start = c .before .before .before .before .before .before .before .before .before in
+    let t = subst (Tells (planIn zoneF (start .args .asked))) (c .before .weighed .given .1) (told (c .before .before .before)) in
+    λ a m. barren (start .args .asked) a m (start .pre .1) _ (t .0) (t .1)
+
+returns-3 : tie.Need-returns-3
+unfolding Judges
+returns-3 c =
+    let start = c .before .before .before .before .before .before .before .before .before in
+    let t = subst (Tells (planIn zoneF (start .args .asked))) (c .before .weighed2 .given .1) (told (c .before .before .before)) in
+    λ a m. lost (start .args .asked) a m (start .pre .1) (t .0) (selected (c .before .before .before .before .before .before .before)) _ (t .1) (t .2)
+
+returns-4 : tie.Need-returns-4
+unfolding Judges
+returns-4 c =
+    let start = c .before .before .before .before .before .before .before .before .before .before in
+    let t = subst (Tells (planIn zoneF (start .args .asked))) (c .before .before .enum-told .given .1) (told (c .before .before .before .before)) in
+    λ a m. rw (c .before .before .before .before .before .before .before .record-length .ensures, c .before .block-length .ensures) at (c .by-tail .ensures)
+    ∙ kept (start .args .asked) a m (start .pre .1) (t .0) (selected (c .before .before .before .before .before .before .before .before)) (t .1)
+
+pub by-halves-spec : {M : Type 1} → statement M
+by-halves-spec =
+    tie.close
+    (tie.spec
+    selects-requires
+    returns
+    record-length-requires
+    record-length-requires-2
+    weigh-requires
+    enum-known-weighed
+    enum-known-weighed-2
+    enum-told
+    block-length-requires
+    by-tail-requires
+    returns-2
+    returns-3
+    returns-4)

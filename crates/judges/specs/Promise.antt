@@ -1,0 +1,54 @@
+-- What `judge` promises: the verdict is what the rules answer. Assumes nothing.
+use mathlib.Core.Path.{_≡_}
+use mathlib.Core.Bool.{Bool, cond, not, _||_}
+use Prim.Native.Nat.{ℕ, _+_}
+use lib.Dec.{eqb}
+use lib.ListN.{take}
+use Rattle.rules.specs.Base.{_⇒_, joined}
+use Rattle.rules.specs.Places.{All}
+use Rattle.rules.specs.Answer.{Answer, fine, refuse, _>>_}
+use Rattle.rules.specs.Grammar.{Format}
+use Rattle.rules.specs.Asked.{fieldsOf, Asked as RuleAsked}
+use Rattle.rules.specs.Plan.{Plan, assembled, combined, isFV, lostAt, keeps, PlanAnswer}
+use Rattle.rules.specs.Rows.{UtilityWithin, FieldWithin}
+use Rattle.rules.specs.Lent.{zoneF}
+use Rattle.terms.specs.Meaning.{OneSize, Means}
+use Rattle.terms.specs.declared.Asked.{Asked}
+use Rattle.judges.specs.declared.Verdict.{Verdict}
+use Rattle.judges.specs.declared.Verdict.the-variants.{Refused, Keeping, Losing}
+
+-- ---- verdicts
+
+-- what the rules answer to what a deck asks for: refusals 8 to 10, or the plan
+abbrev pub planned : ℕ → RuleAsked → Answer Plan
+planned zone a = combined (assembled zone a) (a .cards) >> fine (assembled zone a)
+
+abbrev pub verdictOf : Answer Plan → Verdict
+verdictOf (fine p) = cond (keeps p) Keeping (Losing (lostAt p))
+verdictOf (refuse r) = Refused (r .number) (r .place)
+
+-- the paper's numbers for a verdict on a plan of so many fields
+abbrev pub numbersOf : ℕ → Verdict → PlanAnswer
+numbersOf fields (Refused number place) = record { refusal = number; place = place; keeping = 0; lost = 0; fields = 0 }
+numbersOf fields Keeping = record { refusal = 0; place = 0; keeping = 1; lost = 0; fields = fields }
+numbersOf fields (Losing half) = record { refusal = 0; place = 0; keeping = 0; lost = half; fields = fields }
+
+-- the struct is judged as what it means is in the rules
+unfoldable pub Judges : Asked → Verdict → Type 0
+Judges x r = (a : RuleAsked) → Means x a → r ≡ verdictOf (planned zoneF a)
+
+-- ---- what it asks
+
+-- the struct says what some deck asks for, its numbers within their limits
+pub record Asks (x : Asked) : Type 0 where
+  pub asked : RuleAsked
+  pub means : Means x asked
+  pub utility : UtilityWithin (asked .utility)
+  pub fields : All FieldWithin (fieldsOf (joined (asked .cards)))
+  pub one-size : All OneSize (take (x .count) (x .fields))
+
+-- ---- the tail
+
+-- in FV CV is given or m is n+8
+abbrev pub tailOf : Format → ℕ → ℕ → ℕ → Bool
+tailOf f cv n m = isFV f ⇒ (not (eqb cv 0) || eqb m (n + 8))

@@ -1,0 +1,84 @@
+// The verdict on what a deck asks for: refusals 8 to 10, whether the plan keeps, and else the lost place.
+use combinations::Combined;
+use keeping::Weighed;
+use terms::Asked;
+use terms::Format;
+ghost use mathlib.Core.Path.{_≡_};
+ghost use mathlib.Core.Bool.{cond};
+ghost use Prim.Native.Nat.{_*_, _≤_};
+ghost use Rattle.terms.specs.Meaning.{formatOf};
+ghost use Rattle.combinations.specs.Promise.{AskedFair, combinedOf};
+ghost use Rattle.judges.specs.Promise.{tailOf, Asks, Judges};
+
+pub enum Verdict {
+    Refused { number: usize, place: usize },
+    Keeping,
+    Losing { half: usize },
+}
+
+// Whether what stands past the first n bytes of a record is kept: in FV by CV, or since a block of n+8 bytes holds no more.
+fn tail_kept(format: Format, cv: usize, n: usize, m: usize) -> bool
+    requires { ⌜ n ≤ 4096 ⌝ }
+    ensures { λ r. ⌜ r ≡ tailOf (formatOf format) cv n m ⌝ }
+{
+    if !combinations::is_fv(format) {
+        return true;
+    }
+    if cv != 0 {
+        return true;
+    }
+    m == n + 8
+}
+
+// Where no half of the first n bytes is missing, the tail decides; its lost place is 2n.
+fn by_tail(format: Format, cv: usize, n: usize, m: usize) -> Verdict
+    requires { ⌜ n ≤ 4096 ⌝ }
+    ensures { λ r. ⌜ r ≡ cond (tailOf (formatOf format) cv n m) Verdict.Keeping (Verdict.Losing (2 * n)) ⌝ }
+{
+    if !tail_kept(format, cv, n, m) {
+        return Verdict::Losing { half: 2 * n };
+    }
+    Verdict::Keeping
+}
+
+// Where combinations and fields are right. TC and TR plans keep: they have no fields, and carry records unchanged.
+fn by_halves(asked: Asked) -> Verdict
+    requires { ⌜ AskedFair asked ⌝ }
+    requires { ⌜ combinedOf asked ≡ Combined.Sound ⌝ }
+    ensures { λ r. ⌜ Judges asked r ⌝ }
+{
+    let mode = asked.mode;
+    if !combinations::selects(mode) {
+        return Verdict::Keeping;
+    }
+    let input = asked.input;
+    let output = asked.output;
+    let n = combinations::record_length(input);
+    let fields = asked.fields;
+    let weighed = keeping::weigh(fields, asked.count, n, combinations::record_length(output));
+    let format = asked.format;
+    match weighed {
+        Weighed::Barren { half } => Verdict::Refused {
+            number: 10,
+            place: half,
+        },
+        Weighed::Lost { half } => Verdict::Losing { half },
+        Weighed::Kept => by_tail(format, asked.cv, n, combinations::block_length(input)),
+    }
+}
+
+// Refusal 8 before 9 before 10 before the lost place.
+pub fn judge(asked: Asked) -> Verdict
+    requires { ⌜ Asks asked ⌝ }
+    ensures { λ r. ⌜ Judges asked r ⌝ }
+{
+    let combined = combinations::combine(asked);
+    match combined {
+        Combined::Broken { place } => Verdict::Refused { number: 8, place },
+        Combined::Outside { field } => Verdict::Refused {
+            number: 9,
+            place: field,
+        },
+        Combined::Sound => by_halves(asked),
+    }
+}
