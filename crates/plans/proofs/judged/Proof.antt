@@ -1,0 +1,55 @@
+-- By the verdict, in each of its three cases.
+use mathlib.Core.Path.{ap, sym, _∙_}
+use borrow.Author.Needs.{needs}
+use Rattle.judges.specs.Promise.{Judges}
+use Rattle.plans.specs.Promise.{plannedBy, Verdicts}
+use Rattle.plans.proofs.judged.Statement.{statement}
+use Rattle.plans.proofs.judged.Tie as tie
+
+judge-requires : tie.Need-judge-requires
+judge-requires c κs = search needs
+
+enum-known-verdict : tie.Need-enum-known-verdict
+enum-known-verdict c = search needs
+
+refused-requires : tie.Need-refused-requires
+refused-requires c κs = search needs
+
+enum-told : tie.Need-enum-told
+enum-told c = search needs
+
+accepted-requires : tie.Need-accepted-requires
+accepted-requires c κs = search needs
+
+enum-known-verdict-2 : tie.Need-enum-known-verdict-2
+enum-known-verdict-2 c = search needs
+
+accepted-requires-2 : tie.Need-accepted-requires-2
+accepted-requires-2 c κs = search needs
+
+returns : tie.Need-returns
+unfolding Verdicts Judges
+returns c = λ a m. c .refused .ensures ∙ ap (plannedBy (c .before .before .before .before .before .args .asked)) (sym (c .before .before .verdict .given .1) ∙ c .before .before .before .before .judge .ensures a m)
+
+returns-2 : tie.Need-returns-2
+unfolding Verdicts Judges
+returns-2 c = λ a m. c .accepted .ensures ∙ ap (plannedBy (c .before .before .before .before .args .asked)) (sym (c .before .enum-told .given .1) ∙ c .before .before .before .judge .ensures a m)
+
+returns-3 : tie.Need-returns-3
+unfolding Verdicts Judges
+returns-3 c = λ a m. c .accepted2 .ensures ∙ ap (plannedBy (c .before .before .before .before .before .args .asked)) (sym (c .before .before .verdict2 .given .1) ∙ c .before .before .before .before .judge .ensures a m)
+
+pub judged-spec : {M : Type 1} → statement M
+judged-spec =
+    tie.close
+    (tie.spec
+    judge-requires
+    enum-known-verdict
+    refused-requires
+    enum-told
+    accepted-requires
+    enum-known-verdict-2
+    accepted-requires-2
+    returns
+    returns-2
+    returns-3)

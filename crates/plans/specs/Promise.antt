@@ -1,0 +1,91 @@
+-- What is promised of the plan of a deck. Assumes nothing.
+use mathlib.Core.Path.{_≡_}
+use mathlib.Core.List.{List, [], _++_, map}
+use Prim.Native.Nat.{ℕ, _-_}
+use lib.ListN.{length, replicate}
+use Rattle.rules.specs.Answer.{Answer, fine, refuse}
+use Rattle.rules.specs.Halves.{Field as RuleField}
+use Rattle.rules.specs.Asked.{Asked as RuleAsked, askedOf}
+use Rattle.rules.specs.Plan.{Plan, PlanAnswer, planAnswer}
+use Rattle.rules.specs.Lent.{zoneF, entryOf, plan}
+use Rattle.terms.specs.Meaning.{Means, planIn, entryFor, noEntry}
+use Rattle.terms.specs.Fair.{PlanFair}
+use Rattle.terms.specs.declared.Asked.{Asked}
+use Rattle.terms.specs.declared.Entry.{Entry}
+use Rattle.cards.specs.Promise.{nothingAsked}
+use Rattle.judges.specs.Promise.{planned, verdictOf}
+use Rattle.judges.specs.declared.Verdict.{Verdict}
+use Rattle.judges.specs.declared.Verdict.the-variants.{Refused, Keeping, Losing}
+use Rattle.plans.specs.declared.Planned.{Planned}
+use Rattle.plans.specs.declared.Filled.{Filled}
+
+-- ---- the plan of a deck
+
+abbrev pub refusedWith : ℕ → ℕ → Planned
+refusedWith number place = record { refusal = number; place = place; keeping = 0; lost = 0; fields = 0; asked = nothingAsked }
+
+abbrev pub keptAs : Asked → ℕ → ℕ → Planned
+keptAs x keeping lost = record { refusal = 0; place = 0; keeping = keeping; lost = lost; fields = x .count; asked = x }
+
+-- the verdict on what a deck asks for, with the plan
+abbrev pub plannedBy : Asked → Verdict → Planned
+plannedBy x (Refused number place) = refusedWith number place
+plannedBy x Keeping = keptAs x 1 0
+plannedBy x (Losing half) = keptAs x 0 half
+
+unfoldable pub Verdicts : Asked → Planned → Type 0
+Verdicts x r = (a : RuleAsked) → Means x a → r ≡ plannedBy x (verdictOf (planned zoneF a))
+
+-- the five numbers
+abbrev pub numbersIn : Planned → PlanAnswer
+numbersIn r = record { refusal = r .refusal; place = r .place; keeping = r .keeping; lost = r .lost; fields = r .fields }
+
+-- the struct holds the plan p of the deck: it says just what the deck asks for
+pub record Holds (deck : List ℕ) (p : Plan) (x : Asked) : Type 0 where
+  pub is : planIn zoneF x ≡ p
+  pub fair : PlanFair x
+  pub means : (a : RuleAsked) → askedOf deck ≡ fine a → Means x a
+
+-- where the deck is refused it holds nothing
+abbrev pub HoldsFor : List ℕ → Answer Plan → Asked → Type 0
+HoldsFor deck (fine p) x = Holds deck p x
+HoldsFor deck (refuse r) x = x ≡ nothingAsked
+
+pub record Plans (deck : List ℕ) (r : Planned) : Type 0 where
+  pub numbers : numbersIn r ≡ planAnswer (plan deck)
+  pub held : HoldsFor deck (plan deck) (r .asked)
+
+-- it is the plan of some deck
+pub record OfDeck (r : Planned) : Type 0 where
+  pub deck : List ℕ
+  pub plans : Plans deck r
+
+-- ---- the fields for a lent table
+
+-- an entry for each field, and nothing behind them: 64 in all
+unfoldable pub tableOf : List RuleField → List Entry
+tableOf fs = map entryFor (map entryOf fs) ++ replicate (64 - length fs) noEntry
+
+-- the numbers, and so many entries to store
+abbrev pub filledWith : PlanAnswer → List RuleField → Filled
+filledWith n fs =
+    record {
+      refusal = n .refusal;
+      place = n .place;
+      keeping = n .keeping;
+      lost = n .lost;
+      fields = n .fields;
+      entries = tableOf fs;
+      store = length fs;
+    }
+
+abbrev pub notFilled : ℕ → ℕ → Filled
+notFilled number place = filledWith (record { refusal = number; place = place; keeping = 0; lost = 0; fields = 0 }) []
+
+-- the fields that are stored
+abbrev pub stored : Answer Plan → List RuleField
+stored (fine p) = p .fields
+stored (refuse r) = []
+
+abbrev pub filledFor : Answer Plan → Filled
+filledFor x = filledWith (planAnswer x) (stored x)

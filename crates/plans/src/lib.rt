@@ -1,0 +1,197 @@
+// From a deck to its plan: refusals 1 to 10, keeping and the lost place; and the plan as entries for a lent table.
+use judges::Verdict;
+use terms::Asked;
+use terms::Entry;
+use terms::Field;
+use terms::Kind;
+ghost use mathlib.Core.Path.{_≡_};
+ghost use mathlib.Core.List.{List, [], map};
+ghost use Prim.Native.Nat.{ℕ};
+ghost use lib.ListN.{take};
+ghost use Rattle.rules.specs.Lent.{kindNumber, entryOf, planInto};
+ghost use Rattle.terms.specs.Meaning.{kindOf, fieldOf, entryFor};
+ghost use Rattle.combinations.specs.Promise.{FieldFair, FieldsFair};
+ghost use Rattle.judges.specs.Promise.{Asks};
+ghost use Rattle.plans.specs.Promise.{refusedWith, keptAs, Verdicts, Plans, OfDeck, tableOf, notFilled, filledFor};
+
+// ---- the plan of a deck
+
+// What a plan answers, and the plan: what the deck asks for, or nothing where it is refused.
+pub struct Planned {
+    pub refusal: usize,
+    pub place: usize,
+    pub keeping: usize,
+    pub lost: usize,
+    pub fields: usize,
+    pub asked: Asked,
+}
+
+// Refused, the others are 0.
+fn refused(number: usize, place: usize) -> Planned
+    ensures { λ r. ⌜ r ≡ refusedWith number place ⌝ }
+{
+    let asked = cards::nothing_asked();
+    Planned {
+        refusal: number,
+        place,
+        keeping: 0,
+        lost: 0,
+        fields: 0,
+        asked,
+    }
+}
+
+fn accepted(asked: Asked, keeping: usize, lost: usize) -> Planned
+    ensures { λ r. ⌜ r ≡ keptAs asked keeping lost ⌝ }
+{
+    Planned {
+        refusal: 0,
+        place: 0,
+        keeping,
+        lost,
+        fields: asked.count,
+        asked,
+    }
+}
+
+// What the cards ask for, judged.
+fn judged(asked: Asked) -> Planned
+    requires { ⌜ Asks asked ⌝ }
+    ensures { λ r. ⌜ Verdicts asked r ⌝ }
+{
+    let verdict = judges::judge(asked);
+    match verdict {
+        Verdict::Refused { number, place } => refused(number, place),
+        Verdict::Keeping => accepted(asked, 1, 0),
+        Verdict::Losing { half } => accepted(asked, 0, half),
+    }
+}
+
+// The plan of a deck.
+pub fn plan_deck(deck: &[u8]) -> Planned
+    ensures { λ r. ⌜ Plans (now (deck .entry)) r ⌝ }
+{
+    let read = cards::read_deck(deck);
+    if read.refusal != 0 {
+        return refused(read.refusal, read.place);
+    }
+    let asked = read.asked;
+    judged(asked)
+}
+
+// ---- entries
+
+// Copy, pack, unpack.
+fn kind_number(kind: Kind) -> u8
+    ensures { λ r. ⌜ r ≡ kindNumber (kindOf kind 0 0) ⌝ }
+{
+    match kind {
+        Kind::Copy => 0,
+        Kind::Pack => 1,
+        Kind::Unpack => 2,
+    }
+}
+
+fn entry(f: Field) -> Entry
+    requires { ⌜ FieldFair f ⌝ }
+    ensures { λ r. ⌜ r ≡ entryFor (entryOf (fieldOf f)) ⌝ }
+{
+    let kind = f.kind;
+    Entry {
+        kind: kind_number(kind),
+        r: f.r as u16,
+        input: f.input as u16,
+        output: f.output as u16,
+        t: f.t as u16,
+    }
+}
+
+fn no_entries() -> [Entry; 64]
+    ensures { λ r. ⌜ r ≡ tableOf [] ⌝ }
+{
+    let none = Entry {
+        kind: 0,
+        r: 0,
+        input: 0,
+        output: 0,
+        t: 0,
+    };
+    [none; 64]
+}
+
+// The fields of a plan in order.
+fn entries(fields: [Field; 64], count: usize) -> [Entry; 64]
+    requires { ⌜ FieldsFair fields count ⌝ }
+    ensures { λ r. ⌜ r ≡ tableOf (map fieldOf (take count fields)) ⌝ }
+{
+    let mut out = no_entries();
+    let mut i: usize = 0;
+    while i < count {
+        let f = fields[i];
+        out[i] = entry(f);
+        i += 1;
+    }
+    out
+}
+
+// ---- the plan for a lent table
+
+// What a plan answers, and the entries for a lent table: so many of them are to be stored, none where the deck is refused.
+pub struct Filled {
+    pub refusal: usize,
+    pub place: usize,
+    pub keeping: usize,
+    pub lost: usize,
+    pub fields: usize,
+    pub entries: [Entry; 64],
+    pub store: usize,
+}
+
+fn not_filled(number: usize, place: usize) -> Filled
+    ensures { λ r. ⌜ r ≡ notFilled number place ⌝ }
+{
+    let entries = no_entries();
+    Filled {
+        refusal: number,
+        place,
+        keeping: 0,
+        lost: 0,
+        fields: 0,
+        entries,
+        store: 0,
+    }
+}
+
+// Refusal 15: the table has fewer entries than the plan has fields.
+fn filled_by(planned: Planned, room: usize) -> Filled
+    requires { ⌜ OfDeck planned ⌝ }
+    ensures { λ r. ⌜ ((deck : List ℕ) → Plans deck planned → r ≡ filledFor (planInto room deck)) ⌝ }
+{
+    if planned.refusal != 0 {
+        return not_filled(planned.refusal, planned.place);
+    }
+    let count = planned.fields;
+    if room < count {
+        return not_filled(15, count);
+    }
+    let asked = planned.asked;
+    let fields = asked.fields;
+    let table = entries(fields, count);
+    Filled {
+        refusal: 0,
+        place: 0,
+        keeping: planned.keeping,
+        lost: planned.lost,
+        fields: count,
+        entries: table,
+        store: count,
+    }
+}
+
+// The plan of a deck for a table of so many entries.
+pub fn plan_for(deck: &[u8], room: usize) -> Filled
+    ensures { λ r. ⌜ r ≡ filledFor (planInto room (now (deck .entry))) ⌝ }
+{
+    let planned = plan_deck(deck);
+    filled_by(planned, room)
+}
