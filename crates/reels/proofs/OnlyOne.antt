@@ -1,0 +1,49 @@
+-- Two outcomes that a promise allows for one input are equal, for each function that other crates call: each promise says what the outcome is.
+use mathlib.Core.Path.{_≡_, sym, _∙_}
+use mathlib.Core.Bool.{Bool}
+use mathlib.Core.List.{List}
+use Prim.Native.Nat.{ℕ}
+use Rattle.rules.specs.Reel.{word}
+use Rattle.rules.specs.Plan.{Plan}
+use Rattle.rules.proofs.WordLaws.{wordAt}
+use Rattle.reels.specs.Header.{headerOf, partAt}
+use Rattle.reels.specs.Words.{written, lengthWritten}
+use Rattle.reels.specs.Form.{FormIs}
+use Rattle.reels.specs.Pieces.{startOf, pieceOf}
+use Rattle.reels.specs.Records.{Judged, ReadAs}
+use Rattle.reels.specs.declared.Form.{Form}
+use Rattle.reels.specs.declared.HeaderRead.{HeaderRead}
+use Rattle.reels.specs.declared.StartRead.{StartRead}
+use Rattle.reels.specs.declared.PieceRead.{PieceRead}
+use Rattle.reels.specs.declared.BlockRead.{BlockRead}
+use Rattle.reels.specs.declared.ReelRead.{ReelRead}
+
+only-one : {A : Type 0} {x y z : A} → x ≡ z → y ≡ z → x ≡ y
+only-one e f = e ∙ sym f
+
+pub only-one-word : (s : List ℕ) (at r r′ : ℕ) → r ≡ wordAt s at → r′ ≡ wordAt s at → r ≡ r′
+only-one-word s at r r′ = only-one
+
+pub only-one-header : (s : List ℕ) (r r′ : HeaderRead) → r ≡ headerOf s → r′ ≡ headerOf s → r ≡ r′
+only-one-header s r r′ = only-one
+
+pub only-one-block : (s : List ℕ) (i : ℕ) (r r′ : List ℕ) → r ≡ partAt s i → r′ ≡ partAt s i → r ≡ r′
+only-one-block s i r r′ = only-one
+
+pub only-one-start : (form : Form) (b : List ℕ) (r r′ : StartRead) → r ≡ startOf form b → r′ ≡ startOf form b → r ≡ r′
+only-one-start form b r r′ = only-one
+
+pub only-one-piece : (form : Form) (b : List ℕ) (i : ℕ) (r r′ : PieceRead) → r ≡ pieceOf form b i → r′ ≡ pieceOf form b i → r ≡ r′
+only-one-piece form b i r r′ = only-one
+
+pub only-one-rule : (form : Form) (p : Plan) → FormIs form p → (last : Bool) (b : List ℕ) (r r′ : BlockRead) → Judged form last b r → Judged form last b r′ → r ≡ r′
+only-one-rule form p h last b r r′ j j′ = only-one (j .is p h) (j′ .is p h)
+
+pub only-one-read-reel : (form : Form) (p : Plan) → FormIs form p → (s : List ℕ) (r r′ : ReelRead) → ReadAs form s r → ReadAs form s r′ → r ≡ r′
+only-one-read-reel form p h s r r′ w w′ = only-one (w .is p h) (w′ .is p h)
+
+pub only-one-put-word : (at value : ℕ) (out x x′ : List ℕ) → x ≡ written at (word value) out → x′ ≡ written at (word value) out → x ≡ x′
+only-one-put-word at value out x x′ = only-one
+
+pub only-one-put-length-word : (at length : ℕ) (out x x′ : List ℕ) → x ≡ lengthWritten at length out → x′ ≡ lengthWritten at length out → x ≡ x′
+only-one-put-length-word at length out x x′ = only-one

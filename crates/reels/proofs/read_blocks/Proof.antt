@@ -1,0 +1,97 @@
+-- The walk holds the number of a block and how many records were counted before it; each way out is a law of the reading. Assumes nothing.
+use mathlib.Core.Path.{subst}
+use Prim.Native.Nat.{_+_, _-_}
+use native.Mathlib.Omega.{arith}
+use borrow.Author.Needs.{needs}
+use lib.Dec.{eqb}
+use denote.Ref.{now}
+use Rattle.reels.specs.Header.{partAt}
+use Rattle.reels.specs.Records.{Judged}
+use Rattle.reels.specs.declared.BlockRead.the-variants.{Records, Breaks}
+use Rattle.reels.proofs.ReelReads.{Reading, reading-start, reading-step, reading-bad, reading-end, reading-most}
+use Rattle.reels.proofs.read_blocks.Statement.{statement}
+use Rattle.reels.proofs.read_blocks.Tie as tie
+
+abbrev Inv-loop : tie.InvT-loop
+Inv-loop form s blocks records₀ i₀ records i = Reading form s blocks records i
+
+abbrev μ-loop : tie.MeasureT-loop
+μ-loop form s blocks records₀ i₀ records i = blocks - i
+
+-- what the rule says of block i
+judged-some : (c : tie.After-read Inv-loop μ-loop)
+    → Judged (c .before .before .before .before .before .before .before .args .form) (eqb (c .before .before .before .before .before .loop .i + 1) (c .before .before .before .before .before .before .before .args .blocks))
+    (partAt (now (c .before .before .before .before .before .before .before .args .s)) (c .before .before .before .before .before .loop .i)) (Records (c .read .given .0 .0))
+judged-some c =
+    let a = c .before .before .before .before .before .before .before .args in
+    let last = eqb (c .before .before .before .before .before .loop .i + 1) (a .blocks) in
+    subst (λ b. Judged (a .form) last b (Records (c .read .given .0 .0))) (c .before .before .before .block .ensures)
+    (subst (λ r. Judged (a .form) last (now (c .before .before .before .block .result)) r) (c .read .given .1) (c .before .before .rule .ensures))
+
+judged-none : (c : tie.After-enum-told Inv-loop μ-loop)
+    → Judged (c .before .before .before .before .before .before .before .args .form) (eqb (c .before .before .before .before .before .loop .i + 1) (c .before .before .before .before .before .before .before .args .blocks))
+    (partAt (now (c .before .before .before .before .before .before .before .args .s)) (c .before .before .before .before .before .loop .i)) Breaks
+judged-none c =
+    let a = c .before .before .before .before .before .before .before .args in
+    let last = eqb (c .before .before .before .before .before .loop .i + 1) (a .blocks) in
+    subst (λ b. Judged (a .form) last b Breaks) (c .before .before .before .block .ensures)
+    (subst (λ r. Judged (a .form) last (now (c .before .before .before .block .result)) r) (c .enum-told .given .1) (c .before .before .rule .ensures))
+
+loop-holds : tie.Need-loop-holds Inv-loop μ-loop
+loop-holds c = reading-start _ _ _ (c .before .pre)
+
+block-requires : tie.Need-block-requires Inv-loop μ-loop
+block-requires c κs = search needs
+
+add-rule : tie.Need-add-rule Inv-loop μ-loop
+add-rule c = omega arith
+
+rule-requires : tie.Need-rule-requires Inv-loop μ-loop
+rule-requires c κs = search needs
+
+enum-known-read : tie.Need-enum-known-read Inv-loop μ-loop
+enum-known-read c = search needs
+
+add-records : tie.Need-add-records Inv-loop μ-loop
+add-records c = let w = reading-step (c .before .before .before .before .before .before .loop .inv) (c .before .before .before .before .before .loop-test .taken) _ (judged-some (c .before)) in omega (arith, reading-most w)
+
+add-i : tie.Need-add-i Inv-loop μ-loop
+add-i c = omega arith
+
+loop-less : tie.Need-loop-less Inv-loop μ-loop
+loop-less c = omega arith
+
+loop-again : tie.Need-loop-again Inv-loop μ-loop
+loop-again c = reading-step (c .before .before .before .before .before .before .loop .inv) (c .before .before .before .before .before .loop-test .taken) _ (judged-some (c .before))
+
+enum-told : tie.Need-enum-told Inv-loop μ-loop
+enum-told c = search needs
+
+add-t11 : tie.Need-add-t11 Inv-loop μ-loop
+add-t11 c = omega arith
+
+returns : tie.Need-returns Inv-loop μ-loop
+returns c = reading-bad (c .before .before .before .before .before .loop .inv) (c .before .before .before .before .loop-test .taken) (judged-none c)
+
+returns-2 : tie.Need-returns-2 Inv-loop μ-loop
+returns-2 c = reading-end (c .before .loop .inv) (c .loop-test .left)
+
+pub read-blocks-spec : {M : Type 1} → statement M
+read-blocks-spec =
+    tie.close
+    (tie.spec
+    Inv-loop
+    μ-loop
+    loop-holds
+    block-requires
+    add-rule
+    rule-requires
+    enum-known-read
+    add-records
+    add-i
+    loop-less
+    loop-again
+    enum-told
+    add-t11
+    returns
+    returns-2)

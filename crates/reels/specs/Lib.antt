@@ -1,0 +1,5 @@
+pub mod Header
+pub mod Words
+pub mod Form
+pub mod Pieces
+pub mod Records

@@ -1,0 +1,72 @@
+-- What a block, and a reel, is read as. Assumes nothing.
+use mathlib.Core.Path.{_≡_}
+use mathlib.Core.Bool.{Bool, cond, _&&_, _||_}
+use mathlib.Core.List.{List}
+use mathlib.Core.Option.{Option, none, some}
+use Prim.Native.Nat.{ℕ, _+_, _≤_}
+use lib.Dec.{leb, eqb}
+use lib.ListN.{length}
+use Rattle.rules.specs.Base.{_⇒_, every, joined}
+use Rattle.rules.specs.Answer.{Answer, fine, refuse}
+use Rattle.rules.specs.Reel.{isReel, blocksOf}
+use Rattle.rules.specs.Plan.{Plan, isFF}
+use Rattle.rules.specs.Blocks.{Piece, recordsIn, recordsFrom}
+use Rattle.rules.proofs.BlockSteps.{piecesAt}
+use Rattle.terms.specs.Meaning.{formatOf}
+use Rattle.reels.specs.Form.{FormIs}
+use Rattle.reels.specs.declared.Form.{Form}
+use Rattle.reels.specs.declared.BlockRead.{BlockRead}
+use Rattle.reels.specs.declared.BlockRead.the-variants.{Records, Breaks}
+use Rattle.reels.specs.declared.ReelRead.{ReelRead}
+use Rattle.reels.specs.declared.ReelRead.the-variants.{Read, NotReel, BadBlock}
+
+-- ---- a block
+
+-- at most m (or g) bytes; in FF only the last block may be shorter than m
+unfoldable pub sizedOf : Form → Bool → ℕ → Bool
+sizedOf form last size = leb size (form .m) && (isFF (formatOf (form .format)) ⇒ (last || eqb size (form .m)))
+
+-- of some pieces, before which so many were counted: how many there are, if each has the least data and there is one
+abbrev pub countFrom : ℕ → ℕ → Option (List Piece) → BlockRead
+countFrom least k none = Breaks
+countFrom least k (some xs) =
+    cond (every (λ x. leb least (x .size)) xs) (cond (eqb (k + length xs) 0) Breaks (Records (k + length xs))) Breaks
+
+abbrev pub countOf : BlockRead → ℕ
+countOf (Records k) = k
+countOf Breaks = 0
+
+pub record Counted (form : Form) (b : List ℕ) (from : ℕ) (r : BlockRead) : Type 0 where
+  pub is : r ≡ countFrom (form .least) 0 (piecesAt (formatOf (form .format)) (form .n) b from)
+  pub most : countOf r ≤ length b
+
+-- the number of records of the rules
+abbrev pub blockRead : Option (List (List ℕ)) → BlockRead
+blockRead none = Breaks
+blockRead (some rs) = Records (length rs)
+
+-- the answer is that of the rules, for every plan that asks this of blocks; no block has more records than bytes
+pub record Judged (form : Form) (last : Bool) (b : List ℕ) (r : BlockRead) : Type 0 where
+  pub is : (p : Plan) → FormIs form p → r ≡ blockRead (recordsIn p last b)
+  pub most : countOf r ≤ length b
+
+-- ---- a reel
+
+-- the number of blocks and of records, or the place of refusal 12
+abbrev pub blocksRead : Answer (List (List (List ℕ))) → ReelRead
+blocksRead (fine bs) = Read (length bs) (length (joined bs))
+blocksRead (refuse r) = BadBlock (r .place)
+
+-- refusal 11, then 12
+unfoldable pub reelRead : Plan → List ℕ → ReelRead
+reelRead p s = cond (isReel s) (blocksRead (recordsFrom p 1 (blocksOf s))) NotReel
+
+abbrev pub recordsOf : ReelRead → ℕ
+recordsOf (Read blocks records) = records
+recordsOf NotReel = 0
+recordsOf (BadBlock i) = 0
+
+-- the answer is that of the rules, for every plan that asks this of blocks; no reel has more records than bytes
+pub record ReadAs (form : Form) (s : List ℕ) (r : ReelRead) : Type 0 where
+  pub is : (p : Plan) → FormIs form p → r ≡ reelRead p s
+  pub most : recordsOf r ≤ length s
