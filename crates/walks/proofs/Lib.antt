@@ -1,0 +1,6 @@
+pub mod MarksLaws
+pub mod PlaceLaws
+pub mod WalkLaws
+pub mod AnswerLaws
+pub mod SizesLaws
+pub mod PromiseLaws

@@ -1,0 +1,65 @@
+-- The blocks of a reel as they are lent: a part that is not empty lies in the list between its two offsets, behind the last block there is none, and
+-- the data of a piece of a part is a part of the reel. By the tests of the two words.
+use mathlib.Core.Path.{_≡_, refl, ap, sym, _∙_}
+use mathlib.Core.Bool.{Bool, true, false}
+use mathlib.Core.List.{List}
+use Prim.Native.Nat.{ℕ, suc, _+_, _-_, _*_, _≤_, _<_}
+use native.Mathlib.Omega.{arith}
+use lib.Dec.{leb}
+use lib.ListN.{length, take, drop}
+use lib.Seq.{slice, length-slice, take-take, drop-drop}
+use borrow.Author.Tests.{leb-true, leb-false}
+use Rattle.rules.specs.Reel.{blockCount, isReel}
+use Rattle.rules.specs.Blocks.{Piece, dataOf}
+use Rattle.rules.proofs.HeaderSteps.{offsetAt, next-at}
+use Rattle.rules.proofs.ReelSteps.{offset-last}
+use Rattle.rules.proofs.PieceLaws.{slice-taken}
+use Rattle.rules.proofs.BlockSteps.{behind, data-slice}
+use Rattle.reels.specs.Header.{partAt}
+use Rattle.reels.proofs.HeaderLaws.{part-there, words-missing, part-outside}
+
+-- a part that is not empty: both its words are there, and it lies between its offsets
+pub record Part (s : List ℕ) (i : ℕ) : Type 0 where
+  pub words : 4 * i + 12 ≤ length s
+  pub is : partAt s i ≡ slice (offsetAt s i) (offsetAt s (suc i)) s
+  pub ends : offsetAt s i + length (partAt s i) ≡ offsetAt s (suc i)
+  pub most : offsetAt s (suc i) ≤ length s
+
+pub part-inside : (s : List ℕ) (i : ℕ) → 0 < length (partAt s i) → Part s i
+part-inside s i l = words (leb (4 * i + 12) (length s)) refl
+  where
+    offsets : 4 * i + 12 ≤ length s → (t : Bool) → leb (offsetAt s (suc i)) (length s) ≡ t → Part s i
+    offsets h false t = absurd (omega (arith, ap length (part-outside s i (offsetAt s (suc i)) h (next-at s i) (leb-false _ _ t))))
+    offsets h true t =
+        let m = leb-true (offsetAt s (suc i)) (length s) t in
+        let e = part-there s i h m in
+        let n = ap length e ∙ length-slice (offsetAt s i) (offsetAt s (suc i)) s m in
+        record { words = h; is = e; ends = omega arith; most = m }
+
+    words : (t : Bool) → leb (4 * i + 12) (length s) ≡ t → Part s i
+    words false t = absurd (omega (arith, ap length (words-missing s i (leb-false _ _ t))))
+    words true t = offsets (leb-true (4 * i + 12) (length s) t) (leb (offsetAt s (suc i)) (length s)) refl
+
+-- behind the last block of a reel there is none
+pub no-part : (s : List ℕ) → isReel s ≡ true → length (partAt s (blockCount s)) ≤ 0
+no-part s e = go (leb (length (partAt s (blockCount s))) 0) refl
+  where
+    go : (t : Bool) → leb (length (partAt s (blockCount s))) 0 ≡ t → length (partAt s (blockCount s)) ≤ 0
+    go true t = leb-true (length (partAt s (blockCount s))) 0 t
+    go false t =
+        let l = leb-false (length (partAt s (blockCount s))) 0 t in
+        let w = part-inside s (blockCount s) l in
+        absurd (omega (arith, w .ends, w .most, offset-last s e))
+
+-- the data of a piece of a part, as a part of the reel
+pub data-place : (s b : List ℕ) (a e : ℕ) (x : Piece) → b ≡ slice a e s → e ≤ length s → a + behind x ≤ e → dataOf b x ≡ slice (a + x .place) (a + x .place + x .size) s
+data-place s b a e x is m l =
+    let n = x .place in
+    let k = x .size in
+    let y : Piece = record { place = a + n; size = k; third = 0 } in
+    data-slice b x
+    ∙ ap (λ (z : List ℕ). drop n (take (n + k) z)) (is ∙ slice-taken a e s (omega arith) m)
+    ∙ ap (drop n) (take-take (n + k) (e - a) (drop a s) (omega arith))
+    ∙ sym (data-slice (drop a s) x)
+    ∙ ap (take k) (drop-drop n a s)
+    ∙ data-slice s y

@@ -1,0 +1,62 @@
+-- The promises, as a caller's loop uses them, and that each allows one outcome only. By what each says of every input.
+use mathlib.Core.Path.{_≡_, sym, _∙_, subst}
+use mathlib.Core.Bool.{Bool}
+use mathlib.Core.List.{List, []}
+use Prim.Native.Nat.{ℕ, _+_, _-_}
+use native.Mathlib.Omega.{arith}
+use lib.ListN.{length, take, drop}
+use lib.Seq.{slice, length-slice}
+use Rattle.rules.proofs.PieceLaws.{slice-taken}
+use Rattle.rules.specs.Base.{joined}
+use Rattle.rules.specs.Plan.{Plan}
+use Rattle.rules.specs.Accepted.{Accepted}
+use Rattle.reels.specs.declared.Form.{Form}
+use Rattle.reels.specs.declared.ReelRead.the-variants.{Read}
+use Rattle.reels.specs.Form.{FormIs}
+use Rattle.reels.specs.Records.{ReadAs}
+use Rattle.reels.proofs.ReelTold.{tells}
+use Rattle.walks.specs.declared.Walk.{Walk}
+use Rattle.walks.specs.declared.RecordRead.{RecordRead}
+use Rattle.walks.specs.declared.RecordRead.the-variants.{Record, End}
+use Rattle.walks.specs.Promise.{Good, Walks, Begun, Passed, Says, Inside, Lies, Told, Taken}
+
+-- ---- a reel that was read
+
+-- its blocks are good, and so many, and so are its records
+pub good-read : {form : Form} {p : Plan} {s : List ℕ} {blocks records : ℕ} → Accepted p → FormIs form p → ReadAs form s (Read blocks records)
+    → (recs : List (List (List ℕ))) × Good p s recs × (blocks ≡ length recs) × (records ≡ length (joined recs))
+good-read {form} {p} {s} {blocks} {records} ok f x =
+    let y = tells form p f s (Read blocks records) x in
+    (y .1 .0, record { accepted = ok; reel = y .0; records = y .1 .1 }, y .1 .2, y .1 .3)
+
+-- ---- a turn of a loop over the records, of which `rest` are left
+
+module _ {form : Form} {s : List ℕ} {w : Walk} {r : RecordRead} (x : Told form s w r) where
+  module _ {start size : ℕ} {begins : Bool} {next : Walk} (e : r ≡ Record start size begins next) where
+    pub inside : Inside s w start size next
+    inside = subst (Lies s w) e (x .lies)
+
+    -- the record as it is lent, `&s[start..start + size]`, and its length
+    pub lent : take (start + size - start) (drop start s) ≡ slice start (start + size) s
+    lent = sym (slice-taken start (start + size) s (omega arith) (inside .ends))
+
+    pub lent-length : length (slice start (start + size) s) ≡ size
+    lent-length = length-slice start (start + size) s (inside .ends) ∙ (let z : start + size - start ≡ size = omega arith in z)
+
+    pub passed : {p : Plan} {rest : List (Bool × List ℕ)} → FormIs form p → Walks p s w rest → Passed p s rest start size begins next
+    passed {p} {rest} f k = subst (Says p s rest) e (x .says p rest f k)
+
+  pub ended : r ≡ End → {p : Plan} {rest : List (Bool × List ℕ)} → FormIs form p → Walks p s w rest → rest ≡ []
+  ended e {p} {rest} f k = subst (Says p s rest) e (x .says p rest f k)
+
+-- ---- one outcome only
+
+module _ (form : Form) where
+  pub begin-only-one : {x y : Walk} → Begun form x → Begun form y → x ≡ y
+  begin-only-one a b = a .is ∙ sym (b .is)
+
+  pub record-only-one : (s : List ℕ) (w : Walk) {x y : RecordRead} → Told form s w x → Told form s w y → x ≡ y
+  record-only-one s w a b = a .is ∙ sym (b .is)
+
+  pub taken-only-one : (s : List ℕ) (first : ℕ) {x y : Walk} → Taken form s first x → Taken form s first y → x ≡ y
+  taken-only-one s first a b = a .is ∙ sym (b .is)
