@@ -1,0 +1,4 @@
+pub mod FlatLaws
+mod CheckLaws
+mod PutLaws
+pub mod PromiseLaws

@@ -1,0 +1,29 @@
+-- What looking at a record answers and what writing its output leaves, for all fields that the lent numbers may be: there is one list of
+-- them. Assumes nothing.
+use mathlib.Core.Path.{_≡_}
+use mathlib.Core.Bool.{Bool, cond}
+use mathlib.Core.List.{List, [], _++_}
+use Prim.Native.Nat.{ℕ, _≤_}
+use lib.ListN.{length, take, drop}
+use Rattle.rules.specs.Halves.{halves, bytes, Field, over, outHalves, value}
+use Rattle.rules.specs.Permitted.{permitted}
+use Rattle.rules.specs.Output.{mayBe}
+use Rattle.rules.specs.Lent.{zoneF}
+use Rattle.rules.proofs.FieldSteps.{writtenBytes}
+use Rattle.records.specs.Flat.{flatOf, FlatFair}
+
+-- whether the halves of the first a bytes are permitted
+unfoldable pub Permits : List ℕ → List ℕ → Bool → Type 0
+Permits xs r x = (fs : List Field) (a b : ℕ) → FlatFair xs fs a b → a ≤ length r → x ≡ mayBe (permitted zoneF fs) 0 (halves (take a r))
+
+-- the fields in order, a later one over an earlier one
+unfoldable pub Writes : List ℕ → List ℕ → List ℕ → List ℕ → Type 0
+Writes xs r old new = (fs : List Field) → xs ≡ flatOf fs → new ≡ writtenBytes zoneF fs r old
+
+-- B's m bytes of hex 40, then the fields; with CV the input's data past A's n follows
+unfoldable pub outBytes : ℕ → ℕ → List Field → Bool → List ℕ → List ℕ
+outBytes n m fs carries r = bytes (outHalves zoneF value m fs (halves (take n r))) ++ cond carries (drop n r) []
+
+-- the output record stands at the front of the lent output, and bytes past it stay
+unfoldable pub Puts : List ℕ → ℕ → ℕ → Bool → List ℕ → List ℕ → List ℕ → Type 0
+Puts xs n m carries r old new = (fs : List Field) → FlatFair xs fs n m → new ≡ over 0 (outBytes n m fs carries r) old
