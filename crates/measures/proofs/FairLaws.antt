@@ -1,0 +1,60 @@
+-- What is known of the numbers and the reel by the plan that is given, and one turn of a walk over its records: the records that are taken, all of them before the
+-- first turn, then one less at each. Assumes nothing.
+use mathlib.Core.Path.{_≡_, refl, sym, subst}
+use mathlib.Core.List.{List}
+use Prim.Native.Nat.{ℕ, zero, suc, _≤_}
+use native.Mathlib.Omega.{arith}
+use lib.ListN.{length}
+use Rattle.rules.specs.Answer.{refused}
+use Rattle.rules.specs.Plan.{Plan}
+use Rattle.rules.specs.Blocks.{takenFrom}
+use Rattle.rules.proofs.Bounds.{reel-most}
+use Rattle.rules.proofs.BlockSizes.{least-one}
+use Rattle.terms.specs.declared.Task.{Task}
+use Rattle.reels.specs.declared.Form.{Form}
+use Rattle.reels.specs.Form.{FormIs}
+use Rattle.walks.specs.declared.Walk.{Walk}
+use Rattle.walks.specs.Marks.{markedAll}
+use Rattle.walks.specs.Promise.{Good, Walks, bytesLeft, Taken}
+use Rattle.measures.specs.Promise.{formOf, Fair, answerAt}
+
+pub answer-at : (number i : ℕ) → 1 ≤ i → refused number i ≡ answerAt number i
+answer-at number zero l = absurd (omega arith)
+answer-at number (suc i) l = refl
+
+pub left-few : (s : List ℕ) (w : Walk) → bytesLeft s w ≤ length s
+unfolding bytesLeft
+left-few s w = omega arith
+
+-- the form and R are those of the plan, and the reel is good by it
+pub record Asks (form : Form) (first : ℕ) (s : List ℕ) (p : Plan) (recs : List (List (List ℕ))) : Type 0 where
+  pub form-is : FormIs form p
+  pub first-is : first ≡ p .first
+  pub good : Good p s recs
+
+form-given : {task : Task} {s : List ℕ} {p : Plan} {recs : List (List (List ℕ))} → Fair task s p recs → FormIs (formOf task) p
+form-given {p = p} x =
+    record {
+      format = x .is .format;
+      n = x .is .n;
+      m = x .is .m;
+      least = x .is .least;
+      some = omega (arith, x .is .least, least-one p (x .good .accepted));
+    }
+
+pub asks : {task : Task} {s : List ℕ} {p : Plan} {recs : List (List (List ℕ))} {form : Form} → form ≡ formOf task → Fair task s p recs → Asks form (task .first) s p recs
+asks {p = p} e x = record { form-is = subst (λ (f : Form). FormIs f p) (sym e) (form-given x); first-is = x .is .first; good = x .good }
+
+module _ {form : Form} {first : ℕ} {s : List ℕ} {p : Plan} {recs : List (List (List ℕ))} (x : Asks form first s p recs) where
+  pub first-low : 1 ≤ first
+  first-low = let w = x .good .accepted .first .0 in omega (arith, x .first-is)
+
+  pub first-high : first ≤ 65536
+  first-high = let w = x .good .accepted .first .1 in omega (arith, x .first-is)
+
+  pub s-short : length s ≤ 65536
+  s-short = reel-most s (x .good .reel)
+
+  -- before the first turn
+  pub walks-first : {w : Walk} → Taken form s first w → Walks p s w (markedAll (takenFrom (p .first) recs))
+  walks-first {w} t = subst (λ (n : ℕ). Walks p s w (markedAll (takenFrom n recs))) (x .first-is) (t .all p recs (x .form-is) (x .good))

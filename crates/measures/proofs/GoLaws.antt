@@ -1,0 +1,214 @@
+-- The pass that measures: refusal 14's tests of all records taken, and their measure, are those that the records left give from the tally on. By the walk.
+use mathlib.Core.Path.{_≡_, refl, ap, ap₂, sym, _∙_, subst}
+use mathlib.Core.Bool.{Bool}
+use mathlib.Core.List.{List, [], _∷_}
+use Prim.Native.Nat.{ℕ, _+_, _-_, _*_, _≤_, _<_}
+use native.Mathlib.Omega.{arith}
+use lib.Dec.{leb}
+use lib.ListN.{length}
+use lib.Seq.{slice}
+use borrow.Author.Tests.{le-leb, lt-leb}
+use Rattle.rules.specs.Answer.{fine, refused, each}
+use Rattle.rules.specs.Plan.{Plan, blockLength}
+use Rattle.rules.specs.Blocks.{leastData}
+use Rattle.rules.specs.Output.{cost}
+use Rattle.rules.proofs.FillSteps.{through, Measure, unmeasured}
+use Rattle.rules.proofs.FitSteps.{each-pass, each-stop, length-measured}
+use Rattle.rules.proofs.RunParts.{outputBlocks}
+use Rattle.terms.specs.declared.Task.{Task}
+use Rattle.reels.specs.declared.Form.{Form}
+use Rattle.walks.specs.declared.Walk.{Walk}
+use Rattle.walks.specs.declared.RecordRead.{RecordRead}
+use Rattle.walks.specs.declared.RecordRead.the-variants.{Record, End}
+use Rattle.walks.specs.Promise.{Walks, Passed, bytesLeft, Told, Taken}
+use Rattle.walks.proofs.PromiseLaws.{inside, lent-length, passed, ended}
+use Rattle.measures.specs.declared.Tally.{Tally}
+use Rattle.measures.specs.declared.Measured.the-variants.{TooLong, Fits}
+use Rattle.measures.specs.Tallying.{lengthOf, tallyOf, Small}
+use Rattle.measures.specs.Promise.{formOf, Measuring, Measurable, fitAnswer, FitsAs, Measures}
+use Rattle.measures.proofs.FairLaws.{left-few, asks, first-high, s-short, walks-first}
+use Rattle.measures.proofs.TestLaws.{stepOf, testsFrom, lengths, takenMarked, all-count, all-tests, all-totals}
+use Rattle.measures.proofs.TallyLaws.{length-high, measureOf, empty, tally-is, out-length, bounded, Grown, tally-grown}
+
+-- ---- a turn, by any step
+
+module _ (step : Measure → Bool × ℕ → Measure) (limit number : ℕ) (m u : Measure) (x : Bool × ℕ) (all xs : List (Bool × ℕ)) (is : all ≡ x ∷ xs) (e : step m x ≡ u) where
+  turn-pass : u .size ≤ limit → each 14 (λ holds. holds) number (testsFrom step limit m all) ≡ each 14 (λ holds. holds) (number + 1) (testsFrom step limit u xs)
+  turn-pass l =
+      ap (λ (l : List (Bool × ℕ)). each 14 (λ holds. holds) number (testsFrom step limit m l)) is
+      ∙ each-pass 14 (λ holds. holds) number (leb (step m x .size) limit) (testsFrom step limit (step m x) xs) (ap (λ (k : Measure). leb (k .size) limit) e ∙ le-leb (u .size) limit l)
+      ∙ ap (λ (k : Measure). each 14 (λ holds. holds) (number + 1) (testsFrom step limit k xs)) e
+
+  turn-stop : limit < u .size → each 14 (λ holds. holds) number (testsFrom step limit m all) ≡ refused 14 number
+  turn-stop l =
+      ap (λ (l : List (Bool × ℕ)). each 14 (λ holds. holds) number (testsFrom step limit m l)) is
+      ∙ each-stop 14 (λ holds. holds) number (leb (step m x .size) limit) (testsFrom step limit (step m x) xs) (ap (λ (k : Measure). leb (k .size) limit) e ∙ lt-leb (u .size) limit l)
+
+  turn-through : through step m all ≡ through step u xs
+  turn-through = ap (through step m) is ∙ ap (λ (k : Measure). through step k xs) e
+
+-- ---- the pass
+
+abbrev planStep : Plan → Measure → Bool × ℕ → Measure
+planStep p = stepOf (p .mode) (blockLength (p .output)) (cost (p .format))
+
+pub record Goes (p : Plan) (s : List ℕ) (recs : List (List (List ℕ))) (w : Walk) (number : ℕ) (m : Measure) : Type 0 where
+  pub rest : List (Bool × List ℕ)
+  pub walks : Walks p s w rest
+  pub tests : fitAnswer p recs ≡ each 14 (λ holds. holds) number (testsFrom (planStep p) (blockLength (p .output)) m (lengths p rest))
+  pub totals : through (planStep p) unmeasured (lengths p (takenMarked p recs)) ≡ through (planStep p) m (lengths p rest)
+  pub counts : p .first + length (takenMarked p recs) ≡ number + length rest
+
+pub record Going (task : Task) (s : List ℕ) (w : Walk) (number : ℕ) (t : Tally) : Type 0 where
+  pub few : number + bytesLeft s w ≤ task .first + length s
+  pub blocks : t .blocks + task .first ≤ number
+  pub size : t .size ≤ t .bytes
+  pub bytes : t .bytes + 200000 * task .first ≤ 200000 * number
+  pub goes : (p : Plan) (recs : List (List (List ℕ))) → Measuring task s p recs → Goes p s recs w number (measureOf t)
+
+start-tests : {task : Task} {s : List ℕ} (p : Plan) (recs : List (List (List ℕ))) → Measuring task s p recs
+    → fitAnswer p recs ≡ each 14 (λ holds. holds) (task .first) (testsFrom (planStep p) (blockLength (p .output)) unmeasured (lengths p (takenMarked p recs)))
+unfolding fitAnswer
+start-tests p recs x = ap₂ (each 14 (λ holds. holds)) (sym (x .fair .is .first)) (all-tests p recs (x .other))
+
+pub go-limit : {task : Task} {s : List ℕ} → Measurable task s → task .limit ≤ 32760
+go-limit y = bounded (y .given .fair .is) (y .given .fair .good .accepted) .limit
+
+module _ (task : Task) {s : List ℕ} {form : Form} (f : form ≡ formOf task) {w : Walk} where
+  pub go-start : Taken form s (task .first) w → Going task s w (task .first) empty
+  go-start t =
+      record {
+        few = omega (arith, left-few s w);
+        blocks = omega arith;
+        size = omega arith;
+        bytes = omega arith;
+        goes = λ p recs x. record {
+          rest = takenMarked p recs;
+          walks = walks-first (asks f (x .fair)) t;
+          tests = start-tests p recs x;
+          totals = refl;
+          counts = omega (arith, x .fair .is .first);
+        };
+      }
+
+  module _ {number : ℕ} {t : Tally} {r : RecordRead} (k : Going task s w number t) (h : Told form s w r) where
+    pub go-few : Measurable task s → number ≤ 131072
+    go-few y = let x = asks f (y .given .fair) in omega (arith, k .few, first-high x, s-short x)
+
+    -- the size of what is measured, behind the last record
+    pub go-bytes : Measurable task s → (t .blocks ≤ 131072) × (t .bytes ≤ 0x1000000000)
+    go-bytes y = (omega (arith, k .blocks, go-few y), omega (arith, k .bytes, go-few y))
+
+    module _ {start size : ℕ} {begins : Bool} {next : Walk} (e : r ≡ Record start size begins next) where
+      pub go-short : Measurable task s → (task .width ≤ 65536) × (size ≤ 65536)
+      go-short y =
+          let b = bounded (y .given .fair .is) (y .given .fair .good .accepted) in
+          (omega (arith, b .width), omega (arith, inside h e .ends, s-short (asks f (y .given .fair))))
+
+      pub go-small : Measurable task s → (n : ℕ) → n ≡ lengthOf task size → Small task t n
+      go-small y n q =
+          let g = go-short y in
+          let b = bounded (y .given .fair .is) (y .given .fair .good .accepted) in
+          let z = go-bytes y in
+          record {
+            cost = b .cost;
+            blocks = omega (arith, z .0);
+            size = omega (arith, z .1, k .size);
+            bytes = omega (arith, z .1);
+            long = omega (arith, g .0, g .1, q, length-high task size);
+          }
+
+      module _ {p : Plan} {recs : List (List (List ℕ))} (x : Measuring task s p recs) where
+        goes-in : Goes p s recs w number (measureOf t)
+        goes-in = k .goes p recs x
+
+        passes : Passed p s (goes-in .rest) start size begins next
+        passes = passed h e (asks f (x .fair) .form-is) (goes-in .walks)
+
+        left-is : lengths p (goes-in .rest) ≡ (begins, lengthOf task size) ∷ lengths p (passes .more)
+        left-is =
+            ap (lengths p) (passes .is)
+            ∙ ap (λ (n : ℕ). (begins, n) ∷ lengths p (passes .more))
+            (out-length (x .fair .is) (x .fair .good .accepted) (slice start (start + size) s)
+            (let z : leastData p ≤ length (slice start (start + size) s) = omega (arith, passes .long, lent-length h e) in z)
+            ∙ ap (lengthOf task) (lent-length h e))
+
+        step-is : planStep p (measureOf t) (begins, lengthOf task size) ≡ measureOf (tallyOf task t begins (lengthOf task size))
+        step-is = sym (tally-is (x .fair .is) t begins (lengthOf task size))
+
+        goes-stop : task .limit < tallyOf task t begins (lengthOf task size) .size → fitAnswer p recs ≡ refused 14 number
+        goes-stop l =
+            goes-in .tests
+            ∙ turn-stop (planStep p) (blockLength (p .output)) number (measureOf t) _ (begins, lengthOf task size) _ (lengths p (passes .more)) left-is step-is
+            (let z : blockLength (p .output) < tallyOf task t begins (lengthOf task size) .size = omega (arith, x .fair .is .limit) in z)
+
+        goes-more : tallyOf task t begins (lengthOf task size) .size ≤ task .limit
+            → Goes p s recs next (number + 1) (measureOf (tallyOf task t begins (lengthOf task size)))
+        goes-more l =
+            record {
+              rest = passes .more;
+              walks = passes .walks;
+              tests =
+                  goes-in .tests
+                  ∙ turn-pass (planStep p) (blockLength (p .output)) number (measureOf t) _ (begins, lengthOf task size) _ (lengths p (passes .more)) left-is step-is
+                  (let z : tallyOf task t begins (lengthOf task size) .size ≤ blockLength (p .output) = omega (arith, x .fair .is .limit) in z);
+              totals =
+                  goes-in .totals
+                  ∙ turn-through (planStep p) (blockLength (p .output)) number (measureOf t) _ (begins, lengthOf task size) _ (lengths p (passes .more)) left-is step-is;
+              counts = omega (arith, goes-in .counts, ap length (passes .is));
+            }
+
+      module _ (y : Measurable task s) (n : ℕ) (q : n ≡ lengthOf task size) (u : Tally) (v : u ≡ tallyOf task t begins n) where
+        u-is : tallyOf task t begins (lengthOf task size) ≡ u
+        u-is = ap (tallyOf task t begins) (sym q) ∙ sym v
+
+        pub go-stop : task .limit < u .size → Measures task s (TooLong number)
+        unfolding Measures
+        go-stop l = λ p recs x. goes-stop x (subst (λ (z : Tally). task .limit < z .size) (sym u-is) l)
+
+        pub go-more : u .size ≤ task .limit → Going task s next (number + 1) u
+        go-more l =
+            let g = subst (Grown (task .cost) n t) (sym v) (tally-grown task t begins n) in
+            let a = go-short y in
+            let b = bounded (y .given .fair .is) (y .given .fair .good .accepted) in
+            record {
+              few = omega (arith, k .few, inside h e .less);
+              blocks = omega (arith, k .blocks, g .blocks);
+              size = g .size (k .size);
+              bytes = omega (arith, k .bytes, g .bytes, b .cost, a .0, a .1, q, length-high task size);
+              goes = λ p recs x.
+                  subst (λ (z : Tally). Goes p s recs next (number + 1) (measureOf z)) u-is
+                  (goes-more x (subst (λ (z : Tally). z .size ≤ task .limit) (sym u-is) l));
+            }
+
+    module _ (e : r ≡ End) {p : Plan} {recs : List (List (List ℕ))} (x : Measuring task s p recs) where
+      goes-last : Goes p s recs w number (measureOf t)
+      goes-last = k .goes p recs x
+
+      nothing : goes-last .rest ≡ []
+      nothing = ended h e (asks f (x .fair) .form-is) (goes-last .walks)
+
+      all-is : through (planStep p) unmeasured (lengths p (takenMarked p recs)) ≡ measureOf t
+      all-is = goes-last .totals ∙ ap (λ (l : List (Bool × List ℕ)). through (planStep p) (measureOf t) (lengths p l)) nothing
+
+      all-fit : fitAnswer p recs ≡ fine tt
+      unfolding each
+      all-fit =
+          goes-last .tests
+          ∙ ap (λ (l : List (Bool × List ℕ)). each 14 (λ holds. holds) number (testsFrom (planStep p) (blockLength (p .output)) (measureOf t) (lengths p l))) nothing
+
+      goes-end : FitsAs p recs (t .blocks) (number - task .first) (4 * t .blocks + 8 + t .bytes)
+      goes-end =
+          let a = all-totals p recs (x .other) in
+          let b : length (outputBlocks p recs) ≡ t .blocks = a .blocks ∙ ap (λ (m : Measure). m .blocks) all-is in
+          let c = a .bytes ∙ ap (λ (m : Measure). m .bytes) all-is in
+          record {
+            fit = all-fit;
+            blocks = sym b;
+            records = omega (arith, goes-last .counts, ap length nothing, all-count p recs, x .fair .is .first);
+            size = omega (arith, length-measured (blockLength (p .output)) (p .format) (outputBlocks p recs), b, c);
+          }
+
+    pub go-end : r ≡ End → Measures task s (Fits (t .blocks) (number - task .first) (4 * t .blocks + 8 + t .bytes))
+    unfolding Measures
+    go-end e = λ p recs x. goes-end e x

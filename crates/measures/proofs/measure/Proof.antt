@@ -1,0 +1,101 @@
+-- Each turn tallies one record more; a walk ends since less of the reel is left at each turn. Assumes nothing.
+use native.Mathlib.Omega.{arith}
+use borrow.Author.Needs.{needs}
+use Rattle.walks.specs.Promise.{bytesLeft}
+use Rattle.walks.proofs.PromiseLaws.{inside}
+use Rattle.measures.proofs.GoLaws.{Going, go-start, go-few, go-bytes, go-short, go-small, go-stop, go-more, go-end, go-limit}
+use Rattle.measures.proofs.measure.Statement.{statement}
+use Rattle.measures.proofs.measure.Tie as tie
+
+abbrev Inv-loop : tie.InvT-loop
+Inv-loop task s form first over walk₀ number₀ tally₀ walk number tally = Going task s walk number tally
+
+abbrev μ-loop : tie.MeasureT-loop
+μ-loop task s form first over walk₀ number₀ tally₀ walk number tally = bytesLeft s walk
+
+form-of-requires : tie.Need-form-of-requires Inv-loop μ-loop
+form-of-requires c κs = search needs
+
+add-over : tie.Need-add-over Inv-loop μ-loop
+add-over c = let g = go-limit (c .before .before .before .pre) in omega arith
+
+taken-requires : tie.Need-taken-requires Inv-loop μ-loop
+taken-requires c κs = search needs
+
+loop-holds : tie.Need-loop-holds Inv-loop μ-loop
+loop-holds c = go-start (c .before .before .before .before .args .task) (c .before .before .form-of .ensures) (c .taken .ensures)
+
+record-requires : tie.Need-record-requires Inv-loop μ-loop
+record-requires c κs = search needs
+
+enum-known-read : tie.Need-enum-known-read Inv-loop μ-loop
+enum-known-read c = search needs
+
+output-length-requires : tie.Need-output-length-requires Inv-loop μ-loop
+output-length-requires c κs =
+    go-short (c .before .before .before .before .before .before .before .before .before .args .task) (c .before .before .before .before .before .before .before .form-of .ensures) (c .before .before .before .before .loop .inv) (c .before .before .before .«record» .ensures) (c .before .read .given .1)
+    (c .before .before .before .before .before .before .before .before .before .pre)
+
+tallied-requires : tie.Need-tallied-requires Inv-loop μ-loop
+tallied-requires c κs =
+    go-small (c .before .before .before .before .before .before .before .before .before .before .args .task) (c .before .before .before .before .before .before .before .before .form-of .ensures) (c .before .before .before .before .before .loop .inv) (c .before .before .before .before .«record» .ensures) (c .before .before .read .given .1)
+    (c .before .before .before .before .before .before .before .before .before .before .pre) _ (c .output-length .ensures)
+
+returns : tie.Need-returns Inv-loop μ-loop
+returns c =
+    go-stop (c .before .before .before .before .before .before .before .before .before .before .before .before .before .args .task) (c .before .before .before .before .before .before .before .before .before .before .before .form-of .ensures) (c .before .before .before .before .before .before .before .before .loop .inv) (c .before .before .before .before .before .before .before .«record» .ensures) (c .before .before .before .before .before .read .given .1)
+    (c .before .before .before .before .before .before .before .before .before .before .before .before .before .pre) _ (c .before .before .before .output-length .ensures) _ (c .before .before .tallied .ensures) (omega (arith, c .if1 .taken))
+
+add-number : tie.Need-add-number Inv-loop μ-loop
+add-number c = let g = go-few (c .before .before .before .before .before .before .before .before .before .before .before .before .before .args .task) (c .before .before .before .before .before .before .before .before .before .before .before .form-of .ensures) (c .before .before .before .before .before .before .before .before .loop .inv) (c .before .before .before .before .before .before .before .«record» .ensures) (c .before .before .before .before .before .before .before .before .before .before .before .before .before .pre) in omega arith
+
+loop-less : tie.Need-loop-less Inv-loop μ-loop
+loop-less c = inside (c .before .before .before .before .before .before .before .«record» .ensures) (c .before .before .before .before .before .read .given .1) .less
+
+loop-again : tie.Need-loop-again Inv-loop μ-loop
+loop-again c =
+    go-more (c .before .before .before .before .before .before .before .before .before .before .before .before .before .args .task) (c .before .before .before .before .before .before .before .before .before .before .before .form-of .ensures) (c .before .before .before .before .before .before .before .before .loop .inv) (c .before .before .before .before .before .before .before .«record» .ensures) (c .before .before .before .before .before .read .given .1)
+    (c .before .before .before .before .before .before .before .before .before .before .before .before .before .pre) _ (c .before .before .before .output-length .ensures) _ (c .before .before .tallied .ensures) (omega (arith, c .if1 .left))
+
+enum-told : tie.Need-enum-told Inv-loop μ-loop
+enum-told c = search needs
+
+sub-t16 : tie.Need-sub-t16 Inv-loop μ-loop
+sub-t16 c = omega (arith, c .before .before .before .loop .inv .blocks)
+
+mul-t17 : tie.Need-mul-t17 Inv-loop μ-loop
+mul-t17 c = let g = go-bytes (c .before .before .before .before .before .before .before .before .before .args .task) (c .before .before .before .before .before .before .before .form-of .ensures) (c .before .before .before .before .loop .inv) (c .before .before .before .«record» .ensures) (c .before .before .before .before .before .before .before .before .before .pre) in omega (arith, g .0)
+
+add-t18 : tie.Need-add-t18 Inv-loop μ-loop
+add-t18 c = let g = go-bytes (c .before .before .before .before .before .before .before .before .before .args .task) (c .before .before .before .before .before .before .before .form-of .ensures) (c .before .before .before .before .loop .inv) (c .before .before .before .«record» .ensures) (c .before .before .before .before .before .before .before .before .before .pre) in omega (arith, g .0)
+
+add-t19 : tie.Need-add-t19 Inv-loop μ-loop
+add-t19 c = let g = go-bytes (c .before .before .before .before .before .before .before .before .before .before .args .task) (c .before .before .before .before .before .before .before .before .form-of .ensures) (c .before .before .before .before .before .loop .inv) (c .before .before .before .before .«record» .ensures) (c .before .before .before .before .before .before .before .before .before .before .pre) in omega (arith, g .0, g .1)
+
+returns-2 : tie.Need-returns-2 Inv-loop μ-loop
+returns-2 c = go-end (c .before .before .before .before .before .before .before .before .before .before .args .task) (c .before .before .before .before .before .before .before .before .form-of .ensures) (c .before .before .before .before .before .loop .inv) (c .before .before .before .before .«record» .ensures) (c .before .before .enum-told .given .1)
+
+pub measure-spec : {M : Type 1} → statement M
+measure-spec =
+    tie.close
+    (tie.spec
+    Inv-loop
+    μ-loop
+    form-of-requires
+    add-over
+    taken-requires
+    loop-holds
+    record-requires
+    enum-known-read
+    output-length-requires
+    tallied-requires
+    returns
+    add-number
+    loop-less
+    loop-again
+    enum-told
+    sub-t16
+    mul-t17
+    add-t18
+    add-t19
+    returns-2)

@@ -1,0 +1,88 @@
+-- What the passes promise, for every plan that the numbers may be, and every reel that is good by it. Assumes nothing.
+use mathlib.Core.Path.{_≡_}
+use mathlib.Core.Bool.{true, false}
+use mathlib.Core.List.{List, map}
+use Prim.Native.Nat.{ℕ, zero, suc}
+use lib.ListN.{length}
+use Rattle.rules.specs.Base.{joined}
+use Rattle.rules.specs.Answer.{Answer, fine, refused, each}
+use Rattle.rules.specs.Plan.{Plan, selects, isTC}
+use Rattle.rules.specs.Reel.{reelOf}
+use Rattle.rules.specs.Blocks.{takenFrom}
+use Rattle.rules.specs.Output.{permits, blockOf}
+use Rattle.rules.specs.Run.{fitting}
+use Rattle.rules.proofs.RunParts.{outputs, outputBlocks}
+use Rattle.rules.specs.Lent.{zoneF}
+use Rattle.terms.specs.declared.Task.{Task}
+use Rattle.terms.specs.Meaning.{TaskIs}
+use Rattle.reels.specs.declared.Form.{Form}
+use Rattle.records.specs.Flat.{flatOf}
+use Rattle.walks.specs.Promise.{Good}
+use Rattle.measures.specs.declared.Measured.{Measured}
+use Rattle.measures.specs.declared.Measured.the-variants.{TooLong, Fits}
+
+-- what the plan asks of input blocks
+abbrev pub formOf : Task → Form
+formOf task = record { format = task .format; n = task .n; m = task .m; least = task .least }
+
+-- the numbers are those of a plan, and the reel is good by it, with these records
+pub record Fair (task : Task) (s : List ℕ) (p : Plan) (recs : List (List (List ℕ))) : Type 0 where
+  pub is : TaskIs task p
+  pub good : Good p s recs
+
+-- ---- refusal 13
+
+-- the plan selects fields, and these are lent
+pub record Selecting (task : Task) (fields s : List ℕ) (p : Plan) (recs : List (List (List ℕ))) : Type 0 where
+  pub fair : Fair task s p recs
+  pub flat : fields ≡ flatOf (p .fields)
+  pub zone : p .zone ≡ zoneF
+  pub selecting : selects (p .mode) ≡ true
+
+-- there is such a plan
+pub record Selected (task : Task) (fields s : List ℕ) : Type 0 where
+  pub p : Plan
+  pub recs : List (List (List ℕ))
+  pub given : Selecting task fields s p recs
+
+-- fine for 0, or refused at this record
+abbrev pub answerAt : ℕ → ℕ → Answer Unit
+answerAt number zero = fine tt
+answerAt number (suc i) = refused number (suc i)
+
+-- the halves of each record taken are permitted, or this is the first that has one that is not
+unfoldable pub FirstUnpermitted : Task → List ℕ → List ℕ → ℕ → Type 0
+FirstUnpermitted task fields s r =
+    (p : Plan) (recs : List (List (List ℕ))) → Selecting task fields s p recs
+    → each 13 (permits p) (p .first) (joined (takenFrom (p .first) recs)) ≡ answerAt 13 r
+
+-- ---- refusal 14, and the measure
+
+-- the plan is no copy
+pub record Measuring (task : Task) (s : List ℕ) (p : Plan) (recs : List (List (List ℕ))) : Type 0 where
+  pub fair : Fair task s p recs
+  pub other : isTC (p .mode) ≡ false
+
+-- there is such a plan
+pub record Measurable (task : Task) (s : List ℕ) : Type 0 where
+  pub p : Plan
+  pub recs : List (List (List ℕ))
+  pub given : Measuring task s p recs
+
+-- refusal 14's answer
+unfoldable pub fitAnswer : Plan → List (List (List ℕ)) → Answer Unit
+fitAnswer p recs = each 14 (λ holds. holds) (p .first) (fitting (p .mode) p (outputs p recs))
+
+-- every output record fits, and the output reel has so many blocks, records and bytes
+pub record FitsAs (p : Plan) (recs : List (List (List ℕ))) (b r l : ℕ) : Type 0 where
+  pub fit : fitAnswer p recs ≡ fine tt
+  pub blocks : b ≡ length (outputBlocks p recs)
+  pub records : r ≡ length (joined (outputBlocks p recs))
+  pub size : l ≡ length (reelOf (map (blockOf (p .format)) (outputBlocks p recs)))
+
+abbrev pub MeasuredAs : Plan → List (List (List ℕ)) → Measured → Type 0
+MeasuredAs p recs (TooLong i) = fitAnswer p recs ≡ refused 14 i
+MeasuredAs p recs (Fits blocks records size) = FitsAs p recs blocks records size
+
+unfoldable pub Measures : Task → List ℕ → Measured → Type 0
+Measures task s r = (p : Plan) (recs : List (List (List ℕ))) → Measuring task s p recs → MeasuredAs p recs r

@@ -1,0 +1,195 @@
+// The two passes over the records that are taken, before anything is written: whether the halves of each are permitted (refusal 13), and whether the output of
+// each fits (refusal 14) with what the output reel measures. Document 01, "Blocks and records" and "Refusal numbers".
+ghost use mathlib.Core.Path.{_≡_};
+ghost use Prim.Native.Nat.{_≤_};
+ghost use Rattle.measures.specs.Promise.{formOf, Selected, FirstUnpermitted, Measurable, Measures};
+ghost use Rattle.measures.specs.Tallying.{tailOf, lengthOf, overfillsOf, opensOf, tallyOf, Small};
+use reels::Form;
+use terms::Mode;
+use terms::Task;
+use walks::RecordRead;
+
+// What is tallied of the output along the way: so many blocks, the size of the last, and the bytes of all.
+pub struct Tally {
+    pub blocks: usize,
+    pub size: usize,
+    pub bytes: usize,
+}
+
+// The number of the first record whose output does not fit; or, where each fits, how many blocks, records and bytes the output reel has.
+pub enum Measured {
+    TooLong {
+        record: usize,
+    },
+    Fits {
+        blocks: usize,
+        records: usize,
+        length: usize,
+    },
+}
+
+// What the plan asks of input blocks.
+fn form_of(task: Task) -> Form
+    ensures { λ r. ⌜ r ≡ formOf task ⌝ }
+{
+    let format = task.format;
+    Form {
+        format,
+        n: task.n,
+        m: task.m,
+        least: task.least,
+    }
+}
+
+// The number of the first record taken of which a half is not permitted, or 0.
+pub fn first_unpermitted(task: Task, fields: &[u16], s: &[u8]) -> usize
+    requires { ⌜ Selected task (now fields) (now s) ⌝ }
+    ensures { λ r. ⌜ FirstUnpermitted task (now (fields .entry)) (now (s .entry)) r ⌝ }
+{
+    let form = form_of(task);
+    let first = task.first;
+    let mut w = walks::taken(form, s, first);
+    let mut number = first;
+    loop {
+        let read = walks::record(form, s, w);
+        match read {
+            RecordRead::Record {
+                start,
+                length,
+                begins: _,
+                next,
+            } => {
+                let end = start + length;
+                if !records::permitted(fields, &s[start..end]) {
+                    return number;
+                }
+                w = next;
+                number += 1;
+            }
+            RecordRead::End => {
+                return 0;
+            }
+        }
+    }
+}
+
+// With CV, how much data past A's n follows.
+fn tail_length(task: Task, length: usize) -> usize
+    ensures { λ r. ⌜ r ≡ tailOf task length ⌝ }
+{
+    let n = task.n;
+    if length < n {
+        return 0;
+    }
+    if task.carries {
+        return length - n;
+    }
+    0
+}
+
+// The length of a record's output: TR carries records unchanged.
+fn output_length(task: Task, length: usize) -> usize
+    requires { ⌜ (task .width ≤ 65536) × (length ≤ 65536) ⌝ }
+    ensures { λ r. ⌜ r ≡ lengthOf task length ⌝ }
+{
+    let mode = task.mode;
+    let width = task.width;
+    match mode {
+        Mode::TC => length,
+        Mode::TF => width + tail_length(task, length),
+        Mode::TR => length,
+        Mode::TRF => width + tail_length(task, length),
+    }
+}
+
+// Whether no block is open, or a record does not fit behind the others.
+fn overfills(task: Task, tally: Tally, length: usize) -> bool
+    requires { ⌜ Small task tally length ⌝ }
+    ensures { λ r. ⌜ r ≡ overfillsOf (task .limit) (task .cost) tally length ⌝ }
+{
+    let blocks = tally.blocks;
+    let size = tally.size + (task.cost + length);
+    if blocks == 0 {
+        return true;
+    }
+    size > task.limit
+}
+
+// Whether a record opens a block: in TF where its input block begins, in TR and TRF where it does not fit behind the others.
+fn opens(task: Task, tally: Tally, begins: bool, length: usize) -> bool
+    requires { ⌜ Small task tally length ⌝ }
+    ensures { λ r. ⌜ r ≡ opensOf task tally begins length ⌝ }
+{
+    let mode = task.mode;
+    match mode {
+        Mode::TC => overfills(task, tally, length),
+        Mode::TF => begins,
+        Mode::TR => overfills(task, tally, length),
+        Mode::TRF => overfills(task, tally, length),
+    }
+}
+
+// One record more, whose output has this length.
+fn tallied(task: Task, tally: Tally, begins: bool, length: usize) -> Tally
+    requires { ⌜ Small task tally length ⌝ }
+    ensures { λ r. ⌜ r ≡ tallyOf task tally begins length ⌝ }
+{
+    let cost = task.cost;
+    let more = cost + length;
+    if opens(task, tally, begins, length) {
+        return Tally {
+            blocks: tally.blocks + 1,
+            size: cost + more,
+            bytes: tally.bytes + (cost + more),
+        };
+    }
+    Tally {
+        blocks: tally.blocks,
+        size: tally.size + more,
+        bytes: tally.bytes + more,
+    }
+}
+
+// Whether the output of each record taken fits, and what the output reel measures: a pass that holds three numbers and builds nothing.
+pub fn measure(task: Task, s: &[u8]) -> Measured
+    requires { ⌜ Measurable task (now s) ⌝ }
+    ensures { λ r. ⌜ Measures task (now (s .entry)) r ⌝ }
+{
+    let form = form_of(task);
+    let first = task.first;
+    // The least size that a block of B may not have.
+    let over = task.limit + 1;
+    let mut walk = walks::taken(form, s, first);
+    let mut number = first;
+    let mut tally = Tally {
+        blocks: 0,
+        size: 0,
+        bytes: 0,
+    };
+    loop {
+        let read = walks::record(form, s, walk);
+        match read {
+            RecordRead::Record {
+                start: _,
+                length,
+                begins,
+                next,
+            } => {
+                let more = tallied(task, tally, begins, output_length(task, length));
+                if more.size >= over {
+                    return Measured::TooLong { record: number };
+                }
+                tally = more;
+                walk = next;
+                number += 1;
+            }
+            RecordRead::End => {
+                return Measured::Fits {
+                    blocks: tally.blocks,
+                    records: number - first,
+                    length: 4 * tally.blocks + 8 + tally.bytes,
+                };
+            }
+        }
+    }
+}
