@@ -1,0 +1,126 @@
+-- A record in its place: what each function leaves is the record's word and output over what was lent. By the laws of what is put over an output.
+use mathlib.Core.Path.{_≡_, refl, ap, ap₂, sym, _∙_, subst}
+use mathlib.Core.Bool.{Bool, true, false, cond}
+use mathlib.Core.List.{List, [], _++_}
+use Prim.Native.Nat.{ℕ, _+_, _-_, _≤_}
+use native.Mathlib.Omega.{arith}
+use lib.ListN.{length, take, drop, replicate, length-append, length-drop, length-replicate}
+use borrow.Rule.Slice.PartMut.{putMid}
+use Rattle.rules.specs.Halves.{Field, over, bytes, outHalves, halves, value}
+use Rattle.rules.specs.Plan.{selects}
+use Rattle.rules.specs.Output.{cost}
+use Rattle.rules.specs.Lent.{zoneF}
+use Rattle.rules.proofs.SizeLaws.{length-over}
+use Rattle.rules.proofs.PlaceLaws.{over-behind}
+use Rattle.rules.proofs.LentParts.{rest-over}
+use Rattle.rules.proofs.FieldSteps.{out-bytes, length-writtenBytes}
+use Rattle.rules.proofs.WordLaws.{wordAt}
+use Rattle.terms.specs.Meaning.{modeOf, formatOf}
+use Rattle.terms.specs.declared.Mode.{Mode}
+use Rattle.terms.specs.declared.Format.{Format}
+use Rattle.terms.specs.declared.Format.the-variants.{FV}
+use Rattle.terms.specs.declared.Task.{Task}
+use Rattle.records.specs.Flat.{FlatFair}
+use Rattle.records.specs.Promise.{outBytes, Puts}
+use Rattle.writers.specs.declared.Place.{Place}
+use Rattle.writers.specs.Writing.{tailOf, lengthOf, opensOf, sizeWord, pieceOf}
+use Rattle.writers.specs.Promise.{outOf, Writable, DataPut, PiecePut, nextBytes, NextPut}
+use Rattle.writers.proofs.Gathering.{length-sizeWord, length-piece}
+use Rattle.writers.proofs.StepLaws.{length-selected, length-carried}
+
+-- ---- the word
+
+pub size-as : {format k : Format} → format ≡ k → (at size : ℕ) (out new : List ℕ) → new ≡ over at (sizeWord (formatOf k) size) out → new ≡ over at (sizeWord (formatOf format) size) out
+size-as e at size out new q = q ∙ sym (ap (λ (f : Format). over at (sizeWord (formatOf f) size) out) e)
+
+pub size-room : {format : Format} → format ≡ FV → (at n : ℕ) → at + cost (formatOf format) ≤ n → at + 4 ≤ n
+size-room e at n l = subst (λ (f : Format). at + cost (formatOf f) ≤ n) e l
+
+pub size-upto : (f : Format) (at e v : ℕ) (out new : List ℕ) → new ≡ over at (sizeWord (formatOf f) (e - at)) out → e ≡ v → new ≡ over at (sizeWord (formatOf f) (v - at)) out
+size-upto f at e v out new q s = q ∙ ap (λ (z : ℕ). over at (sizeWord (formatOf f) (z - at)) out) s
+
+-- ---- the output
+
+module _ (task : Task) (xs r : List ℕ) where
+  pub copy-room : {m : Mode} → task .mode ≡ m → selects (modeOf m) ≡ false → (room : ℕ) → lengthOf task (length r) ≤ room → length r ≤ room
+  copy-room e s room l = omega (arith, length-carried task (length r) e s)
+
+  pub record-room : {m : Mode} → task .mode ≡ m → selects (modeOf m) ≡ true → (room : ℕ) → lengthOf task (length r) ≤ room
+      → task .width + cond (task .carries) (length r - task .n) 0 ≤ room
+  unfolding tailOf
+  record-room e s room l = subst (λ (k : ℕ). k ≤ room) (sym (length-selected task (length r) e s)) l
+
+  pub selects-as : {m : Mode} → task .mode ≡ m → (b : Bool) → selects (modeOf m) ≡ b → selects (modeOf (task .mode)) ≡ b
+  selects-as e b s = ap (λ (m : Mode). selects (modeOf m)) e ∙ s
+
+  module _ (old new : List ℕ) where
+    pub data-copied : {m : Mode} → task .mode ≡ m → selects (modeOf m) ≡ false → new ≡ over 0 r old → DataPut task xs r old new
+    unfolding DataPut outOf
+    data-copied e s q fs fair = q ∙ sym (ap (λ (b : Bool). over 0 (cond b (outBytes (task .n) (task .width) fs (task .carries) r) r) old) (selects-as e false s))
+
+    pub data-selected : {m : Mode} → task .mode ≡ m → selects (modeOf m) ≡ true → Puts xs (task .n) (task .width) (task .carries) r old new → DataPut task xs r old new
+    unfolding DataPut outOf Puts
+    data-selected e s q fs fair =
+        q fs fair ∙ sym (ap (λ (b : Bool). over 0 (cond b (outBytes (task .n) (task .width) fs (task .carries) r) r) old) (selects-as e true s))
+
+  -- its length
+  pub out-size : Writable task xs r → (fs : List Field) → FlatFair xs fs (task .n) (task .width) → length (outOf task fs r) ≡ lengthOf task (length r)
+  unfolding outOf lengthOf tailOf outBytes
+  out-size w fs fair = go (selects (modeOf (task .mode))) refl
+    where
+      tail : (c : Bool) → length (cond {A = List ℕ} c (drop (task .n) r) []) ≡ cond {A = ℕ} c (length r - task .n) 0
+      tail true = length-drop (task .n) r
+      tail false = refl
+
+      go : (b : Bool) → selects (modeOf (task .mode)) ≡ b
+          → length (cond (selects (modeOf (task .mode))) (outBytes (task .n) (task .width) fs (task .carries) r) r) ≡ cond (selects (modeOf (task .mode))) (task .width + cond (task .carries) (length r - task .n) 0) (length r)
+      go true b =
+          let long = w .least b in
+          let size : length (bytes (outHalves zoneF value (task .width) fs (halves (take (task .n) r)))) ≡ task .width
+          = ap length (out-bytes zoneF (task .n) (task .width) r long fs (fair .fits)) ∙ length-writtenBytes zoneF (task .n) (task .width) r long fs (replicate (task .width) 0x40) (fair .fits) (length-replicate {A = ℕ} (task .width) 0x40) in
+          rw b
+          (length-append (bytes (outHalves zoneF value (task .width) fs (halves (take (task .n) r)))) (cond {A = List ℕ} (task .carries) (drop (task .n) r) [])
+          ∙ ap₂ (λ (i j : ℕ). i + j) size (tail (task .carries)))
+      go false b = rw b
+
+  -- ---- the record
+
+  module _ (w : Writable task xs r) (at : ℕ) (old : List ℕ) (fits : at + (task .cost + lengthOf task (length r)) ≤ length old) where
+    pub piece-put : (n : ℕ) → n ≡ lengthOf task (length r) → (out ys : List ℕ) → out ≡ over at (sizeWord (formatOf (task .format)) (n + 4)) old
+        → DataPut task xs r (take (length out - (at + task .cost)) (drop (at + task .cost) out)) ys
+        → PiecePut task xs r at old (putMid (at + task .cost) (length out - (at + task .cost)) out ys)
+    unfolding DataPut PiecePut
+    piece-put n e out ys q d fs fair =
+        let f = formatOf (task .format) in
+        let x = outOf task fs r in
+        let from = at + task .cost in
+        let k : length x ≡ lengthOf task (length r) = out-size w fs fair in
+        let z : length (sizeWord f (n + 4)) ≡ cost f = length-sizeWord f (n + 4) in
+        let same : length out ≡ length old = ap length q ∙ length-over at (sizeWord f (n + 4)) old (omega (arith, w .costs)) in
+        ap (putMid from (length out - from) out) (d fs fair)
+        ∙ rest-over from out x (omega (arith, w .costs))
+        ∙ ap (over from x) q
+        ∙ over-behind at from (sizeWord f (n + 4)) x old (omega (arith, w .costs)) (omega (arith, w .costs))
+        ∙ ap (λ (i : ℕ). over at (sizeWord f (i + 4) ++ x) old) (e ∙ sym k)
+
+  module _ (w : Writable task xs r) (begins : Bool) (x : Place) (old : List ℕ) where
+    pub placed-open : opensOf task (x .size) begins (lengthOf task (length r)) ≡ true → x .at + (task .cost + (task .cost + lengthOf task (length r))) ≤ length old
+        → (out new : List ℕ) → out ≡ over (x .at) (sizeWord (formatOf (task .format)) (wordAt old (x .word + 4) - x .at)) old
+        → PiecePut task xs r (x .at + task .cost) out new → NextPut task xs r begins x old new
+    unfolding PiecePut NextPut nextBytes
+    placed-open o fits out new q d fs fair =
+        let f = formatOf (task .format) in
+        let head = sizeWord f (wordAt old (x .word + 4) - x .at) in
+        let piece = pieceOf f (outOf task fs r) in
+        let z : length head ≡ cost f = length-sizeWord f (wordAt old (x .word + 4) - x .at) in
+        let k : length piece ≡ cost f + length (outOf task fs r) = length-piece f (outOf task fs r) in
+        let l : length (outOf task fs r) ≡ lengthOf task (length r) = out-size w fs fair in
+        rw o
+        (d fs fair ∙ ap (over (x .at + task .cost) piece) q ∙ over-behind (x .at) (x .at + task .cost) head piece old (omega (arith, w .costs)) (omega (arith, w .costs)))
+
+    pub placed-behind : opensOf task (x .size) begins (lengthOf task (length r)) ≡ false → (new : List ℕ) → PiecePut task xs r (x .at) old new → NextPut task xs r begins x old new
+    unfolding PiecePut NextPut nextBytes
+    placed-behind o new d fs fair = rw o (d fs fair)
+
+  pub opens-as : (size : ℕ) (begins t b : Bool) (n : ℕ) → t ≡ opensOf task size begins n → n ≡ lengthOf task (length r) → t ≡ b → opensOf task size begins (lengthOf task (length r)) ≡ b
+  opens-as size begins t b n e k q = ap (opensOf task size begins) (sym k) ∙ sym e ∙ q

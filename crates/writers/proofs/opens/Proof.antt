@@ -1,0 +1,58 @@
+-- The mode says which test is asked. Assumes nothing.
+use mathlib.Core.Path.{refl, _∙_}
+use Rattle.writers.proofs.StepLaws.{opens-begins, opens-overfills}
+use borrow.Author.Needs.{needs}
+use Rattle.writers.proofs.opens.Statement.{statement}
+use Rattle.writers.proofs.opens.Tie as tie
+use Rattle.writers.proofs.opens.Reads as reads
+use Rattle.writers.proofs.opens.Lts as lts
+use Rattle.writers.proofs.overfills.Reads as overfills-reads
+
+enum-told : tie.Need-enum-told
+enum-told c = search needs
+
+overfills-requires : tie.Need-overfills-requires
+overfills-requires c κs = search needs
+
+enum-told-2 : tie.Need-enum-told-2
+enum-told-2 c = search needs
+
+enum-told-3 : tie.Need-enum-told-3
+enum-told-3 c = search needs
+
+overfills-requires-2 : tie.Need-overfills-requires-2
+overfills-requires-2 c κs = search needs
+
+enum-told-4 : tie.Need-enum-told-4
+enum-told-4 c = search needs
+
+overfills-requires-3 : tie.Need-overfills-requires-3
+overfills-requires-3 c κs = search needs
+
+returns : tie.Need-returns
+returns c = c .overfills .ensures ∙ opens-overfills _ _ _ _ (c .before .enum-told .given .1) refl
+
+returns-2 : tie.Need-returns-2
+returns-2 c = opens-begins _ _ _ _ (c .enum-told2 .given .1) refl
+
+returns-3 : tie.Need-returns-3
+returns-3 c = c .overfills2 .ensures ∙ opens-overfills _ _ _ _ (c .before .enum-told3 .given .1) refl
+
+returns-4 : tie.Need-returns-4
+returns-4 c = c .overfills3 .ensures ∙ opens-overfills _ _ _ _ (c .before .enum-told4 .given .1) refl
+
+pub opens-spec : {M : Type 1} → statement M
+opens-spec =
+    tie.close
+    (tie.spec
+    enum-told
+    overfills-requires
+    enum-told-2
+    enum-told-3
+    overfills-requires-2
+    enum-told-4
+    overfills-requires-3
+    returns
+    returns-2
+    returns-3
+    returns-4)
