@@ -1,0 +1,226 @@
+-- The answer of a run, step by step: each refusal is that of the first step that refuses. By the definition of a run. Assumes nothing.
+use mathlib.Core.Path.{_≡_, refl, ap, sym, _∙_, subst}
+use mathlib.Core.Bool.{Bool, true, false, cond, _&&_}
+use mathlib.Core.List.{List, [], _∷_, map}
+use mathlib.Core.Logic.{inl}
+use Prim.Native.Nat.{ℕ, zero, suc, _-_, _≤_, _<_}
+use native.Mathlib.Omega.{arith}
+use lib.Dec.{ltb, leb}
+use lib.ListN.{length, getD}
+use borrow.Author.Tests.{ltb-true, ltb-false, lt-ltb, le-ltb, le-leb, lt-leb}
+use Rattle.rules.specs.Base.{joined}
+use Rattle.rules.specs.Answer.{Answer, fine, refuse, refused, _>>=_, _>>_, unless, each}
+use Rattle.rules.specs.Places.{All, noMore, also, Byte}
+use Rattle.rules.specs.Grammar.{Mode, tc, tf, tr, trf}
+use Rattle.rules.specs.Reel.{isReel, blocksOf, reelOf}
+use Rattle.rules.specs.Plan.{Plan, selects, isTC}
+use Rattle.rules.specs.Blocks.{recordsFrom, takenFrom}
+use Rattle.rules.specs.Output.{permits, blockOf, blocked}
+use Rattle.rules.specs.Run.{fitting, Ran as RuleRan, outBlocks, ranOf, housed, convert}
+use Rattle.rules.specs.RunRows.{Holds}
+use Rattle.rules.specs.Accepted.{Accepted}
+use Rattle.rules.specs.Lent.{runAnswer}
+use Rattle.rules.proofs.AnswerLaws.{fine-each}
+use Rattle.rules.proofs.ReelLaws.{blocks-reel, all-blocks}
+use Rattle.rules.proofs.BlocksOutcome.{holds-of}
+use Rattle.rules.proofs.Never.{all-of, permits-other, holds-taken, all-fit}
+use Rattle.rules.proofs.CopyLaws.{blocks-back, copy-blocks}
+use Rattle.rules.proofs.RunParts.{outputs, outputBlocks}
+use Rattle.reels.specs.declared.ReelRead.{ReelRead}
+use Rattle.reels.specs.declared.ReelRead.the-variants.{Read, NotReel, BadBlock}
+use Rattle.walks.specs.Promise.{Good}
+use Rattle.measures.specs.declared.Measured.{Measured}
+use Rattle.measures.specs.declared.Measured.the-variants.{TooLong, Fits}
+use Rattle.measures.specs.Promise.{Fair, Selecting, Selected, FirstUnpermitted, Measuring, Measurable, Measures, fitAnswer, FitsAs, MeasuredAs}
+use Rattle.reels.specs.Form.{FormIs}
+use Rattle.reels.specs.Records.{ReadAs}
+use Rattle.reels.specs.declared.Form.{Form}
+use Rattle.reels.proofs.ReelTold.{form-is, Tells, tells}
+use Rattle.terms.specs.Meaning.{modeOf}
+use Rattle.terms.specs.declared.Task.{Task}
+use Rattle.checks.specs.declared.Ran.{Ran}
+use Rattle.checks.specs.Promise.{formOf, ranStruct, refusedRun, finishedRun, housedRun, Given, GivenPlan, ReadBy, Unpermitted, MeasuredRun, CheckedRun, Checked}
+
+-- ---- the steps of a run
+
+module _ (room : ℕ) (p : Plan) (s : List ℕ) where
+  -- 11
+  pub not-reel : isReel s ≡ false → convert room p s ≡ refused 11 0
+  unfolding convert outBlocks unless _>>_ _>>=_
+  not-reel e = rw e refl
+
+  -- 12
+  pub bad-block : (i : ℕ) → isReel s ≡ true → recordsFrom p 1 (blocksOf s) ≡ refused 12 i → convert room p s ≡ refused 12 i
+  unfolding convert outBlocks unless _>>_ _>>=_
+  bad-block i e b = rw (e, b) refl
+
+  module _ (recs : List (List (List ℕ))) (g : Good p s recs) where
+    abbrev asked : Answer Unit → Answer Unit → Answer RuleRan
+    asked halves sizes = (halves >> (sizes >> fine (outputBlocks p recs))) >>= λ bs. housed room (ranOf p bs)
+
+    -- 13, 14 and 15 are left
+    reads : convert room p s ≡ asked (each 13 (permits p) (p .first) (joined (takenFrom (p .first) recs))) (fitAnswer p recs)
+    unfolding convert outBlocks unless _>>_ _>>=_ fitAnswer
+    reads = rw (g .reel, g .records) refl
+
+    pub no-permit : (i : ℕ) → each 13 (permits p) (p .first) (joined (takenFrom (p .first) recs)) ≡ refused 13 i → convert room p s ≡ refused 13 i
+    unfolding _>>_ _>>=_
+    no-permit i e = reads ∙ ap (λ (h : Answer Unit). asked h (fitAnswer p recs)) e
+
+    module _ (permitted : each 13 (permits p) (p .first) (joined (takenFrom (p .first) recs)) ≡ fine tt) where
+      sizes-left : convert room p s ≡ asked (fine tt) (fitAnswer p recs)
+      sizes-left = reads ∙ ap (λ (h : Answer Unit). asked h (fitAnswer p recs)) permitted
+
+      pub too-long : (i : ℕ) → fitAnswer p recs ≡ refused 14 i → convert room p s ≡ refused 14 i
+      unfolding _>>_ _>>=_
+      too-long i e = sizes-left ∙ ap (λ (h : Answer Unit). asked (fine tt) h) e
+
+      room-left : fitAnswer p recs ≡ fine tt → convert room p s ≡ housed room (ranOf p (outputBlocks p recs))
+      unfolding _>>_ _>>=_
+      room-left e = sizes-left ∙ ap (λ (h : Answer Unit). asked (fine tt) h) e
+
+-- 15
+abbrev roomAnswer : ℕ → RuleRan → Ran
+roomAnswer room x = housedRun room (length (x .reel)) (x .records) (x .blocks)
+
+room-is : (room : ℕ) (x : RuleRan) → ranStruct (runAnswer (housed room x)) ≡ roomAnswer room x
+unfolding housed housedRun unless _>>_
+room-is room x = go (ltb room (length (x .reel))) refl (ltb 65536 (length (x .reel))) refl
+  where
+    go : (t : Bool) → ltb room (length (x .reel)) ≡ t → (u : Bool) → ltb 65536 (length (x .reel)) ≡ u → ranStruct (runAnswer (housed room x)) ≡ roomAnswer room x
+    go true t u w = rw (lt-leb (length (x .reel)) room (ltb-true room (length (x .reel)) t), t) refl
+    go false t true w = rw (le-leb (length (x .reel)) room (ltb-false room (length (x .reel)) t), lt-leb (length (x .reel)) 65536 (ltb-true 65536 (length (x .reel)) w), t, w) refl
+    go false t false w = rw (le-leb (length (x .reel)) room (ltb-false room (length (x .reel)) t), le-leb (length (x .reel)) 65536 (ltb-false 65536 (length (x .reel)) w), t, w) refl
+
+fits-room : (room : ℕ) (p : Plan) (recs : List (List (List ℕ))) (b k size : ℕ) → FitsAs p recs b k size → housedRun room size k b ≡ roomAnswer room (ranOf p (outputBlocks p recs))
+unfolding ranOf
+fits-room room p recs b k size f = λ i. housedRun room (f .size i) (f .records i) (f .blocks i)
+
+pub copy-reel : (p : Plan) (ok : Accepted p) → p .mode ≡ tc → (s : List ℕ) → All Byte s → isReel s ≡ true → (recs : List (List (List ℕ))) → Holds p (blocksOf s) recs
+    → reelOf (map (blockOf (p .format)) (outputBlocks p recs)) ≡ s
+copy-reel p ok q s a e recs h =
+    ap (λ (bs : List (List (List ℕ))). reelOf (map (blockOf (p .format)) bs)) (copy-blocks p ok q recs) ∙ ap reelOf (blocks-back p h) ∙ blocks-reel s a e
+
+-- as the code asks it
+module _ (room size records blocks : ℕ) (r : Ran) where
+  pub room-over : room < size → r ≡ refusedRun 15 size → r ≡ housedRun room size records blocks
+  unfolding housedRun
+  room-over l e = rw (lt-ltb room size l) e
+
+  pub most-over : size ≤ room → 65536 < size → r ≡ refusedRun 15 size → r ≡ housedRun room size records blocks
+  unfolding housedRun
+  most-over k l e = rw (le-ltb room size k, lt-ltb 65536 size l) e
+
+pub room-enough : (room size records blocks : ℕ) → size ≤ room → size ≤ 65536 → finishedRun size records blocks ≡ housedRun room size records blocks
+unfolding housedRun
+room-enough room size records blocks k l = rw (le-ltb room size k, le-ltb 65536 size l) refl
+
+-- ---- 13
+
+module _ {task : Task} {fields s : List ℕ} where
+  -- TC and TR
+  pub nothing-asked : selects (modeOf (task .mode)) ≡ false → Unpermitted task fields s 0
+  nothing-asked e = record { is = λ p recs x g. fine-each 13 (permits p) (p .first) (all-of (permits-other p (ap selects (sym (x .is .mode)) ∙ e)) _) }
+
+  pub selected : selects (modeOf (task .mode)) ≡ true → ReadBy task fields s → Selected task fields s
+  selected e y = record { p = y .p; recs = y .recs; given = selecting-by e (y .p) (y .recs) (y .given) (y .good) }
+    where
+      selecting-by : selects (modeOf (task .mode)) ≡ true → (p : Plan) (recs : List (List (List ℕ))) → Given task fields p → Good p s recs → Selecting task fields s p recs
+      selecting-by e p recs x g = record { fair = record { is = x .is; good = g }; flat = x .flat; zone = x .zone; selecting = ap selects (sym (x .is .mode)) ∙ e }
+
+  pub first-asked : selects (modeOf (task .mode)) ≡ true → (r : ℕ) → FirstUnpermitted task fields s r → Unpermitted task fields s r
+  unfolding FirstUnpermitted
+  first-asked e r h =
+      record { is = λ p recs x g. h p recs (record { fair = record { is = x .is; good = g }; flat = x .flat; zone = x .zone; selecting = ap selects (sym (x .is .mode)) ∙ e }) }
+
+-- ---- 14
+
+pub bytes-of : (s : List ℕ) → ((i : ℕ) → getD s i 0 < 256) → All Byte s
+bytes-of [] h = noMore
+bytes-of (b ∷ s) h = also (h 0) (bytes-of s (λ i. h (suc i)))
+
+module _ {task : Task} {fields s : List ℕ} where
+  pub measurable : isTC (modeOf (task .mode)) ≡ false → ReadBy task fields s → Measurable task s
+  measurable e y =
+      record { p = y .p; recs = y .recs; given = record { fair = record { is = y .given .is; good = y .good }; other = ap isTC (sym (y .given .is .mode)) ∙ e } }
+
+module _ {task : Task} {fields s : List ℕ} {blocks records : ℕ} where
+  -- TC's output is its input
+  pub copy-measured : modeOf (task .mode) ≡ tc → All Byte s → MeasuredRun task fields s blocks records (Fits blocks records (length s))
+  unfolding fitAnswer takenFrom
+  copy-measured e a = record { is = λ p recs x g b k. fits p recs x g b k }
+    where
+      fits : (p : Plan) (recs : List (List (List ℕ))) → Given task fields p → Good p s recs → blocks ≡ length recs → records ≡ length (joined recs) → FitsAs p recs blocks records (length s)
+      fits p recs x g b k =
+          let q : p .mode ≡ tc = sym (x .is .mode) ∙ e in
+          let h = holds-of p (x .accepted) 1 (all-blocks s a) recs (g .records) in
+          let same = copy-blocks p (x .accepted) q recs in
+          record {
+            fit = fine-each 14 (λ holds. holds) (p .first) (all-fit p (x .accepted) (inl q) (holds-taken p (p .first - 1) h));
+            blocks = b ∙ ap length (sym same);
+            records = k ∙ ap (λ (bs : List (List (List ℕ))). length (joined bs)) (sym same);
+            size = ap length (sym (copy-reel p (x .accepted) q s a (g .reel) recs h));
+          }
+
+  pub measures : isTC (modeOf (task .mode)) ≡ false → (r : Measured) → Measures task s r → MeasuredRun task fields s blocks records r
+  unfolding Measures
+  measures e r h = record { is = λ p recs x g b k. h p recs (record { fair = record { is = x .is; good = g }; other = ap isTC (sym (x .is .mode)) ∙ e }) }
+
+-- ---- 13, 14 and 15 in their order
+
+module _ {task : Task} {fields s : List ℕ} {blocks records room : ℕ} {r : Ran} where
+  pub stops-unpermitted : (number : ℕ) → 0 < number → Unpermitted task fields s number → r ≡ refusedRun 13 number → CheckedRun task fields s blocks records room r
+  stops-unpermitted zero l u e = absurd (omega arith)
+  stops-unpermitted (suc i) l u e = record { is = λ p recs x g b k. e ∙ ap (λ (z : Answer RuleRan). ranStruct (runAnswer z)) (sym (no-permit room p s recs g (suc i) (u .is p recs x g))) }
+
+  pub stops-long : (number : ℕ) → number ≤ 0 → Unpermitted task fields s number → (m : Measured) (i : ℕ) → m ≡ TooLong i → MeasuredRun task fields s blocks records m
+      → r ≡ refusedRun 14 i → CheckedRun task fields s blocks records room r
+  stops-long (suc n) l u m i t h e = absurd (omega arith)
+  stops-long zero l u m i t h e =
+      record { is = λ p recs x g b k. e ∙ ap (λ (z : Answer RuleRan). ranStruct (runAnswer z)) (sym (too-long room p s recs g (u .is p recs x g) i (subst (MeasuredAs p recs) t (h .is p recs x g b k)))) }
+
+  pub ends-housed : (number : ℕ) → number ≤ 0 → Unpermitted task fields s number → (m : Measured) (bs rs size : ℕ) → m ≡ Fits bs rs size → MeasuredRun task fields s blocks records m
+      → r ≡ housedRun room size rs bs → CheckedRun task fields s blocks records room r
+  ends-housed (suc n) l u m bs rs size t h e = absurd (omega arith)
+  ends-housed zero l u m bs rs size t h e = record {
+    is = λ p recs x g b k.
+        let f : FitsAs p recs bs rs size = subst (MeasuredAs p recs) t (h .is p recs x g b k) in
+        e ∙ fits-room room p recs bs rs size f ∙ sym (room-is room (ranOf p (outputBlocks p recs)))
+        ∙ ap (λ (z : Answer RuleRan). ranStruct (runAnswer z)) (sym (room-left room p s recs g (u .is p recs x g) (f .fit)));
+  }
+
+-- ---- all of them
+
+module _ {task : Task} {fields s : List ℕ} {form : Form} {read : ReelRead} (f : form ≡ formOf task) (w : ReadAs form s read) where
+  told : (p : Plan) → Given task fields p → Tells p s read
+  told p x =
+      tells form p
+      (subst (λ (z : Form). FormIs z p) (sym f) (form-is (formOf task) p (x .accepted) (x .is .format) (x .is .n) (x .is .m) (x .is .least)))
+      s read w
+
+  pub ends-no-reel : {room : ℕ} → read ≡ NotReel → (r : Ran) → r ≡ refusedRun 11 0 → Checked task fields s room r
+  ends-no-reel {room} t r e = record { is = λ p x. e ∙ ap (λ (z : Answer RuleRan). ranStruct (runAnswer z)) (sym (not-reel room p s (subst (Tells p s) t (told p x)))) }
+
+  pub ends-bad : {room : ℕ} (i : ℕ) → read ≡ BadBlock i → (r : Ran) → r ≡ refusedRun 12 i → Checked task fields s room r
+  ends-bad {room} i t r e = record {
+    is = λ p x.
+        let y = subst (Tells p s) t (told p x) in
+        e ∙ ap (λ (z : Answer RuleRan). ranStruct (runAnswer z)) (sym (bad-block room p s i (y .0) (y .1)));
+  }
+
+  pub read-by : (b k : ℕ) → read ≡ Read b k → GivenPlan task fields → ReadBy task fields s
+  read-by b k t x =
+      let y = subst (Tells (x .p) s) t (told (x .p) (x .given)) in
+      record { p = x .p; recs = y .1 .0; given = x .given; good = record { accepted = x .given .accepted; reel = y .0; records = y .1 .1 } }
+
+  pub ends-read : {room : ℕ} (b k : ℕ) → read ≡ Read b k → (r : Ran) → CheckedRun task fields s b k room r → Checked task fields s room r
+  ends-read {room} b k t r h = record {
+    is = λ p x.
+        let y = subst (Tells p s) t (told p x) in
+        h .is p (y .1 .0) x (record { accepted = x .accepted; reel = y .0; records = y .1 .1 }) (y .1 .2) (y .1 .3);
+  }
+
+-- ---- one answer
+
+pub only-one : (task : Task) (fields s : List ℕ) (room : ℕ) → GivenPlan task fields → (x y : Ran) → Checked task fields s room x → Checked task fields s room y → x ≡ y
+only-one task fields s room g x y h k = h .is (g .p) (g .given) ∙ sym (k .is (g .p) (g .given))

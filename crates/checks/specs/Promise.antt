@@ -1,0 +1,89 @@
+-- What is promised of a run before anything is written, for every plan that the numbers may be. Assumes nothing.
+use mathlib.Core.Path.{_≡_}
+use mathlib.Core.Bool.{cond}
+use mathlib.Core.List.{List}
+use Prim.Native.Nat.{ℕ}
+use lib.Dec.{ltb}
+use lib.ListN.{length}
+use Rattle.rules.specs.Base.{joined}
+use Rattle.rules.specs.Answer.{each}
+use Rattle.rules.specs.Plan.{Plan}
+use Rattle.rules.specs.Blocks.{takenFrom}
+use Rattle.rules.specs.Output.{permits}
+use Rattle.rules.specs.Run.{convert}
+use Rattle.rules.specs.Accepted.{Accepted}
+use Rattle.rules.specs.Lent.{zoneF, RunAnswer, runAnswer}
+use Rattle.terms.specs.declared.Task.{Task}
+use Rattle.terms.specs.Meaning.{TaskIs}
+use Rattle.reels.specs.declared.Form.{Form}
+use Rattle.records.specs.Flat.{flatOf}
+use Rattle.walks.specs.Promise.{Good}
+use Rattle.measures.specs.declared.Measured.{Measured}
+use Rattle.measures.specs.Promise.{answerAt, MeasuredAs}
+use Rattle.checks.specs.declared.Ran.{Ran}
+
+-- what the plan asks of input blocks
+abbrev pub formOf : Task → Form
+formOf task = record { format = task .format; n = task .n; m = task .m; least = task .least }
+
+-- ---- answers
+
+-- the struct that says what the rules say
+abbrev pub ranStruct : RunAnswer → Ran
+ranStruct x = record { refusal = x .refusal; place = x .place; length = x .reelLength; records = x .records; blocks = x .blocks }
+
+abbrev pub refusedRun : ℕ → ℕ → Ran
+refusedRun number place = record { refusal = number; place = place; length = 0; records = 0; blocks = 0 }
+
+abbrev pub finishedRun : ℕ → ℕ → ℕ → Ran
+finishedRun size records blocks = record { refusal = 0; place = 0; length = size; records = records; blocks = blocks }
+
+-- refusal 15
+unfoldable pub housedRun : ℕ → ℕ → ℕ → ℕ → Ran
+housedRun room size records blocks =
+    cond (ltb room size) (refusedRun 15 size) (cond (ltb 65536 size) (refusedRun 15 size) (finishedRun size records blocks))
+
+-- ---- plans
+
+-- the numbers are those of an accepted plan, and the lent numbers are its fields
+pub record Given (task : Task) (fields : List ℕ) (p : Plan) : Type 0 where
+  pub is : TaskIs task p
+  pub accepted : Accepted p
+  pub flat : fields ≡ flatOf (p .fields)
+  pub zone : p .zone ≡ zoneF
+
+-- there is such a plan
+pub record GivenPlan (task : Task) (fields : List ℕ) : Type 0 where
+  pub p : Plan
+  pub given : Given task fields p
+
+-- there is such a plan, and the reel is good by it
+pub record ReadBy (task : Task) (fields s : List ℕ) : Type 0 where
+  pub p : Plan
+  pub recs : List (List (List ℕ))
+  pub given : Given task fields p
+  pub good : Good p s recs
+
+-- ---- the steps
+
+-- 13: 0, or the first record taken with a half that is not permitted
+pub record Unpermitted (task : Task) (fields s : List ℕ) (r : ℕ) : Type 0 where
+  pub is :
+      (p : Plan) (recs : List (List (List ℕ))) → Given task fields p → Good p s recs
+      → each 13 (permits p) (p .first) (joined (takenFrom (p .first) recs)) ≡ answerAt 13 r
+
+-- 14 and the measure, where the input has so many blocks and records
+pub record MeasuredRun (task : Task) (fields s : List ℕ) (blocks records : ℕ) (r : Measured) : Type 0 where
+  pub is :
+      (p : Plan) (recs : List (List (List ℕ))) → Given task fields p → Good p s recs → blocks ≡ length recs → records ≡ length (joined recs)
+      → MeasuredAs p recs r
+
+-- 13, 14 and 15 of a good reel
+pub record CheckedRun (task : Task) (fields s : List ℕ) (blocks records room : ℕ) (r : Ran) : Type 0 where
+  pub is :
+      (p : Plan) (recs : List (List (List ℕ))) → Given task fields p → Good p s recs → blocks ≡ length recs → records ≡ length (joined recs)
+      → r ≡ ranStruct (runAnswer (convert room p s))
+
+-- all of them
+pub record Checked (task : Task) (fields s : List ℕ) (room : ℕ) (r : Ran) : Type 0 where
+  pub is : (p : Plan) → Given task fields p → r ≡ ranStruct (runAnswer (convert room p s))

@@ -1,0 +1,129 @@
+// Refusals 11 to 15 of a run, in their order and each over the whole reel, before anything is written: document 01, "Refusal numbers".
+ghost use mathlib.Core.Path.{_≡_};
+ghost use Rattle.checks.specs.Promise.{formOf, refusedRun, housedRun, GivenPlan, ReadBy, Unpermitted, MeasuredRun, CheckedRun, Checked};
+use measures::Measured;
+use reels::Form;
+use reels::ReelRead;
+use terms::Mode;
+use terms::Task;
+
+// At most so many bytes has an output reel.
+const MOST: usize = 65536;
+
+// What a run answers: refusal and place, or 0 and 0; the length of the output reel, and how many records and blocks are written.
+pub struct Ran {
+    pub refusal: usize,
+    pub place: usize,
+    pub length: usize,
+    pub records: usize,
+    pub blocks: usize,
+}
+
+// What the plan asks of input blocks.
+fn form_of(task: Task) -> Form
+    ensures { λ r. ⌜ r ≡ formOf task ⌝ }
+{
+    let format = task.format;
+    Form {
+        format,
+        n: task.n,
+        m: task.m,
+        least: task.least,
+    }
+}
+
+fn refused(number: usize, place: usize) -> Ran
+    ensures { λ r. ⌜ r ≡ refusedRun number place ⌝ }
+{
+    Ran {
+        refusal: number,
+        place,
+        length: 0,
+        records: 0,
+        blocks: 0,
+    }
+}
+
+// Refusal 15: the output reel is longer than the lent room, or than 65,536.
+fn housed(room: usize, length: usize, records: usize, blocks: usize) -> Ran
+    ensures { λ r. ⌜ r ≡ housedRun room length records blocks ⌝ }
+{
+    if length > room {
+        return refused(15, length);
+    }
+    if length > MOST {
+        return refused(15, length);
+    }
+    Ran {
+        refusal: 0,
+        place: 0,
+        length,
+        records,
+        blocks,
+    }
+}
+
+// Refusal 13: the first record taken with a half that is not permitted, or 0. TC and TR ask nothing of halves.
+fn unpermitted(task: Task, fields: &[u16], s: &[u8]) -> usize
+    requires { ⌜ ReadBy task (now fields) (now s) ⌝ }
+    ensures { λ r. ⌜ Unpermitted task (now (fields .entry)) (now (s .entry)) r ⌝ }
+{
+    let mode = task.mode;
+    match mode {
+        Mode::TC => 0,
+        Mode::TF => measures::first_unpermitted(task, fields, s),
+        Mode::TR => 0,
+        Mode::TRF => measures::first_unpermitted(task, fields, s),
+    }
+}
+
+// Refusal 14 and the measure. The output of TC is its input.
+fn measured(task: Task, fields: &[u16], s: &[u8], blocks: usize, records: usize) -> Measured
+    requires { ⌜ ReadBy task (now fields) (now s) ⌝ }
+    ensures { λ r. ⌜ MeasuredRun task (now (fields .entry)) (now (s .entry)) blocks records r ⌝ }
+{
+    let mode = task.mode;
+    match mode {
+        Mode::TC => Measured::Fits {
+            blocks,
+            records,
+            length: s.len(),
+        },
+        Mode::TF => measures::measure(task, s),
+        Mode::TR => measures::measure(task, s),
+        Mode::TRF => measures::measure(task, s),
+    }
+}
+
+// Refusals 13, 14 and 15 of a reel whose blocks all keep their rule.
+fn checked(task: Task, fields: &[u16], s: &[u8], blocks: usize, records: usize, room: usize) -> Ran
+    requires { ⌜ ReadBy task (now fields) (now s) ⌝ }
+    ensures { λ r. ⌜ CheckedRun task (now (fields .entry)) (now (s .entry)) blocks records room r ⌝ }
+{
+    let number = unpermitted(task, fields, s);
+    if number > 0 {
+        return refused(13, number);
+    }
+    let output = measured(task, fields, s, blocks, records);
+    match output {
+        Measured::TooLong { record } => refused(14, record),
+        Measured::Fits {
+            blocks,
+            records,
+            length,
+        } => housed(room, length, records, blocks),
+    }
+}
+
+// What the run of a plan over a reel answers, where the lent output has so much room.
+pub fn check(task: Task, fields: &[u16], s: &[u8], room: usize) -> Ran
+    requires { ⌜ GivenPlan task (now fields) ⌝ }
+    ensures { λ r. ⌜ Checked task (now (fields .entry)) (now (s .entry)) room r ⌝ }
+{
+    let read = reels::read_reel(form_of(task), s);
+    match read {
+        ReelRead::NotReel => refused(11, 0),
+        ReelRead::BadBlock { block } => refused(12, block),
+        ReelRead::Read { blocks, records } => checked(task, fields, s, blocks, records, room),
+    }
+}
