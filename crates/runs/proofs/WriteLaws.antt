@@ -1,0 +1,165 @@
+-- A run that finishes has what the writers ask, and what they write is what the rules say; a run that is refused leaves the lent output. By the parts of a
+-- finished run, and since no refusal has the number 0. Assumes nothing.
+use mathlib.Core.Path.{_≡_, refl, ap, sym, _∙_, subst}
+use mathlib.Core.Bool.{Bool, true, false}
+use mathlib.Core.List.{List, [], _∷_, _++_, map}
+use Prim.Native.Nat.{ℕ, zero, suc, _+_, _*_, _-_, _≤_, _<_}
+use native.Mathlib.Omega.{arith}
+use lib.ListN.{length, take, drop, replicate, length-map}
+use lib.Seq.{length-take-le}
+use Rattle.rules.specs.Base.{joined}
+use Rattle.rules.specs.Answer.{Answer, Refusal, fine, refuse, refused}
+use Rattle.rules.specs.Places.{All, Byte}
+use Rattle.rules.specs.Grammar.{Mode, tc}
+use Rattle.rules.specs.Halves.{over}
+use Rattle.rules.specs.Reel.{isReel, blocksOf, reelOf}
+use Rattle.rules.specs.Plan.{Plan, isTC}
+use Rattle.rules.specs.Output.{blockOf}
+use Rattle.rules.specs.Run.{Ran as RuleRan, ranOf, convert}
+use Rattle.rules.specs.Accepted.{Accepted}
+use Rattle.rules.specs.Lent.{zoneF, runAnswer, outputAfter}
+use Rattle.rules.proofs.ReelLaws.{all-blocks}
+use Rattle.rules.proofs.BlocksOutcome.{holds-of}
+use Rattle.rules.proofs.LentParts.{front-over}
+use Rattle.rules.proofs.RunParts.{outputBlocks, Finished, finished, Without, without-each, without-convert}
+use Rattle.terms.specs.declared.Asked.{Asked}
+use Rattle.terms.specs.declared.Task.{Task}
+use Rattle.terms.specs.Meaning.{modeOf, fieldOf, fieldsIn, planIn, TaskIs}
+use Rattle.records.specs.Flat.{flatOf, Short}
+use Rattle.records.proofs.FlatLaws.{length-flat}
+use Rattle.records.proofs.PromiseLaws.{short-of, flat-front}
+use Rattle.writers.specs.Promise.{blocksIn, Ready, Lent, ReelPut}
+use Rattle.checks.specs.declared.Ran.{Ran}
+use Rattle.checks.specs.Promise.{ranStruct, Given, GivenPlan, Checked}
+use Rattle.checks.proofs.RunLaws.{copy-reel}
+use Rattle.runs.specs.Promise.{Runnable, Finishes, Finishing, Written, RanInto}
+
+-- ---- a run that finishes
+
+module _ {task : Task} {fields s : List ℕ} {blocks room : ℕ} {p : Plan} {x : RuleRan} (y : Finishes task fields s blocks room p x) where
+  parts : Finished p room s x
+  parts = finished p room s x (y .finishes)
+
+  -- TC
+  pub copy-is : modeOf (task .mode) ≡ tc → All Byte s → x .reel ≡ s
+  unfolding ranOf
+  copy-is e a =
+      let w = parts in
+      let ok = y .given .accepted in
+      ap (λ (z : RuleRan). z .reel) (w .writes)
+      ∙ copy-reel p ok (sym (y .given .is .mode) ∙ e) s a (w .reel) (w .recs) (holds-of p ok 1 (all-blocks s a) (w .recs) (w .reads))
+
+  pub copy-fits : modeOf (task .mode) ≡ tc → All Byte s → length s ≤ room
+  copy-fits e a = subst (λ (z : List ℕ). length z ≤ room) (copy-is e a) (parts .roomy)
+
+  -- the others
+  reel-is : x .reel ≡ reelOf (blocksIn p (parts .recs))
+  unfolding ranOf blocksIn
+  reel-is = ap (λ (z : RuleRan). z .reel) (parts .writes)
+
+  blocks-are : x .blocks ≡ length (outputBlocks p (parts .recs))
+  unfolding ranOf
+  blocks-are = ap (λ (z : RuleRan). z .blocks) (parts .writes)
+
+  abbrev lent-to : isTC (modeOf (task .mode)) ≡ false → Lent task fields s blocks room
+  lent-to e =
+      record {
+        ready = record {
+          p = p;
+          recs = parts .recs;
+          is = y .given .is;
+          good = record { accepted = y .given .accepted; reel = parts .reel; records = parts .reads };
+          zone = y .given .zone;
+          other = ap isTC (sym (y .given .is .mode)) ∙ e;
+          count = y .count ∙ blocks-are;
+          roomy = subst (λ (z : List ℕ). length z ≤ room) reel-is (parts .roomy);
+          most = subst (λ (z : List ℕ). length z ≤ 65536) reel-is (parts .most);
+        };
+        flat = y .given .flat;
+      }
+
+over-front : (v old new : List ℕ) (x : RuleRan) → x .reel ≡ v → new ≡ over 0 v old → new ≡ outputAfter old (fine x)
+over-front v old new x e h = h ∙ sym (front-over (length v) old v refl) ∙ ap (λ (z : List ℕ). z ++ drop (length z) old) (sym e)
+
+module _ {task : Task} {fields s : List ℕ} {blocks : ℕ} {old new : List ℕ} where
+  pub copied : modeOf (task .mode) ≡ tc → All Byte s → new ≡ over 0 s old → Written task fields s blocks old new
+  copied e a h = record { is = λ p x y. over-front s old new x (copy-is y e a) h }
+
+  pub wrote : isTC (modeOf (task .mode)) ≡ false → ReelPut task fields s blocks old new → Written task fields s blocks old new
+  unfolding ReelPut
+  wrote e h = record { is = λ p x y. over-front (reelOf (blocksIn p (parts y .recs))) old new x (reel-is y) (h (lent-to y e)) }
+
+pub copy-room : {task : Task} {fields s : List ℕ} {blocks room : ℕ} → Finishing task fields s blocks room → modeOf (task .mode) ≡ tc → All Byte s → length s ≤ room
+copy-room y e a = copy-fits (y .given) e a
+
+pub lent-on : {task : Task} {fields s : List ℕ} {blocks room : ℕ} → Finishing task fields s blocks room → isTC (modeOf (task .mode)) ≡ false → Lent task fields s blocks room
+lent-on y e = lent-to (y .given) e
+
+-- ---- the answer
+
+-- no refusal of a run has the number 0
+never-none : (p : Plan) (room : ℕ) (s : List ℕ) → Without 0 (convert room p s)
+never-none p room s =
+    without-convert 0 p room s (λ e. omega arith) (λ e. omega arith) (λ e. omega arith)
+    (λ recs e. (without-each 0 13 _ _ _ (λ e. omega arith), without-each 0 14 _ _ _ (λ e. omega arith)))
+
+refuses : (a : Answer RuleRan) (r : Ran) → r ≡ ranStruct (runAnswer a) → 0 < r .refusal → (old : List ℕ) → old ≡ outputAfter old a
+refuses (fine x) r e l old = absurd (let z = ap (λ (q : Ran). q .refusal) e in omega arith)
+refuses (refuse f) r e l old = refl
+
+ends : (a : Answer RuleRan) → Without 0 a → (r : Ran) → r ≡ ranStruct (runAnswer a) → r .refusal ≤ 0 → (x : RuleRan) × (a ≡ fine x) × (r .blocks ≡ x .blocks)
+ends (fine x) w r e l = (x, refl, ap (λ (q : Ran). q .blocks) e)
+ends (refuse f) w r e l =
+    absurd (w (f .place) (let z : f .number ≡ 0 = (let q = ap (λ (q : Ran). q .refusal) e in omega arith) in λ i. refuse (record { number = z i; place = f .place })))
+
+module _ {task : Task} {fields s : List ℕ} (old : List ℕ) {r : Ran} (h : Checked task fields s (length old) r) where
+  pub ran-refused : 0 < r .refusal → RanInto task fields s old r old
+  ran-refused l = record { answer = h .is; output = λ p g. refuses (convert (length old) p s) r (h .is p g) l old }
+
+  finishes-by : r .refusal ≤ 0 → (p : Plan) → Given task fields p → (x : RuleRan) × Finishes task fields s (r .blocks) (length old) p x
+  finishes-by l p g =
+      let w = ends (convert (length old) p s) (never-none p (length old) s) r (h .is p g) l in
+      (w .0, record { given = g; finishes = w .1; count = w .2 })
+
+  pub finishing : r .refusal ≤ 0 → GivenPlan task fields → Finishing task fields s (r .blocks) (length old)
+  finishing l g = let w = finishes-by l (g .p) (g .given) in record { p = g .p; x = w .0; given = w .1 }
+
+  pub ran-written : r .refusal ≤ 0 → (new : List ℕ) → Written task fields s (r .blocks) old new → RanInto task fields s old r new
+  ran-written l new k =
+      record {
+        answer = h .is;
+        output = λ p g.
+            let w = finishes-by l p g in
+            k .is p (w .0) (w .1) ∙ ap (outputAfter old) (sym (w .1 .finishes));
+      }
+
+-- ---- the plan of a struct
+
+module _ {asked : Asked} (ok : Runnable asked) where
+  pub all-short : All Short (map fieldOf (take (asked .count) (asked .fields)))
+  unfolding planIn fieldsIn
+  all-short = short-of (ok .accepted .limits)
+
+  -- the numbers of the fields stand before zeros
+  module _ (flat : List ℕ) (f : flat ≡ flatOf (map fieldOf (take (asked .count) (asked .fields))) ++ replicate (320 - 5 * asked .count) 0) where
+    fields-many : length (map fieldOf (take (asked .count) (asked .fields))) ≡ asked .count
+    fields-many = length-map (take (asked .count) (asked .fields)) fieldOf ∙ length-take-le (asked .count) (asked .fields) (omega (arith, ok .few, ok .many))
+
+    front : take (5 * asked .count) flat ≡ flatOf (map fieldOf (take (asked .count) (asked .fields)))
+    front =
+        ap (take (5 * asked .count)) f
+        ∙ flat-front (map fieldOf (take (asked .count) (asked .fields))) (5 * asked .count) (320 - 5 * asked .count) (ap (λ (n : ℕ). 5 * n) (sym fields-many))
+
+    pub front-many : 5 * asked .count ≡ length (take (5 * asked .count) flat)
+    front-many = ap (λ (n : ℕ). 5 * n) (sym fields-many) ∙ sym (length-flat (map fieldOf (take (asked .count) (asked .fields)))) ∙ ap length (sym front)
+
+    pub given-plan : (task : Task) → TaskIs task (planIn zoneF asked) → Given task (take (5 * asked .count) flat) (planIn zoneF asked)
+    unfolding planIn fieldsIn
+    given-plan task is = record { is = is; accepted = ok .accepted; flat = front; zone = refl }
+
+-- ---- one outcome
+
+pub only-one : (p : Plan) (s old : List ℕ) (x y : Ran) (new new′ : List ℕ)
+    → (x ≡ ranStruct (runAnswer (convert (length old) p s))) × (new ≡ outputAfter old (convert (length old) p s))
+    → (y ≡ ranStruct (runAnswer (convert (length old) p s))) × (new′ ≡ outputAfter old (convert (length old) p s)) → (x ≡ y) × (new ≡ new′)
+only-one p s old x y new new′ h k = (h .0 ∙ sym (k .0), h .1 ∙ sym (k .1))

@@ -1,0 +1,61 @@
+-- Number by number. Assumes nothing.
+use mathlib.Core.Path.{refl, ap, _∙_}
+use mathlib.Core.Bool.{cond}
+use Prim.Native.Nat.{ℕ}
+use Rattle.rules.specs.Plan.{selects}
+use Rattle.rules.specs.Blocks.{leastData}
+use Rattle.terms.specs.Meaning.{modeOf, planIn}
+use borrow.Author.Needs.{needs}
+use Rattle.runs.proofs.task_of.Statement.{statement}
+use Rattle.runs.proofs.task_of.Tie as tie
+
+record-length-requires : tie.Need-record-length-requires
+record-length-requires c κs = search needs
+
+block-length-requires : tie.Need-block-length-requires
+block-length-requires c κs = search needs
+
+least-requires : tie.Need-least-requires
+least-requires c κs = search needs
+
+record-length-requires-2 : tie.Need-record-length-requires-2
+record-length-requires-2 c κs = search needs
+
+block-length-requires-2 : tie.Need-block-length-requires-2
+block-length-requires-2 c κs = search needs
+
+cost-requires : tie.Need-cost-requires
+cost-requires c κs = search needs
+
+carries-requires : tie.Need-carries-requires
+carries-requires c κs = search needs
+
+returns : tie.Need-returns
+unfolding planIn leastData
+returns c =
+    let a = c .before .before .before .before .before .before .before .args .asked in
+    record {
+      mode = refl;
+      format = refl;
+      n = c .before .before .before .before .before .before .record-length .ensures;
+      m = c .before .before .before .before .before .block-length .ensures;
+      least = c .before .before .before .before .least .ensures ∙ ap (λ (k : ℕ). cond (selects (modeOf (a .mode))) k 1) (c .before .before .before .before .before .before .record-length .ensures);
+      width = c .before .before .before .record-length2 .ensures;
+      limit = c .before .before .block-length2 .ensures;
+      costs = c .before .cost .ensures;
+      first = refl;
+      carries = c .carries .ensures;
+    }
+
+pub task-of-spec : {M : Type 1} → statement M
+task-of-spec =
+    tie.close
+    (tie.spec
+    record-length-requires
+    block-length-requires
+    least-requires
+    record-length-requires-2
+    block-length-requires-2
+    cost-requires
+    carries-requires
+    returns)

@@ -1,0 +1,41 @@
+-- What is promised of writing, and of a whole run, for every plan that the numbers may be. Assumes nothing.
+use mathlib.Core.Path.{_≡_}
+use mathlib.Core.List.{List}
+use Prim.Native.Nat.{ℕ, _≤_}
+use lib.ListN.{length}
+use Rattle.rules.specs.Answer.{fine}
+use Rattle.rules.specs.Plan.{Plan}
+use Rattle.rules.specs.Accepted.{Accepted}
+use Rattle.rules.specs.Run.{Ran as RuleRan, convert}
+use Rattle.rules.specs.Lent.{zoneF, runAnswer, outputAfter}
+use Rattle.terms.specs.declared.Asked.{Asked}
+use Rattle.terms.specs.declared.Task.{Task}
+use Rattle.terms.specs.Meaning.{planIn}
+use Rattle.checks.specs.declared.Ran.{Ran}
+use Rattle.checks.specs.Promise.{ranStruct, Given}
+
+-- the struct holds an accepted plan
+pub record Runnable (x : Asked) : Type 0 where
+  pub accepted : Accepted (planIn zoneF x)
+  pub few : x .count ≤ 64
+  pub many : length (x .fields) ≡ 64
+
+-- the run finishes, with so many blocks
+pub record Finishes (task : Task) (fields s : List ℕ) (blocks room : ℕ) (p : Plan) (x : RuleRan) : Type 0 where
+  pub given : Given task fields p
+  pub finishes : convert room p s ≡ fine x
+  pub count : blocks ≡ x .blocks
+
+pub record Finishing (task : Task) (fields s : List ℕ) (blocks room : ℕ) : Type 0 where
+  pub p : Plan
+  pub x : RuleRan
+  pub given : Finishes task fields s blocks room p x
+
+-- the output reel is written
+pub record Written (task : Task) (fields s : List ℕ) (blocks : ℕ) (old new : List ℕ) : Type 0 where
+  pub is : (p : Plan) (x : RuleRan) → Finishes task fields s blocks (length old) p x → new ≡ outputAfter old (fine x)
+
+-- what the rules say of the answer and of the lent output
+pub record RanInto (task : Task) (fields s old : List ℕ) (r : Ran) (new : List ℕ) : Type 0 where
+  pub answer : (p : Plan) → Given task fields p → r ≡ ranStruct (runAnswer (convert (length old) p s))
+  pub output : (p : Plan) → Given task fields p → new ≡ outputAfter old (convert (length old) p s)

@@ -1,0 +1,136 @@
+// The run of an accepted plan over a reel, into a lent output: nothing is written before everything is checked. Document 01, "Blocks and records" and
+// "Refusal numbers".
+ghost use mathlib.Core.Path.{_≡_};
+ghost use mathlib.Core.Bool.{cond, not};
+ghost use Prim.Native.Nat.{ℕ};
+ghost use lib.Dec.{eqb};
+ghost use lib.ListN.{length};
+ghost use Rattle.rules.specs.Plan.{recordLength, blockLength, selects};
+ghost use Rattle.rules.specs.Output.{cost as costOf};
+ghost use Rattle.rules.specs.Run.{convert};
+ghost use Rattle.rules.specs.Lent.{zoneF, runAnswer, outputAfter};
+ghost use Rattle.terms.specs.Meaning.{modeOf, formatOf, sizeOf, planIn, TaskIs};
+ghost use Rattle.checks.specs.Promise.{ranStruct, GivenPlan};
+ghost use Rattle.runs.specs.Promise.{Finishing, Written, RanInto, Runnable};
+use checks::Ran;
+use terms::Asked;
+use terms::Format;
+use terms::Mode;
+use terms::Size;
+use terms::Task;
+
+// n, or 0 for a single number, which says none.
+fn record_length(size: Size) -> usize
+    ensures { λ r. ⌜ r ≡ recordLength (sizeOf size) ⌝ }
+{
+    match size {
+        Size::Two { n, m: _ } => n,
+        Size::One { g: _ } => 0,
+    }
+}
+
+// m, or the single number.
+fn block_length(size: Size) -> usize
+    ensures { λ r. ⌜ r ≡ blockLength (sizeOf size) ⌝ }
+{
+    match size {
+        Size::Two { n: _, m } => m,
+        Size::One { g } => g,
+    }
+}
+
+// The least data of a record: with TF or TRF A's n, else 1 byte.
+fn least(mode: Mode, n: usize) -> usize
+    ensures { λ r. ⌜ r ≡ cond (selects (modeOf mode)) n 1 ⌝ }
+{
+    match mode {
+        Mode::TC => 1,
+        Mode::TF => n,
+        Mode::TR => 1,
+        Mode::TRF => n,
+    }
+}
+
+// What a block, and each of its records, takes besides the data.
+fn cost(format: Format) -> usize
+    ensures { λ r. ⌜ r ≡ costOf (formatOf format) ⌝ }
+{
+    match format {
+        Format::FF => 0,
+        Format::FV => 4,
+        Format::FU => 0,
+    }
+}
+
+// Whether a card says CV.
+fn carries(cv: usize) -> bool
+    ensures { λ r. ⌜ r ≡ not (eqb cv 0) ⌝ }
+{
+    cv != 0
+}
+
+// The numbers that a run needs of the plan.
+fn task_of(asked: Asked) -> Task
+    ensures { λ r. ⌜ TaskIs r (planIn zoneF asked) ⌝ }
+{
+    let mode = asked.mode;
+    let format = asked.format;
+    let input = asked.input;
+    let output = asked.output;
+    let n = record_length(input);
+    Task {
+        mode,
+        format,
+        n,
+        m: block_length(input),
+        least: least(mode, n),
+        width: record_length(output),
+        limit: block_length(output),
+        cost: cost(format),
+        first: asked.first,
+        carries: carries(asked.cv),
+    }
+}
+
+// Writes the output reel of a run that finishes. The output of TC is its input.
+fn write(task: Task, fields: &[u16], s: &[u8], blocks: usize, out: &mut [u8])
+    requires { ⌜ Finishing task (now fields) (now s) blocks (length (now out)) ⌝ }
+    ensures { λ _. ⌜ Written task (now (fields .entry)) (now (s .entry)) blocks (now (out .entry)) (now (out .exit)) ⌝ }
+{
+    let mode = task.mode;
+    match mode {
+        Mode::TC => writers::copy_reel(s, out),
+        Mode::TF => writers::write_reel(task, fields, s, blocks, out),
+        Mode::TR => writers::write_reel(task, fields, s, blocks, out),
+        Mode::TRF => writers::write_reel(task, fields, s, blocks, out),
+    }
+}
+
+// A run that is refused writes nothing.
+fn run(task: Task, fields: &[u16], s: &[u8], out: &mut [u8]) -> Ran
+    requires { ⌜ GivenPlan task (now fields) ⌝ }
+    ensures { λ r. ⌜ RanInto task (now (fields .entry)) (now (s .entry)) (now (out .entry)) r (now (out .exit)) ⌝ }
+{
+    let answer = checks::check(task, fields, s, out.len());
+    let refusal = answer.refusal;
+    let blocks = answer.blocks;
+    if refusal > 0 {
+        return answer;
+    }
+    write(task, fields, s, blocks, out);
+    answer
+}
+
+// The run of a plan over a reel: refusals 11 to 15, or the output reel at the front of what is lent.
+pub fn run_plan(asked: Asked, s: &[u8], out: &mut [u8]) -> Ran
+    requires { ⌜ Runnable asked ⌝ }
+    ensures answer { λ r. ⌜ r ≡ ranStruct (runAnswer (convert (length (now (out .entry))) (planIn zoneF asked) (now (s .entry)))) ⌝ }
+    ensures output { λ _. ⌜ now (out .exit) ≡ outputAfter (now (out .entry)) (convert (length (now (out .entry))) (planIn zoneF asked) (now (s .entry))) ⌝ }
+{
+    let task = task_of(asked);
+    let fields = asked.fields;
+    let count = asked.count;
+    let flat = records::flatten(fields, count);
+    let end = 5 * count;
+    run(task, &flat[..end], s, out)
+}
