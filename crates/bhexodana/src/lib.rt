@@ -1,0 +1,132 @@
+// What users call: the plan of a deck, the plan into a table that the caller lends, and the run of a deck over a reel. Exported for C and
+// Fortran.
+use terms::Entry;
+ghost use mathlib.Core.Path.{_≡_};
+ghost use mathlib.Core.List.{_++_};
+ghost use Prim.Native.Nat.{_≤_};
+ghost use lib.ListN.{length, take, drop};
+ghost use Rattle.rules.specs.Plan.{planAnswer};
+ghost use Rattle.rules.specs.Lent.{plan, run, runAnswer, outputAfter};
+ghost use Rattle.bhexodana.specs.Promise.{plannedOf, fillingOf, ranOf, refusedRun};
+
+// What a plan answers: refusal, place, 1 for keeping or 0, lost place or 0, field count.
+#[repr(C)]
+pub struct Planned {
+    pub refusal: usize,
+    pub place: usize,
+    pub keeping: usize,
+    pub lost: usize,
+    pub fields: usize,
+}
+
+// What is answered, the entries, and how many of them go into the table.
+struct Filling {
+    answer: Planned,
+    entries: [Entry; 64],
+    store: usize,
+}
+
+// The plan of a deck for a table of so many entries.
+fn fill(deck: &[u8], room: usize) -> Filling
+    ensures { λ r. ⌜ (r ≡ fillingOf (now (deck .entry)) room) × (r .store ≤ 64) × (r .store ≤ room) ⌝ }
+{
+    let p = plans::plan_for(deck, room);
+    let entries = p.entries;
+    Filling {
+        answer: Planned {
+            refusal: p.refusal,
+            place: p.place,
+            keeping: p.keeping,
+            lost: p.lost,
+            fields: p.fields,
+        },
+        entries,
+        store: p.store,
+    }
+}
+
+// The first `count` entries go into the lent table, and the others stay.
+fn store(table: &mut [Entry], entries: [Entry; 64], count: usize)
+    requires { ⌜ (count ≤ 64) × (count ≤ length (now table)) ⌝ }
+    ensures { λ _. ⌜ now (table .exit) ≡ take count entries ++ drop count (now (table .entry)) ⌝ }
+{
+    let mut i = 0;
+    while i < count {
+        table[i] = entries[i];
+        i += 1;
+    }
+}
+
+// The plan of a deck.
+#[no_mangle]
+pub extern "C" fn bhx_plan(deck: &[u8]) -> Planned
+    ensures { λ r. ⌜ r ≡ plannedOf (planAnswer (plan (now (deck .entry)))) ⌝ }
+{
+    let p = plans::plan_deck(deck);
+    Planned {
+        refusal: p.refusal,
+        place: p.place,
+        keeping: p.keeping,
+        lost: p.lost,
+        fields: p.fields,
+    }
+}
+
+// The plan of a deck, stored into a table that the caller lends. A refusal changes no entry.
+#[no_mangle]
+pub extern "C" fn bhx_plan_into(deck: &[u8], table: &mut [Entry]) -> Planned
+    ensures { λ r. ⌜
+        (r ≡ fillingOf (now (deck .entry)) (length (now (table .entry))) .answer) ×
+        (now (table .exit) ≡
+        take (fillingOf (now (deck .entry)) (length (now (table .entry))) .store) (fillingOf (now (deck .entry)) (length (now (table .entry))) .entries) ++
+        drop (fillingOf (now (deck .entry)) (length (now (table .entry))) .store) (now (table .entry)))
+        ⌝ }
+{
+    let p = fill(deck, table.len());
+    let entries = p.entries;
+    store(table, entries, p.store);
+    p.answer
+}
+
+// What a run answers: refusal, place, and the length, the records and the blocks of the reel that was written.
+#[repr(C)]
+pub struct Ran {
+    pub refusal: usize,
+    pub place: usize,
+    pub length: usize,
+    pub records: usize,
+    pub blocks: usize,
+}
+
+fn refused(number: usize, place: usize) -> Ran
+    ensures { λ r. ⌜ r ≡ refusedRun number place ⌝ }
+{
+    Ran {
+        refusal: number,
+        place,
+        length: 0,
+        records: 0,
+        blocks: 0,
+    }
+}
+
+// The run of a deck over a reel, into an output that the caller lends. A refusal changes no byte.
+#[no_mangle]
+pub extern "C" fn bhx_run(deck: &[u8], reel: &[u8], out: &mut [u8]) -> Ran
+    ensures answer { λ r. ⌜ r ≡ ranOf (runAnswer (run (length (now (out .entry))) (now (deck .entry)) (now (reel .entry)))) ⌝ }
+    ensures output { λ _. ⌜ now (out .exit) ≡ outputAfter (now (out .entry)) (run (length (now (out .entry))) (now (deck .entry)) (now (reel .entry))) ⌝ }
+{
+    let p = plans::plan_deck(deck);
+    if p.refusal != 0 {
+        return refused(p.refusal, p.place);
+    }
+    let asked = p.asked;
+    let r = runs::run_plan(asked, reel, out);
+    Ran {
+        refusal: r.refusal,
+        place: r.place,
+        length: r.length,
+        records: r.records,
+        blocks: r.blocks,
+    }
+}
