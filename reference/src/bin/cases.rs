@@ -1,0 +1,180 @@
+//! Random cases with their answers: `cases SEED COUNT KIND [--tally] [--large]`.
+
+#[path = "../cases/aim.rs"]
+mod aim;
+#[path = "../cases/chance.rs"]
+mod chance;
+#[path = "../cases/draft.rs"]
+mod draft;
+#[path = "../cases/faults.rs"]
+mod faults;
+#[path = "../cases/large.rs"]
+mod large;
+#[path = "../cases/reels.rs"]
+mod reels;
+#[path = "../cases/text.rs"]
+mod text;
+
+use std::collections::BTreeMap;
+use std::io::Write;
+
+use chance::Chance;
+use reference::{pack, plan, plan_into, run, unpack, Entry};
+
+/// A line of output, the refusal number in it, and what it shows.
+struct Case {
+    line: String,
+    refusal: usize,
+    marks: Vec<&'static str>,
+}
+
+fn hex(bytes: &[u8]) -> String {
+    if bytes.is_empty() {
+        return "-".to_string();
+    }
+    bytes.iter().map(|byte| format!("{byte:02X}")).collect()
+}
+
+/// The count of a lent table's entries, or none.
+fn entries(chance: &mut Chance, fields: usize, aim: usize) -> Option<usize> {
+    if aim == 15 {
+        let below = chance.below(fields);
+        return Some(chance.pick(&[fields.saturating_sub(1), fields.saturating_sub(1), 0, below, fields]));
+    }
+    let any = chance.below(70);
+    chance.pick(&[None, None, Some(fields), Some(fields + 1), Some(64), Some(64), Some(any)])
+}
+
+fn plan_case(chance: &mut Chance, aim: usize, large: bool) -> Case {
+    let deck = if large {
+        large::deck(chance)
+    } else {
+        let (mut draft, _) = aim::base(chance, if aim == 15 { 6 } else { aim });
+        let count = chance.below(6);
+        aim::first(chance, &mut draft, count);
+        let aims = aim::with_others(chance, aim);
+        aim::deck(chance, &draft, &aims)
+    };
+    let entries = entries(chance, plan(&deck).fields, aim);
+    let planned = match entries {
+        None => plan(&deck),
+        Some(count) => plan_into(&deck, &mut vec![Entry::default(); count]),
+    };
+    let lent = entries.map_or("-".to_string(), |count| count.to_string());
+    let reference::Planned { refusal, place, keeping, lost, fields } = planned;
+    let line = format!("{} {lent} {refusal} {place} {keeping} {lost} {fields}", hex(&deck));
+    let mut marks = aim::marks(&deck);
+    marks.extend((refusal == 0).then_some(if keeping == 1 { "keeps" } else { "loses" }));
+    marks.extend(aim::heavy(&deck).then_some("heavy"));
+    Case { line, refusal, marks }
+}
+
+/// A deck and a reel for a run.
+fn deck_and_reel(chance: &mut Chance, aim: usize) -> (Vec<u8>, Vec<u8>) {
+    let (mut draft, plan) = aim::base(chance, aim);
+    let records = reels::records(chance, &plan, 80);
+    aim::first(chance, &mut draft, records.iter().flatten().count());
+    let aims = aim::with_others(chance, aim);
+    let deck = aim::deck(chance, &draft, &aims);
+    (deck, aim::reel(chance, &plan, &records, aim))
+}
+
+fn run_case(chance: &mut Chance, aim: usize, large: bool) -> Case {
+    let (deck, reel) = if large { large::case(chance) } else { deck_and_reel(chance, aim) };
+    let room = aim::room(chance, &deck, &reel, aim);
+    let ran = run(&deck, &reel, room);
+    let answers = [ran.refusal, ran.place, ran.length, ran.records, ran.blocks];
+    let numbers: Vec<String> = answers.iter().map(usize::to_string).collect();
+    let line =
+        format!("{} {} {room} {} {}", hex(&deck), hex(&reel), numbers.join(" "), hex(&ran.reel));
+    let mut marks = if ran.refusal == 0 { aim::marks(&deck) } else { vec![] };
+    marks.extend((ran.refusal == 0 && ran.records == 0).then_some("empty output"));
+    marks.extend((ran.refusal == 0 && ran.records > 1).then_some("two records or more"));
+    marks.extend((aim::heavy(&deck) || reel.len() > 400).then_some("heavy"));
+    Case { line, refusal: ran.refusal, marks }
+}
+
+fn half_case(chance: &mut Chance) -> Case {
+    let packs = chance.one_in(2);
+    let (n, m) = (chance.range(1, 16), chance.range(1, 16));
+    let digits = !chance.one_in(3);
+    let mut half = |digit: bool| if digit && digits { chance.below(10) } else { chance.below(16) } as u8;
+    let mut src: Vec<u8> = (0..n).map(|_| half(true) << 4 | half(true)).collect();
+    if digits && packs {
+        src.iter_mut().for_each(|byte| *byte |= 0xF0);
+    }
+    if digits {
+        src[n - 1] = if packs { 0xC0 | src[n - 1] & 15 } else { src[n - 1] & 0xF0 | 0x0D };
+    }
+    let (name, out) = if packs { ("pack", pack(&src, m)) } else { ("unpack", unpack(&src, m)) };
+    Case { line: format!("{name} {} {m} {}", hex(&src), hex(&out)), refusal: 0, marks: vec![name] }
+}
+
+/// The aims of a kind, as often as they are wanted.
+fn any_aim(chance: &mut Chance, kind: &str) -> usize {
+    if kind == "plan" {
+        return chance.pick(&[0, 0, 0, 0, 0, 0, 1, 2, 3, 4, 5, 6, 7, 7, 8, 8, 9, 10, 15, 16]);
+    }
+    if chance.below(100) < 42 {
+        return 0;
+    }
+    let early = [1, 2, 3, 4, 5, 6, 7, 8, 9, 10, 16];
+    let late = [11, 11, 12, 12, 12, 12, 13, 13, 13, 14, 14, 14, 14, 15, 15, 15];
+    chance.pick(&[&early[..], &late[..]].concat())
+}
+
+/// A case, with `--large` one in ten a large one; two times in three it is drawn again until it meets its aim.
+fn case(chance: &mut Chance, kind: &str, large: bool) -> Case {
+    if kind == "half" {
+        return half_case(chance);
+    }
+    let aim = any_aim(chance, kind);
+    let draw = if kind == "plan" { plan_case } else { run_case };
+    if large && chance.one_in(10) {
+        return draw(chance, aim, true);
+    }
+    let mut tries = if chance.one_in(3) { 1 } else { 20 };
+    loop {
+        let one = draw(chance, aim, false);
+        let light = large || !one.marks.contains(&"heavy");
+        tries -= 1;
+        if light && (tries <= 0 || one.refusal == aim) {
+            return one;
+        }
+    }
+}
+
+fn tally(counts: &BTreeMap<usize, usize>, marks: &BTreeMap<&str, usize>) {
+    for (refusal, count) in counts {
+        eprintln!("refusal {refusal}: {count}");
+    }
+    for (mark, count) in marks {
+        eprintln!("{mark}: {count}");
+    }
+}
+
+fn main() {
+    let (flags, plain): (Vec<String>, Vec<String>) =
+        std::env::args().skip(1).partition(|argument| argument.starts_with("--"));
+    let numbers = (plain.first().and_then(|s| s.parse().ok()), plain.get(1).and_then(|s| s.parse().ok()));
+    let kind = plain.get(2).map_or("", String::as_str);
+    let ((Some(seed), Some(count)), "plan" | "run" | "half") = (numbers, kind) else {
+        eprintln!("cases SEED COUNT plan|run|half [--tally] [--large]");
+        std::process::exit(2);
+    };
+    let count: usize = count;
+    let mut chance = Chance::new(seed);
+    let (mut counts, mut marks) = (BTreeMap::new(), BTreeMap::new());
+    let mut out = std::io::BufWriter::new(std::io::stdout().lock());
+    for _ in 0..count {
+        let case = case(&mut chance, kind, flags.iter().any(|flag| flag == "--large"));
+        *counts.entry(case.refusal).or_insert(0) += 1;
+        case.marks.iter().for_each(|mark| *marks.entry(*mark).or_insert(0) += 1);
+        if writeln!(out, "{}", case.line).is_err() {
+            return;
+        }
+    }
+    if flags.iter().any(|flag| flag == "--tally") {
+        tally(&counts, &marks);
+    }
+}

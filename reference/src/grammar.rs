@@ -1,0 +1,154 @@
+//! The grammar of the operands of U and FS cards (refusal 3).
+
+use crate::deck::{Card, Shape};
+use crate::{refuse_at, Refused};
+
+#[derive(Clone, Copy, Debug, PartialEq, Eq)]
+pub enum Mode {
+    TC,
+    TF,
+    TR,
+    TRF,
+}
+
+#[derive(Clone, Copy, Debug, PartialEq, Eq)]
+pub enum Format {
+    FF,
+    FV,
+    FU,
+}
+
+/// The numbers of A or B: `(g)` or `(n,m)`.
+#[derive(Clone, Copy, Debug, PartialEq, Eq)]
+pub enum Sizes {
+    One(usize),
+    Two(usize, usize),
+}
+
+#[derive(Clone, Copy, Debug, PartialEq, Eq)]
+pub enum Parameter {
+    T(Mode),
+    F(Format),
+    A(Sizes),
+    B(Sizes),
+    I,
+    O,
+    R(usize),
+}
+
+#[derive(Clone, Copy, Debug, PartialEq, Eq)]
+pub enum Step {
+    Copy,
+    Pack,
+    Unpack,
+}
+
+#[derive(Clone, Copy, Debug, PartialEq, Eq)]
+pub struct Field {
+    pub step: Step,
+    pub r: usize,
+    pub input: usize,
+    pub output: usize,
+    pub t: usize,
+}
+
+#[derive(Clone, Copy, Debug, PartialEq, Eq)]
+pub enum Item {
+    Field(Field),
+    CV,
+}
+
+/// What the operands of a deck say: the U card's parameters, each FS card's items.
+#[derive(Clone, Debug)]
+pub struct Operands {
+    pub u: Vec<Parameter>,
+    pub fs: Vec<Vec<Item>>,
+}
+
+/// A number is 1 to 5 digits; leading zeros are allowed.
+pub fn number(text: &[u8]) -> Option<usize> {
+    let right = (1..=5).contains(&text.len()) && text.iter().all(u8::is_ascii_digit);
+    right.then(|| text.iter().fold(0, |sum, digit| 10 * sum + usize::from(digit - b'0')))
+}
+
+/// `(n,m)` or `(g)`.
+fn sizes(text: &[u8]) -> Option<Sizes> {
+    let inner = text.strip_prefix(b"(")?.strip_suffix(b")")?;
+    let parts: Vec<&[u8]> = inner.split(|byte| *byte == b',').collect();
+    match parts[..] {
+        [g] => Some(Sizes::One(number(g)?)),
+        [n, m] => Some(Sizes::Two(number(n)?, number(m)?)),
+        _ => None,
+    }
+}
+
+/// One parameter of a U operand, read whole.
+fn parameter(text: &[u8]) -> Option<Parameter> {
+    match text {
+        b"TC" => Some(Parameter::T(Mode::TC)),
+        b"TF" => Some(Parameter::T(Mode::TF)),
+        b"TR" => Some(Parameter::T(Mode::TR)),
+        b"TRF" => Some(Parameter::T(Mode::TRF)),
+        b"FF" => Some(Parameter::F(Format::FF)),
+        b"FV" => Some(Parameter::F(Format::FV)),
+        b"FU" => Some(Parameter::F(Format::FU)),
+        b"IR" | b"IN" | b"IU" => Some(Parameter::I),
+        b"OR" | b"ON" | b"OU" => Some(Parameter::O),
+        [b'A', b'=', rest @ ..] => sizes(rest).map(Parameter::A),
+        [b'B', b'=', rest @ ..] => sizes(rest).map(Parameter::B),
+        [b'R', rest @ ..] => number(rest).map(Parameter::R),
+        _ => None,
+    }
+}
+
+/// The texts between the commas that stand outside parentheses.
+fn between_commas(operand: &[u8]) -> Vec<&[u8]> {
+    let mut inside = false;
+    operand
+        .split(|byte| {
+            inside = *byte == b'(' || (inside && *byte != b')');
+            *byte == b',' && !inside
+        })
+        .collect()
+}
+
+/// A U operand: one or more parameters with commas between.
+pub fn u_operand(operand: &[u8]) -> Option<Vec<Parameter>> {
+    between_commas(operand).into_iter().map(parameter).collect()
+}
+
+/// `r,s,t`, `r,(P,n,m),t`, `r,(U,n,m),t` or `CV`.
+fn item(text: &[u8]) -> Option<Item> {
+    if text == b"CV" {
+        return Some(Item::CV);
+    }
+    let parts: Vec<&[u8]> = text.split(|byte| *byte == b',').collect();
+    let (step, r, input, output, t) = match parts[..] {
+        [r, s, t] => (Step::Copy, r, s, s, t),
+        [r, b"(P", n, m, t] => (Step::Pack, r, n, m.strip_suffix(b")")?, t),
+        [r, b"(U", n, m, t] => (Step::Unpack, r, n, m.strip_suffix(b")")?, t),
+        _ => return None,
+    };
+    let (r, t) = (number(r)?, number(t)?);
+    let (input, output) = (number(input)?, number(output)?);
+    Some(Item::Field(Field { step, r, input, output, t }))
+}
+
+/// An FS operand: items with slashes between.
+pub fn fs_operand(operand: &[u8]) -> Option<Vec<Item>> {
+    operand.split(|byte| *byte == b'/').map(item).collect()
+}
+
+/// The operands of cards that stand in order, or refusal 3 at the first bad card.
+pub fn read(cards: &[Card]) -> Result<Operands, Refused> {
+    let mut operands = Operands { u: Vec::new(), fs: Vec::new() };
+    for (number, card) in (1..).zip(cards) {
+        let bad = match card.shape {
+            Shape::U => u_operand(card.operand).map(|u| operands.u = u).is_none(),
+            Shape::FS => fs_operand(card.operand).map(|items| operands.fs.push(items)).is_none(),
+            Shape::END => false,
+        };
+        refuse_at(3, bad.then_some(number))?;
+    }
+    Ok(operands)
+}

@@ -1,0 +1,159 @@
+//! The run: from a deck and a reel to the output reel, or refusals 11 to 15.
+
+use crate::grammar::{Format, Mode};
+use crate::permitted::all_permitted;
+use crate::plan::{accepted, longest_block, record_length, Plan};
+use crate::{blocks, halves, reel, refuse_at, Refused};
+
+/// The answer of a run; `reel` is what was written, nothing if refused.
+#[derive(Clone, Debug, Default, PartialEq, Eq)]
+pub struct Ran {
+    pub refusal: usize,
+    pub place: usize,
+    pub length: usize,
+    pub records: usize,
+    pub blocks: usize,
+    pub reel: Vec<u8>,
+}
+
+/// A record taken: its number from 1 in the input, its block's, its data.
+#[derive(Clone, Copy, Debug)]
+struct Record<'a> {
+    number: usize,
+    block: usize,
+    data: &'a [u8],
+}
+
+/// The records from R on, or refusal 12 at the first block that breaks its rule.
+fn taken<'a>(plan: &Plan, blocks: &[&'a [u8]]) -> Result<Vec<Record<'a>>, Refused> {
+    let mut all = Vec::new();
+    for (block, bytes) in (1..).zip(blocks) {
+        let last = block == blocks.len();
+        let records = blocks::records(plan, bytes, last);
+        for data in records.ok_or(Refused { number: 12, place: block })? {
+            all.push(Record { number: all.len() + 1, block, data });
+        }
+    }
+    Ok(all.into_iter().filter(|record| record.number >= plan.first).collect())
+}
+
+/// The first record taken that has a half not permitted.
+fn not_permitted(plan: &Plan, taken: &[Record]) -> Option<usize> {
+    let right = |record: &Record| all_permitted(&plan.values, &halves::halves(record.data));
+    taken.iter().find(|record| !right(record)).map(|record| record.number)
+}
+
+/// The bytes of the length word of a block or record: 4 in FV, else none.
+fn word_length(plan: &Plan) -> usize {
+    if plan.format == Format::FV { 4 } else { 0 }
+}
+
+/// The bytes that a record's output takes in its block, its word included.
+fn space(plan: &Plan, record: &Record) -> usize {
+    let data = record.data.len();
+    let output = match (plan.selects(), plan.cv) {
+        (false, _) => data,
+        (true, false) => record_length(plan.b),
+        (true, true) => record_length(plan.b) + (data - record_length(plan.a)),
+    };
+    word_length(plan) + output
+}
+
+/// The first record that exceeds a block of B by itself, or in TF overfills its block.
+fn overfills(plan: &Plan, taken: &[Record]) -> Option<usize> {
+    let limit = longest_block(plan.b);
+    let (mut block, mut filled) = (0, 0);
+    for record in taken {
+        if record.block != block {
+            (block, filled) = (record.block, word_length(plan));
+        }
+        filled += space(plan, record);
+        let alone = word_length(plan) + space(plan, record);
+        if alone > limit || (plan.mode == Mode::TF && filled > limit) {
+            return Some(record.number);
+        }
+    }
+    None
+}
+
+/// The records of each output block, in order.
+fn blocked<'a>(plan: &Plan, taken: &[Record<'a>]) -> Vec<Vec<Record<'a>>> {
+    let mut output: Vec<Vec<Record>> = Vec::new();
+    let mut filled = 0;
+    for record in taken {
+        let fits = filled + space(plan, record) <= longest_block(plan.b);
+        let goes_into = |open: &&mut Vec<Record>| match plan.mode {
+            Mode::TC | Mode::TF => open[0].block == record.block,
+            Mode::TR | Mode::TRF => fits,
+        };
+        match output.last_mut().filter(goes_into) {
+            Some(open) => open.push(*record),
+            None => {
+                output.push(vec![*record]);
+                filled = word_length(plan);
+            }
+        }
+        filled += space(plan, record);
+    }
+    output
+}
+
+/// The length of the output reel.
+fn output_length(plan: &Plan, output: &[Vec<Record>]) -> usize {
+    let words = output.len() * word_length(plan);
+    let spaces: usize = output.iter().flatten().map(|record| space(plan, record)).sum();
+    reel::length(output.len(), words + spaces)
+}
+
+/// Bytes as they stand in a block: in FV behind their length word.
+fn with_word(plan: &Plan, bytes: Vec<u8>) -> Vec<u8> {
+    if plan.format != Format::FV {
+        return bytes;
+    }
+    let length = (bytes.len() + 4) as u16;
+    [&length.to_be_bytes()[..], &[0, 0], &bytes].concat()
+}
+
+/// The data of a record's output.
+fn converted(plan: &Plan, data: &[u8]) -> Vec<u8> {
+    if !plan.selects() {
+        return data.to_vec();
+    }
+    let input = halves::halves(data);
+    let output = halves::finished(&plan.fields, record_length(plan.b), &input, |value| value);
+    let mut bytes = halves::bytes(&output);
+    if plan.cv {
+        bytes.extend(&data[record_length(plan.a)..]);
+    }
+    bytes
+}
+
+/// The output reel itself.
+fn written(plan: &Plan, output: &[Vec<Record>]) -> Vec<u8> {
+    let record = |record: &Record| with_word(plan, converted(plan, record.data));
+    let block = |records: &Vec<Record>| with_word(plan, records.iter().flat_map(record).collect());
+    reel::write(&output.iter().map(block).collect::<Vec<Vec<u8>>>())
+}
+
+/// The finished run, or its refusal.
+fn finish(deck: &[u8], input: &[u8], room: usize) -> Result<Ran, Refused> {
+    let plan = accepted(deck)?;
+    let blocks = reel::read(input).ok_or(Refused { number: 11, place: 0 })?;
+    let taken = taken(&plan, &blocks)?;
+    refuse_at(13, not_permitted(&plan, &taken))?;
+    refuse_at(14, overfills(&plan, &taken))?;
+    let output = blocked(&plan, &taken);
+    let length = output_length(&plan, &output);
+    refuse_at(15, (length > room.min(reel::LONGEST)).then_some(length))?;
+    let reel = written(&plan, &output);
+    assert_eq!(reel.len(), length);
+    Ok(Ran { refusal: 0, place: 0, length, records: taken.len(), blocks: output.len(), reel })
+}
+
+/// Run a deck over a reel, with `room` bytes lent for the output.
+pub fn run(deck: &[u8], reel: &[u8], room: usize) -> Ran {
+    match finish(deck, reel, room) {
+        Ok(ran) => ran,
+        Err(Refused { number, place }) => Ran { refusal: number, place, ..Ran::default() },
+    }
+}

@@ -1,0 +1,246 @@
+//! The paper's listings, its cases p1 to p12, the edges it names, and some readings.
+
+use crate::*;
+
+const FIRST: &str = "// UTT TRF,FF,A=(8,16),B=(7,7)\n// FS 1,4,1/5,(P,4,3),5\n// END\n";
+const SIX: &str = "// UTT TRF,FF,A=(8,16),B=(6,6)\n// FS 1,4,1/5,(P,4,2),5\n// END\n";
+const P7: &str = "00000001 0000000C 0000001C C1C2C3C4F1F2F3C4 C1C2C3C4F9F2F3C4";
+
+fn hex(text: &str) -> Vec<u8> {
+    let digits: Vec<u8> =
+        text.chars().filter_map(|c| c.to_digit(16)).map(|value| value as u8).collect();
+    halves::bytes(&digits)
+}
+
+fn planned(deck: &str) -> (usize, usize, usize, usize, usize) {
+    let p = plan(deck.as_bytes());
+    (p.refusal, p.place, p.keeping, p.lost, p.fields)
+}
+
+/// The refusal and place of a deck.
+fn refusal(deck: &str) -> (usize, usize) {
+    let p = plan(deck.as_bytes());
+    (p.refusal, p.place)
+}
+
+fn finished(deck: &str, reel: &str, records: usize, blocks: usize, result: &str) {
+    let reel_out = hex(result);
+    let length = reel_out.len();
+    let expected = Ran { refusal: 0, place: 0, length, records, blocks, reel: reel_out };
+    assert_eq!(run(deck.as_bytes(), &hex(reel), length), expected);
+    let short = run(deck.as_bytes(), &hex(reel), length - 1);
+    assert_eq!(short, Ran { refusal: 15, place: length, ..Ran::default() });
+}
+
+fn refused(deck: &str, reel: &str, number: usize, place: usize) {
+    let ran = run(deck.as_bytes(), &hex(reel), 65_536);
+    assert_eq!(ran, Ran { refusal: number, place, ..Ran::default() });
+}
+
+#[test]
+fn listings() {
+    assert_eq!(planned(FIRST), (0, 0, 1, 0, 2));
+    assert_eq!(planned(SIX), (0, 0, 0, 9, 2));
+}
+
+#[test]
+fn p1_to_p6() {
+    assert_eq!(pack(&hex("F1F2F3C4"), 3), hex("01234C"));
+    assert_eq!(pack(&hex("F1F2F3C4"), 2), hex("234C"));
+    assert_eq!(pack(&hex("C4"), 1), hex("4C"));
+    assert_eq!(pack(&hex("C4"), 2), hex("004C"));
+    assert_eq!(unpack(&hex("01234C"), 5), hex("F0F1F2F3C4"));
+    assert_eq!(unpack(&hex("01234C"), 4), hex("F1F2F3C4"));
+    assert_eq!(unpack(&hex("4C"), 1), hex("C4"));
+}
+
+#[test]
+fn p7_and_p8() {
+    let p7 = "00000002 00000010 00000017 0000001E C1C2C3C401234C C1C2C3C409234C";
+    let p8 = "00000002 00000010 00000016 0000001C C1C2C3C4234C C1C2C3C4234C";
+    finished(FIRST, P7, 2, 2, p7);
+    finished(SIX, P7, 2, 2, p8);
+}
+
+#[test]
+fn p9() {
+    let deck = "// U TRF,FF,A=(2,2),B=(3,3)\n// FS 1,(P,2,2),1/1,(U,1,1),3\n// END";
+    assert_eq!(planned(deck), (10, 0, 0, 0, 0));
+}
+
+#[test]
+fn p10_to_p12() {
+    finished(FIRST, "00000000 00000008", 0, 0, "00000000 00000008");
+    let ran = run(FIRST.as_bytes(), &hex("00000000 00000008"), 7);
+    assert_eq!(ran, Ran { refusal: 15, place: 8, ..Ran::default() });
+    refused(FIRST, "00000001 0000000C 0000000E 40", 11, 0);
+}
+
+#[test]
+fn cards_and_order() {
+    assert_eq!(refusal(""), (2, 1));
+    assert_eq!(refusal("\n"), (1, 1));
+    assert_eq!(refusal(&format!("{FIRST}\n")), (1, 4));
+    assert_eq!(refusal(&FIRST.replace('\n', "\r\n")), (1, 1));
+    assert_eq!(refusal("// U TC,FU,A=(5),B=(5)\n// END\n// FS 1,1,1\n"), (2, 3));
+    assert_eq!(refusal("// U TC,FU,A=(5),B=(5)\n"), (2, 2));
+    assert_eq!(refusal("// END"), (2, 1));
+    assert_eq!(refusal("// U  TC,FU,A=(5),B=(5)\n// END"), (3, 1));
+    assert_eq!(refusal("// U\n// END"), (1, 1));
+    assert_eq!(refusal("// U \n// END"), (3, 1));
+    assert_eq!(refusal("// U TC,FU,A=(5),B=(5)\n// ENDX"), (1, 2));
+    let many = |count| format!("// U TC\n{}// END\n", "// FS CV\n".repeat(count));
+    assert_eq!(refusal(&many(62)), (4, 3));
+    assert_eq!(refusal(&many(63)), (2, 65));
+    assert_eq!(refusal(&many(63).replace("// END\n", "")), (2, 65));
+}
+
+#[test]
+fn operands() {
+    let u = |operand: &str| refusal(&format!("// U {operand}\n// END\n"));
+    assert_eq!(u("TC,FU,A=(5),B=(5)"), (0, 0));
+    assert_eq!(u("B=(00005),IR,OU,FU,R1,A=(5),TC"), (0, 0));
+    assert_eq!(u("TC,FU,A=(000005),B=(5)"), (3, 1));
+    assert_eq!(u("TC,FU,A=(5),B=(5),"), (3, 1));
+    assert_eq!(u("TC,FU,A=(5,B=(5)"), (3, 1));
+    assert_eq!(u("TC,FU,A=(5,6,7),B=(5)"), (3, 1));
+    assert_eq!(u("TC,FU,A=(5),B=(5),R"), (3, 1));
+    assert_eq!(u("TC,TR,A=(5),B=(5)"), (4, 1));
+    assert_eq!(u("TC,A=(5),B=(5)"), (5, 1));
+    assert_eq!(u("TC,FU,A=(5),B=(5),R65537"), (7, 1));
+    assert_eq!(u("TC,FU,A=(5),B=(5),R65536"), (8, 1));
+    assert_eq!(u("TC,FV,A=(8),B=(8)"), (7, 1));
+    assert_eq!(u("TF,FV,A=(9),B=(8)"), (7, 1));
+    assert_eq!(u("TC,FU,A=(5000,1),B=(1)"), (7, 1));
+    assert_eq!(u("TC,FU,A=(32760),B=(32760)"), (0, 0));
+    assert_eq!(u("TC,FU,A=(32761),B=(32760)"), (7, 1));
+}
+
+#[test]
+fn edges_to_be_run() {
+    let deck = |a: &str, b: &str, fs: &str| {
+        refusal(&format!("// U TF,{a},{b}\n// FS {fs}\n// END\n"))
+    };
+    assert_eq!(deck("FF,A=(4096,4096)", "B=(4096,4096)", "1,4096,1"), (0, 0));
+    assert_eq!(deck("FF,A=(4097,4097)", "B=(4096,4096)", "1,1,1"), (7, 1));
+    assert_eq!(deck("FF,A=(20,20)", "B=(20,20)", "1,(P,16,16),1"), (0, 0));
+    assert_eq!(deck("FF,A=(20,20)", "B=(20,20)", "1,(P,17,16),1"), (7, 2));
+    assert_eq!(deck("FF,A=(20,20)", "B=(20,20)", "1,(U,16,17),1"), (7, 2));
+    assert_eq!(deck("FV,A=(4,12)", "B=(5,13)", "1,4,1"), (0, 0));
+    assert_eq!(deck("FV,A=(4,11)", "B=(5,13)", "1,4,1"), (8, 1));
+    assert_eq!(deck("FF,A=(4,8)", "B=(5,10)", "1,1,1/2,3,3"), (0, 0));
+    assert_eq!(deck("FF,A=(4,8)", "B=(5,10)", "1,1,1/2,4,1"), (9, 2));
+    assert_eq!(deck("FF,A=(4,8)", "B=(5,10)", "1,1,1/2,3,4"), (9, 2));
+}
+
+#[test]
+fn combinations_and_their_places() {
+    assert_eq!(refusal("// U TR,FF,A=(2,4),B=(2,2)\n// FS 1,1,1\n// FS CV\n// END"), (8, 2));
+    assert_eq!(refusal("// U TF,FF,A=(2,4),B=(2,4)\n// FS 1,1,1\n// FS CV\n// END"), (8, 3));
+    assert_eq!(refusal("// U TF,FF,A=(2,5),B=(2,4)\n// FS 1,1,1\n// FS CV\n// END"), (8, 1));
+    assert_eq!(refusal("// U TF,FF,A=(2,4),B=(2,4)\n// END"), (8, 1));
+    assert_eq!(refusal("// U TF,FF,A=(2,4),B=(2,6)\n// FS 1,1,1\n// END"), (8, 1));
+    assert_eq!(refusal("// U TR,FF,A=(2,4),B=(4,4)\n// END"), (8, 1));
+    assert_eq!(refusal("// U TC,FV,A=(9),B=(10)\n// END"), (8, 1));
+    assert_eq!(planned("// U TF,FV,A=(2,10),B=(2,10)\n// FS CV\n// END"), (0, 0, 0, 0, 0));
+}
+
+#[test]
+fn fields_64_and_65_and_the_table() {
+    let deck = |count: usize| {
+        let fs = "// FS 1,1,1\n".repeat(60) + &format!("// FS 2,1,2{}\n", "/3,1,3".repeat(count - 61));
+        format!("// U TF,FF,A=(3,3),B=(3,3)\n{fs}// END\n")
+    };
+    assert_eq!(planned(&deck(64)), (0, 0, 1, 0, 64));
+    assert_eq!(planned(&deck(65)), (6, 62, 0, 0, 0));
+    let blank = Entry { t: 99, ..Entry::default() };
+    let mut table = [blank; 3];
+    assert_eq!(plan_into(FIRST.as_bytes(), &mut table[..1]).refusal, 15);
+    assert_eq!(plan_into(FIRST.as_bytes(), &mut table[..1]).place, 2);
+    assert_eq!(table, [blank; 3]);
+    assert_eq!(plan_into(FIRST.as_bytes(), &mut table), plan(FIRST.as_bytes()));
+    let copy = Entry { step: 0, r: 1, input: 4, output: 4, t: 1 };
+    let pack = Entry { step: 1, r: 5, input: 4, output: 3, t: 5 };
+    assert_eq!(table, [copy, pack, blank]);
+}
+
+#[test]
+fn slips_about_keeping() {
+    let lost = |fs: &str| {
+        let p = planned(&format!("// U TRF,FF,A=(4,4),B=(4,4)\n// FS {fs}\n// END"));
+        (p.2, p.3)
+    };
+    assert_eq!(lost("1,4,1"), (1, 0));
+    assert_eq!(lost("1,(P,4,3),2"), (1, 0));
+    assert_eq!(lost("1,(P,4,3),2/1,1,2"), (1, 0));
+    assert_eq!(lost("1,(P,4,3),2/1,1,3"), (0, 3));
+    assert_eq!(lost("1,(P,4,2),1"), (0, 1));
+    assert_eq!(lost("1,(P,4,2),1/1,1,3"), (1, 0));
+    assert_eq!(lost("2,3,2"), (0, 0));
+    let tail = |m, fs| planned(&format!("// U TF,FV,A=(2,{m}),B=(2,30)\n// FS {fs}\n// END"));
+    assert_eq!(tail(10, "1,2,1"), (0, 0, 1, 0, 1));
+    assert_eq!(tail(11, "1,2,1"), (0, 0, 0, 4, 1));
+    assert_eq!(tail(11, "CV/1,2,1"), (0, 0, 1, 0, 1));
+}
+
+#[test]
+fn r_at_and_past_the_last_record() {
+    let deck = |r| FIRST.replace("B=(7,7)", &format!("B=(7,7),R{r}"));
+    let one = "00000001 0000000C 00000013 C1C2C3C409234C";
+    finished(&deck(2), P7, 1, 1, one);
+    finished(&deck(3), P7, 0, 0, "00000000 00000008");
+    refused(&deck(3), "00000001 0000000C 00000012 C1C2C3C4C5C6", 12, 1);
+}
+
+#[test]
+fn bad_halves_of_taken_records_only() {
+    let bad = "00000001 0000000C 0000001C C1C2C3C4F1F2E3C4 C1C2C3C4F9F2F3C4";
+    refused(FIRST, bad, 13, 1);
+    let second = FIRST.replace("B=(7,7)", "B=(7,7),R2");
+    finished(&second, bad, 1, 1, "00000001 0000000C 00000013 C1C2C3C409234C");
+}
+
+#[test]
+fn variable_records() {
+    let deck = |mode, m, cv| {
+        format!("// U {mode},FV,A=(1,19),B=(2,{m})\n// FS 1,1,2{cv}\n// END\n")
+    };
+    let reel = "00000001 0000000C 0000001B 000F0000 00050000C1 00060000C2D9";
+    let kept = "00000001 0000000C 0000001D 00110000 0006000040C1 0007000040C2D9";
+    let apart = "00000002 00000010 0000001A 00000025 000A0000 0006000040C1 000B0000 0007000040C2D9";
+    finished(&deck("TF", 17, "/CV"), reel, 2, 1, kept);
+    refused(&deck("TF", 16, "/CV"), reel, 14, 2);
+    finished(&deck("TRF", 16, "/CV"), reel, 2, 2, apart);
+    refused(&deck("TRF", 10, "/CV"), reel, 14, 2);
+    finished(&deck("TF", 16, ""), reel, 2, 1,
+        "00000001 0000000C 0000001C 00100000 0006000040C1 0006000040C2");
+    let short = reel.replace("00050000C1", "0005000100");
+    refused(&deck("TF", 17, ""), &short, 12, 1);
+}
+
+#[test]
+fn keeping_is_what_the_outputs_show() {
+    let items = ["1,1,1", "2,2,2", "3,1,1", "1,(P,3,2),2", "1,(P,2,1),4", "2,(P,2,3),1",
+        "1,(U,2,3),1", "2,(U,1,1),3", "2,(U,2,2),2", "1,(U,3,4),1", "1,3,1"];
+    for one in items {
+        for two in items {
+            for three in items {
+                let deck = format!("// U TF,FF,A=(3,3),B=(4,4)\n// FS {one}/{two}/{three}\n// END");
+                if let Ok(plan) = plan::accepted(deck.as_bytes()) {
+                    assert_eq!(lost_by_trying(&plan), plan::lost(&plan), "{deck}");
+                }
+            }
+        }
+    }
+}
+
+/// The lowest half of which another permitted value gives the same output record.
+fn lost_by_trying(plan: &plan::Plan) -> Option<usize> {
+    let output = |record: &[u8]| halves::finished(&plan.fields, 4, record, |value| value);
+    let base: Vec<u8> = plan.values.iter().map(|v| v.trailing_zeros() as u8).collect();
+    (0..base.len()).find(|half| {
+        let mut other = base.clone();
+        other[*half] = 15 - plan.values[*half].leading_zeros() as u8;
+        other != base && output(&other) == output(&base)
+    })
+}
