@@ -1,0 +1,78 @@
+// What the cards of a deck ask for, as words of a line.
+use crate::say;
+use terms::Asked;
+use terms::Field;
+use terms::Format;
+use terms::Kind;
+use terms::Mode;
+use terms::Size;
+
+fn tell_mode(mode: Mode) {
+    match mode {
+        Mode::TC => say::words(b" TC"),
+        Mode::TF => say::words(b" TF"),
+        Mode::TR => say::words(b" TR"),
+        Mode::TRF => say::words(b" TRF"),
+    }
+}
+
+fn tell_format(format: Format) {
+    match format {
+        Format::FF => say::words(b" FF"),
+        Format::FV => say::words(b" FV"),
+        Format::FU => say::words(b" FU"),
+    }
+}
+
+fn tell_size(label: &[u8], size: Size) {
+    match size {
+        Size::Two { n, m } => {
+            say::labelled(label, n);
+            say::labelled(b",", m);
+        }
+        Size::One { g } => say::labelled(label, g),
+    }
+}
+
+fn tell_kind(kind: Kind) {
+    match kind {
+        Kind::Copy => say::words(b" C"),
+        Kind::Pack => say::words(b" P"),
+        Kind::Unpack => say::words(b" U"),
+    }
+}
+
+fn tell_field(field: Field, card: usize) {
+    let kind = field.kind;
+    tell_kind(kind);
+    say::labelled(b":", field.r);
+    say::labelled(b",", field.input);
+    say::labelled(b",", field.output);
+    say::labelled(b",", field.t);
+    say::labelled(b"@", card);
+}
+
+fn tell_fields(asked: Asked) {
+    let count = asked.count;
+    let mut i = 0;
+    while i < count && i < 64 {
+        tell_field(asked.fields[i], asked.cards[i]);
+        i += 1;
+    }
+}
+
+pub(crate) fn tell(asked: Asked) {
+    let mode = asked.mode;
+    let format = asked.format;
+    let input = asked.input;
+    let output = asked.output;
+    tell_mode(mode);
+    tell_format(format);
+    tell_size(b" A=", input);
+    tell_size(b" B=", output);
+    say::labelled(b" R=", asked.first);
+    say::labelled(b" fs=", asked.fs);
+    say::labelled(b" cv=", asked.cv);
+    say::labelled(b" ", asked.count);
+    tell_fields(asked);
+}
