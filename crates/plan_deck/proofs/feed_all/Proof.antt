@@ -1,0 +1,48 @@
+-- The turns are counted down, so the loop ends.
+use native.Mathlib.Omega.{arith}
+use Rattle.plan_deck.proofs.feed_all.Statement.{statement}
+use Rattle.plan_deck.proofs.feed_all.Tie as tie
+use Rattle.plan_deck.proofs.feed_all.Reads as reads
+use Rattle.plan_deck.proofs.feed_all.Lts as lts
+use Rattle.plan_deck.proofs.feed.Reads as feed-reads
+
+abbrev Inv-loop : tie.InvT-loop
+Inv-loop now₀ turns₀ now turns = Unit {0}
+
+abbrev μ-loop : tie.MeasureT-loop
+μ-loop now₀ turns₀ now turns = turns
+
+loop-holds : tie.Need-loop-holds Inv-loop μ-loop
+loop-holds c = tt
+
+feed-requires : tie.Need-feed-requires Inv-loop μ-loop
+feed-requires c κs = tt
+
+returns : tie.Need-returns Inv-loop μ-loop
+returns c = tt
+
+sub-turns : tie.Need-sub-turns Inv-loop μ-loop
+sub-turns c = omega arith
+
+loop-less : tie.Need-loop-less Inv-loop μ-loop
+loop-less c = omega arith
+
+loop-again : tie.Need-loop-again Inv-loop μ-loop
+loop-again c = tt
+
+returns-2 : tie.Need-returns-2 Inv-loop μ-loop
+returns-2 c = tt
+
+pub feed-all-spec : {M : Type 1} → statement M
+feed-all-spec =
+    tie.close
+    (tie.spec
+    Inv-loop
+    μ-loop
+    loop-holds
+    feed-requires
+    returns
+    sub-turns
+    loop-less
+    loop-again
+    returns-2)
