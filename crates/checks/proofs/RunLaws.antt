@@ -39,7 +39,8 @@ use Rattle.reels.proofs.ReelTold.{form-is, Tells, tells}
 use Rattle.terms.specs.Meaning.{modeOf}
 use Rattle.terms.specs.declared.Task.{Task}
 use Rattle.checks.specs.declared.Ran.{Ran}
-use Rattle.checks.specs.Promise.{formOf, ranStruct, refusedRun, finishedRun, housedRun, Given, GivenPlan, ReadBy, Unpermitted, MeasuredRun, CheckedRun, Checked}
+use Rattle.tasks.specs.Promise.{formOf}
+use Rattle.checks.specs.Promise.{ranStruct, refusedRun, finishedRun, housedRun, Given, GivenPlan, ReadBy, Unpermitted, MeasuredRun, CheckedRun, Checked}
 
 -- ---- the steps of a run
 

@@ -15,16 +15,11 @@ use Rattle.rules.specs.Accepted.{Accepted}
 use Rattle.rules.specs.Lent.{zoneF, RunAnswer, runAnswer}
 use Rattle.terms.specs.declared.Task.{Task}
 use Rattle.terms.specs.Meaning.{TaskIs}
-use Rattle.reels.specs.declared.Form.{Form}
 use Rattle.records.specs.Flat.{flatOf}
 use Rattle.walks.specs.Promise.{Good}
 use Rattle.measures.specs.declared.Measured.{Measured}
 use Rattle.measures.specs.Promise.{answerAt, MeasuredAs}
 use Rattle.checks.specs.declared.Ran.{Ran}
-
--- what the plan asks of input blocks
-abbrev pub formOf : Task → Form
-formOf task = record { format = task .format; n = task .n; m = task .m; least = task .least }
 
 -- ---- answers
 

@@ -1,8 +1,7 @@
 // Refusals 11 to 15 of a run, in their order and each over the whole reel, before anything is written: document 01, "Refusal numbers".
 ghost use mathlib.Core.Path.{_≡_};
-ghost use Rattle.checks.specs.Promise.{formOf, refusedRun, housedRun, GivenPlan, ReadBy, Unpermitted, MeasuredRun, CheckedRun, Checked};
+ghost use Rattle.checks.specs.Promise.{refusedRun, housedRun, GivenPlan, ReadBy, Unpermitted, MeasuredRun, CheckedRun, Checked};
 use measures::Measured;
-use reels::Form;
 use reels::ReelRead;
 use terms::Mode;
 use terms::Task;
@@ -17,19 +16,6 @@ pub struct Ran {
     pub length: usize,
     pub records: usize,
     pub blocks: usize,
-}
-
-// What the plan asks of input blocks.
-fn form_of(task: Task) -> Form
-    ensures { λ r. ⌜ r ≡ formOf task ⌝ }
-{
-    let format = task.format;
-    Form {
-        format,
-        n: task.n,
-        m: task.m,
-        least: task.least,
-    }
 }
 
 fn refused(number: usize, place: usize) -> Ran
@@ -120,7 +106,7 @@ pub fn check(task: Task, fields: &[u16], s: &[u8], room: usize) -> Ran
     requires { ⌜ GivenPlan task (now fields) ⌝ }
     ensures { λ r. ⌜ Checked task (now (fields .entry)) (now (s .entry)) room r ⌝ }
 {
-    let read = reels::read_reel(form_of(task), s);
+    let read = reels::read_reel(tasks::form_of(task), s);
     match read {
         ReelRead::NotReel => refused(11, 0),
         ReelRead::BadBlock { block } => refused(12, block),

@@ -16,7 +16,8 @@ use Rattle.reels.specs.Form.{FormIs}
 use Rattle.walks.specs.declared.Walk.{Walk}
 use Rattle.walks.specs.Marks.{markedAll}
 use Rattle.walks.specs.Promise.{Good, Walks, bytesLeft, Taken}
-use Rattle.measures.specs.Promise.{formOf, Fair, answerAt}
+use Rattle.tasks.specs.Promise.{formOf}
+use Rattle.measures.specs.Promise.{Fair, answerAt}
 
 pub answer-at : (number i : ℕ) → 1 ≤ i → refused number i ≡ answerAt number i
 answer-at number zero l = absurd (omega arith)

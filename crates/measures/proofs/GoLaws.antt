@@ -24,11 +24,13 @@ use Rattle.walks.specs.Promise.{Walks, Passed, bytesLeft, Told, Taken}
 use Rattle.walks.proofs.PromiseLaws.{inside, lent-length, passed, ended}
 use Rattle.measures.specs.declared.Tally.{Tally}
 use Rattle.measures.specs.declared.Measured.the-variants.{TooLong, Fits}
-use Rattle.measures.specs.Tallying.{lengthOf, tallyOf, Small}
-use Rattle.measures.specs.Promise.{formOf, Measuring, Measurable, fitAnswer, FitsAs, Measures}
+use Rattle.tasks.specs.Promise.{formOf, lengthOf}
+use Rattle.tasks.proofs.LengthLaws.{length-most, out-length}
+use Rattle.measures.specs.Tallying.{tallyOf, Small}
+use Rattle.measures.specs.Promise.{Measuring, Measurable, fitAnswer, FitsAs, Measures}
 use Rattle.measures.proofs.FairLaws.{left-few, asks, first-high, s-short, walks-first}
 use Rattle.measures.proofs.TestLaws.{stepOf, testsFrom, lengths, takenMarked, all-count, all-tests, all-totals}
-use Rattle.measures.proofs.TallyLaws.{length-high, measureOf, empty, tally-is, out-length, bounded, Grown, tally-grown}
+use Rattle.measures.proofs.TallyLaws.{measureOf, empty, tally-is, bounded, Grown, tally-grown}
 
 -- ---- a turn, by any step
 
@@ -115,7 +117,7 @@ module _ (task : Task) {s : List ℕ} {form : Form} (f : form ≡ formOf task) {
             blocks = omega (arith, z .0);
             size = omega (arith, z .1, k .size);
             bytes = omega (arith, z .1);
-            long = omega (arith, g .0, g .1, q, length-high task size);
+            long = omega (arith, g .0, g .1, q, length-most task size);
           }
 
       module _ {p : Plan} {recs : List (List (List ℕ))} (x : Measuring task s p recs) where
@@ -175,7 +177,7 @@ module _ (task : Task) {s : List ℕ} {form : Form} (f : form ≡ formOf task) {
               few = omega (arith, k .few, inside h e .less);
               blocks = omega (arith, k .blocks, g .blocks);
               size = g .size (k .size);
-              bytes = omega (arith, k .bytes, g .bytes, b .cost, a .0, a .1, q, length-high task size);
+              bytes = omega (arith, k .bytes, g .bytes, b .cost, a .0, a .1, q, length-most task size);
               goes = λ p recs x.
                   subst (λ (z : Tally). Goes p s recs next (number + 1) (measureOf z)) u-is
                   (goes-more x (subst (λ (z : Tally). z .size ≤ task .limit) (sym u-is) l));

@@ -28,7 +28,8 @@ use Rattle.walks.specs.Marks.{markedAll, bytesOf}
 use Rattle.walks.specs.Promise.{Walks, Passed, bytesLeft, Told, Taken}
 use Rattle.walks.proofs.MarksLaws.{all-records}
 use Rattle.walks.proofs.PromiseLaws.{inside, lent, lent-length, passed, ended}
-use Rattle.measures.specs.Promise.{formOf, Selecting, Selected, FirstUnpermitted}
+use Rattle.tasks.specs.Promise.{formOf}
+use Rattle.measures.specs.Promise.{Selecting, Selected, FirstUnpermitted}
 use Rattle.measures.proofs.FairLaws.{answer-at, left-few, Asks, asks, first-low, first-high, s-short, walks-first}
 
 -- ---- what is asked of a record

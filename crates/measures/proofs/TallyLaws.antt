@@ -20,44 +20,8 @@ use Rattle.rules.proofs.Never.{output-other}
 use Rattle.terms.specs.Meaning.{modeOf, TaskIs}
 use Rattle.terms.specs.declared.Task.{Task}
 use Rattle.measures.specs.declared.Tally.{Tally}
-use Rattle.measures.specs.Tallying.{tailOf, lengthOf, overfillsOf, opensIn, tallyIn, opensOf, tallyOf}
+use Rattle.measures.specs.Tallying.{overfillsOf, opensIn, tallyIn, opensOf, tallyOf}
 use Rattle.measures.proofs.TestLaws.{stepOf}
-
--- ---- lengths
-
-module _ (task : Task) (n : ℕ) where
-  pub tail-short : n < task .n → 0 ≡ tailOf task n
-  tail-short l = go (task .carries)
-    where
-      go : (t : Bool) → 0 ≡ cond t (n - task .n) 0
-      go true = let z : 0 ≡ n - task .n = omega arith in z
-      go false = refl
-
-  pub tail-carried : task .carries ≡ true → n - task .n ≡ tailOf task n
-  tail-carried e = sym (ap (λ (t : Bool). cond t (n - task .n) 0) e)
-
-  pub tail-high : tailOf task n ≤ n
-  tail-high = go (task .carries)
-    where
-      go : (t : Bool) → cond t (n - task .n) 0 ≤ n
-      go true = omega arith
-      go false = omega arith
-
-  pub length-selects : selects (modeOf (task .mode)) ≡ true → {x : ℕ} → x ≡ tailOf task n → task .width + x ≡ lengthOf task n
-  unfolding lengthOf
-  length-selects e q = ap (λ (k : ℕ). task .width + k) q ∙ sym (ap (λ (t : Bool). cond t (task .width + tailOf task n) n) e)
-
-  pub length-other : selects (modeOf (task .mode)) ≡ false → n ≡ lengthOf task n
-  unfolding lengthOf
-  length-other e = sym (ap (λ (t : Bool). cond t (task .width + tailOf task n) n) e)
-
-  pub length-high : lengthOf task n ≤ task .width + n
-  unfolding lengthOf
-  length-high = go (selects (modeOf (task .mode)))
-    where
-      go : (t : Bool) → cond t (task .width + tailOf task n) n ≤ task .width + n
-      go true = omega (arith, tail-high)
-      go false = omega arith
 
 -- ---- whether a block is opened
 
@@ -123,21 +87,6 @@ module _ {task : Task} {p : Plan} (is : TaskIs task p) where
       tally-in (task .limit) (task .cost) t begins n (modeOf (task .mode))
       ∙ ap (λ (m : Mode). stepOf m (task .limit) (task .cost) (measureOf t) (begins, n)) (is .mode)
       ∙ ap₂ (λ (l c : ℕ). stepOf (p .mode) l c (measureOf t) (begins, n)) (is .limit) (is .costs)
-
-  -- the length of an output record
-  pub out-length : Accepted p → (r : List ℕ) → leastData p ≤ length r → length (outRecord p r) ≡ lengthOf task (length r)
-  unfolding lengthOf
-  out-length ok r l = go (selects (p .mode)) refl
-    where
-      go : (t : Bool) → selects (p .mode) ≡ t → length (outRecord p r) ≡ lengthOf task (length r)
-      go true t =
-          length-outRecord p ok t r (let z : recordLength (p .input) ≤ length r = omega (arith, least-selects p t) in z)
-          ∙ ap₂ (λ (k n : ℕ). k + cond (p .carries) (length r - n) 0) (sym (is .width)) (sym (is .n))
-          ∙ ap (λ (c : Bool). task .width + cond c (length r - task .n) 0) (sym (is .carries))
-          ∙ sym (ap (λ (b : Bool). cond b (task .width + tailOf task (length r)) (length r)) (ap selects (is .mode) ∙ t))
-      go false t =
-          ap length (output-other p t r)
-          ∙ sym (ap (λ (b : Bool). cond b (task .width + tailOf task (length r)) (length r)) (ap selects (is .mode) ∙ t))
 
 -- ---- far from wrapping
 

@@ -15,15 +15,10 @@ use Rattle.rules.proofs.RunParts.{outputs, outputBlocks}
 use Rattle.rules.specs.Lent.{zoneF}
 use Rattle.terms.specs.declared.Task.{Task}
 use Rattle.terms.specs.Meaning.{TaskIs}
-use Rattle.reels.specs.declared.Form.{Form}
 use Rattle.records.specs.Flat.{flatOf}
 use Rattle.walks.specs.Promise.{Good}
 use Rattle.measures.specs.declared.Measured.{Measured}
 use Rattle.measures.specs.declared.Measured.the-variants.{TooLong, Fits}
-
--- what the plan asks of input blocks
-abbrev pub formOf : Task → Form
-formOf task = record { format = task .format; n = task .n; m = task .m; least = task .least }
 
 -- the numbers are those of a plan, and the reel is good by it, with these records
 pub record Fair (task : Task) (s : List ℕ) (p : Plan) (recs : List (List (List ℕ))) : Type 0 where

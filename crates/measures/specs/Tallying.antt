@@ -1,24 +1,11 @@
 -- What is tallied of the output, record after record, by numbers alone. Assumes nothing.
 use mathlib.Core.Bool.{Bool, cond, _||_}
-use Prim.Native.Nat.{ℕ, _+_, _-_, _≤_}
+use Prim.Native.Nat.{ℕ, _+_, _≤_}
 use lib.Dec.{ltb, eqb}
 use Rattle.rules.specs.Grammar.{Mode, tc, tf, tr, trf}
-use Rattle.rules.specs.Plan.{selects}
 use Rattle.terms.specs.Meaning.{modeOf}
 use Rattle.terms.specs.declared.Task.{Task}
 use Rattle.measures.specs.declared.Tally.{Tally}
-
--- ---- lengths
-
--- with CV the data past A's n
-abbrev pub tailOf : Task → ℕ → ℕ
-tailOf task n = cond (task .carries) (n - task .n) 0
-
--- the length of the output of a record of n bytes
-unfoldable pub lengthOf : Task → ℕ → ℕ
-lengthOf task n = cond (selects (modeOf (task .mode))) (task .width + tailOf task n) n
-
--- ---- blocks
 
 -- no block is open, or a record whose output has n bytes does not fit behind the others
 unfoldable pub overfillsOf : ℕ → ℕ → Tally → ℕ → Bool

@@ -2,18 +2,17 @@
 // each fits (refusal 14) with what the output reel measures. Document 01, "Blocks and records" and "Refusal numbers".
 ghost use mathlib.Core.Path.{_≡_};
 ghost use Prim.Native.Nat.{_≤_};
-ghost use Rattle.measures.specs.Promise.{formOf, Selected, FirstUnpermitted, Measurable, Measures};
-ghost use Rattle.measures.specs.Tallying.{tailOf, lengthOf, overfillsOf, opensOf, tallyOf, Small};
-use reels::Form;
+ghost use Rattle.measures.specs.Promise.{Selected, FirstUnpermitted, Measurable, Measures};
+ghost use Rattle.measures.specs.Tallying.{overfillsOf, opensOf, tallyOf, Small};
 use terms::Mode;
 use terms::Task;
 use walks::RecordRead;
 
 // What is tallied of the output along the way: so many blocks, the size of the last, and the bytes of all.
-pub struct Tally {
-    pub blocks: usize,
-    pub size: usize,
-    pub bytes: usize,
+struct Tally {
+    blocks: usize,
+    size: usize,
+    bytes: usize,
 }
 
 // The number of the first record whose output does not fit; or, where each fits, how many blocks, records and bytes the output reel has.
@@ -28,25 +27,12 @@ pub enum Measured {
     },
 }
 
-// What the plan asks of input blocks.
-fn form_of(task: Task) -> Form
-    ensures { λ r. ⌜ r ≡ formOf task ⌝ }
-{
-    let format = task.format;
-    Form {
-        format,
-        n: task.n,
-        m: task.m,
-        least: task.least,
-    }
-}
-
 // The number of the first record taken of which a half is not permitted, or 0.
 pub fn first_unpermitted(task: Task, fields: &[u16], s: &[u8]) -> usize
     requires { ⌜ Selected task (now fields) (now s) ⌝ }
     ensures { λ r. ⌜ FirstUnpermitted task (now (fields .entry)) (now (s .entry)) r ⌝ }
 {
-    let form = form_of(task);
+    let form = tasks::form_of(task);
     let first = task.first;
     let mut w = walks::taken(form, s, first);
     let mut number = first;
@@ -70,35 +56,6 @@ pub fn first_unpermitted(task: Task, fields: &[u16], s: &[u8]) -> usize
                 return 0;
             }
         }
-    }
-}
-
-// With CV, how much data past A's n follows.
-fn tail_length(task: Task, length: usize) -> usize
-    ensures { λ r. ⌜ r ≡ tailOf task length ⌝ }
-{
-    let n = task.n;
-    if length < n {
-        return 0;
-    }
-    if task.carries {
-        return length - n;
-    }
-    0
-}
-
-// The length of a record's output: TR carries records unchanged.
-fn output_length(task: Task, length: usize) -> usize
-    requires { ⌜ (task .width ≤ 65536) × (length ≤ 65536) ⌝ }
-    ensures { λ r. ⌜ r ≡ lengthOf task length ⌝ }
-{
-    let mode = task.mode;
-    let width = task.width;
-    match mode {
-        Mode::TC => length,
-        Mode::TF => width + tail_length(task, length),
-        Mode::TR => length,
-        Mode::TRF => width + tail_length(task, length),
     }
 }
 
@@ -155,7 +112,7 @@ pub fn measure(task: Task, s: &[u8]) -> Measured
     requires { ⌜ Measurable task (now s) ⌝ }
     ensures { λ r. ⌜ Measures task (now (s .entry)) r ⌝ }
 {
-    let form = form_of(task);
+    let form = tasks::form_of(task);
     let first = task.first;
     // The least size that a block of B may not have.
     let over = task.limit + 1;
@@ -175,7 +132,7 @@ pub fn measure(task: Task, s: &[u8]) -> Measured
                 begins,
                 next,
             } => {
-                let more = tallied(task, tally, begins, output_length(task, length));
+                let more = tallied(task, tally, begins, tasks::output_length(task, length));
                 if more.size >= over {
                     return Measured::TooLong { record: number };
                 }

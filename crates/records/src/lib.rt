@@ -265,17 +265,6 @@ fn put_fields(fields: &[u16], record: &[u8], out: &mut [u8])
     }
 }
 
-// How long the output of a record of len bytes is: B's m, and with CV the data past A's n.
-pub fn output_length(n: usize, m: usize, carries: bool, len: usize) -> usize
-    requires { ⌜ (n ≤ len) × (m + len < 2 ^ 64) ⌝ }
-    ensures { λ r. ⌜ r ≡ m + cond carries (len - n) 0 ⌝ }
-{
-    if carries {
-        return m + (len - n);
-    }
-    m
-}
-
 // Writes the output of a record at the front of out: B's m bytes of hex 40, then the fields, and with CV the data past A's n.
 pub fn put_record(fields: &[u16], n: usize, m: usize, carries: bool, record: &[u8], out: &mut [u8])
     requires { ⌜ Fielded (now fields) n m ⌝ }

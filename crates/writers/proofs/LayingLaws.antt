@@ -30,7 +30,8 @@ use Rattle.records.specs.Promise.{outBytes}
 use Rattle.walks.specs.declared.Walk.{Walk}
 use Rattle.walks.specs.Promise.{Taken}
 use Rattle.writers.specs.declared.Place.{Place}
-use Rattle.writers.specs.Writing.{formOf, lengthOf, opensOf, firstPlace, nextPlace, sizeWord, pieceOf}
+use Rattle.tasks.specs.Promise.{formOf, lengthOf}
+use Rattle.writers.specs.Writing.{opensOf, firstPlace, nextPlace, sizeWord, pieceOf}
 use Rattle.writers.specs.Promise.{blocksIn, Ready, outOf, Writable, NextFits, nextBytes, NextPut, Headed}
 use Rattle.writers.proofs.Gathering.{closedSize, offsetsLeft, bytesLeft, next-offset, closed-most, length-sizeWord, length-piece}
 use Rattle.writers.proofs.Sending.{Sent, sent-start, sent-length, sent-more, sent-end, sent-as}

@@ -28,12 +28,14 @@ use Rattle.walks.specs.Marks.{markedAll}
 use Rattle.walks.specs.Promise.{Walks, Told, Taken}
 use Rattle.walks.proofs.PromiseLaws.{passed, inside, lent, lent-length}
 use Rattle.writers.specs.declared.Place.{Place}
-use Rattle.writers.specs.Writing.{formOf, lengthOf, opensOf, Small, firstPlace, nextPlace, offsetPut, sizeWord, pieceOf}
+use Rattle.tasks.specs.Promise.{formOf, lengthOf}
+use Rattle.tasks.proofs.LengthLaws.{length-most, out-length}
+use Rattle.writers.specs.Writing.{opensOf, Small, firstPlace, nextPlace, offsetPut, sizeWord, pieceOf}
 use Rattle.writers.specs.Promise.{blocksIn, Ready}
 use Rattle.writers.proofs.Gathering.{closedSize, offsetsLeft, bytesLeft, offsets-open, offsets-behind, bytes-open, bytes-behind, length-sizeWord, length-piece}
 use Rattle.writers.proofs.Sending.{Sent, sent-start, sent-size, sent-length, sent-more, sent-end, sent-as}
-use Rattle.writers.proofs.StepLaws.{cost-most, length-most, next-opens, next-behind, offset-opens, offset-behind}
-use Rattle.writers.proofs.Readying.{outs, marksIn, form-is, out-length, count-is, offsets-left, reel-size}
+use Rattle.writers.proofs.StepLaws.{cost-most, next-opens, next-behind, offset-opens, offset-behind}
+use Rattle.writers.proofs.Readying.{outs, marksIn, form-is, count-is, offsets-left, reel-size}
 
 record-most : (f : Format) (z : Size) → SizeWithin f z → recordLength z ≤ 4096
 record-most f (two n m) w = w .0 .1

@@ -25,7 +25,8 @@ use Rattle.terms.specs.declared.Task.{Task}
 use Rattle.reels.specs.Form.{FormIs}
 use Rattle.walks.specs.Marks.{markedAll, onMarked}
 use Rattle.walks.proofs.MarksLaws.{all-records, all-map, blocks-marked}
-use Rattle.writers.specs.Writing.{formOf, tailOf, lengthOf, opensOf}
+use Rattle.tasks.specs.Promise.{formOf}
+use Rattle.writers.specs.Writing.{opensOf}
 use Rattle.writers.specs.Promise.{blocksIn, Ready}
 use Rattle.writers.proofs.Gathering.{gathered, offsetsLeft, bytesLeft, Starts, starts, start-bytes, start-offsets, gathered-marked, gathered-filled}
 
@@ -75,21 +76,6 @@ module _ {task : Task} {p : Plan} (is : TaskIs task p) where
   starts-is recs =
       subst (Starts (p .format) (opensOf task) (task .limit + 1)) (all-map (outRecord p) (takenFrom (p .first) recs))
       (starts (p .format) (opensOf task) (task .limit + 1) opens-first (outputs p recs))
-
-  -- the length of an output record
-  pub out-length : Accepted p → (r : List ℕ) → leastData p ≤ length r → length (outRecord p r) ≡ lengthOf task (length r)
-  unfolding lengthOf tailOf
-  out-length ok r l = go (selects (p .mode)) refl
-    where
-      go : (t : Bool) → selects (p .mode) ≡ t → length (outRecord p r) ≡ lengthOf task (length r)
-      go true t =
-          length-outRecord p ok t r (let z : recordLength (p .input) ≤ length r = omega (arith, least-selects p t) in z)
-          ∙ ap₂ (λ (k n : ℕ). k + cond (p .carries) (length r - n) 0) (sym (is .width)) (sym (is .n))
-          ∙ ap (λ (c : Bool). task .width + cond c (length r - task .n) 0) (sym (is .carries))
-          ∙ sym (ap (λ (b : Bool). cond b (task .width + tailOf task (length r)) (length r)) (ap selects (is .mode) ∙ t))
-      go false t =
-          ap length (output-other p t r)
-          ∙ sym (ap (λ (b : Bool). cond b (task .width + tailOf task (length r)) (length r)) (ap selects (is .mode) ∙ t))
 
 module _ {task : Task} {s : List ℕ} {blocks room : ℕ} (x : Ready task s blocks room) where
   -- the records that are taken

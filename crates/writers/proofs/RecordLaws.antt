@@ -23,10 +23,11 @@ use Rattle.terms.specs.declared.Task.{Task}
 use Rattle.records.specs.Flat.{FlatFair}
 use Rattle.records.specs.Promise.{outBytes, Puts}
 use Rattle.writers.specs.declared.Place.{Place}
-use Rattle.writers.specs.Writing.{tailOf, lengthOf, opensOf, sizeWord, pieceOf}
+use Rattle.tasks.specs.Promise.{tailOf, lengthOf}
+use Rattle.tasks.proofs.LengthLaws.{length-selected, length-carried}
+use Rattle.writers.specs.Writing.{opensOf, sizeWord, pieceOf}
 use Rattle.writers.specs.Promise.{outOf, Writable, DataPut, PiecePut, nextBytes, NextPut}
 use Rattle.writers.proofs.Gathering.{length-sizeWord, length-piece}
-use Rattle.writers.proofs.StepLaws.{length-selected, length-carried}
 
 -- ---- the word
 

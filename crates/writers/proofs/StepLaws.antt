@@ -8,14 +8,14 @@ use lib.Dec.{ltb}
 use borrow.Author.Tests.{lt-ltb, le-ltb, ltb-true, ltb-false}
 use Rattle.rules.specs.Grammar.{Format, ff, fv, fu}
 use Rattle.rules.specs.Output.{cost}
-use Rattle.rules.specs.Plan.{selects, isTF}
+use Rattle.rules.specs.Plan.{isTF}
 use Rattle.rules.specs.Reel.{word}
 use Rattle.terms.specs.Meaning.{modeOf}
 use Rattle.terms.specs.declared.Mode.{Mode}
 use Rattle.terms.specs.declared.Task.{Task}
 use Rattle.reels.specs.Words.{written}
 use Rattle.writers.specs.declared.Place.{Place}
-use Rattle.writers.specs.Writing.{tailOf, lengthOf, opensOf, nextPlace, offsetPut}
+use Rattle.writers.specs.Writing.{opensOf, nextPlace, offsetPut}
 
 pub cost-most : (f : Format) → cost f ≤ 4
 cost-most ff = omega arith
@@ -36,51 +36,6 @@ pub overfills-cost : (limit size c n : ℕ) → limit - size < c → true ≡ lt
 overfills-cost limit size c n l = sym (lt-ltb limit (size + (c + n)) (omega arith))
 
 module _ (task : Task) where
-  -- the tail
-  pub tail-short : (n : ℕ) → n < task .n → 0 ≡ tailOf task n
-  unfolding tailOf
-  tail-short n l = go (task .carries)
-    where
-      go : (t : Bool) → 0 ≡ cond t (n - task .n) 0
-      go true = omega arith
-      go false = refl
-
-  pub tail-carried : (n : ℕ) → task .carries ≡ true → n - task .n ≡ tailOf task n
-  unfolding tailOf
-  tail-carried n e = rw e
-
-  pub tail-dropped : (n : ℕ) → task .carries ≡ false → 0 ≡ tailOf task n
-  unfolding tailOf
-  tail-dropped n e = rw e
-
-  pub tail-most : (n : ℕ) → tailOf task n ≤ n
-  unfolding tailOf
-  tail-most n = go (task .carries)
-    where
-      go : (t : Bool) → cond t (n - task .n) 0 ≤ n
-      go true = omega arith
-      go false = omega arith
-
-  pub tail-small : (n r : ℕ) → r ≡ tailOf task n → r ≤ n
-  tail-small n r e = omega (arith, tail-most n)
-
-  -- the length of an output record
-  pub length-selected : (n : ℕ) {m : Mode} → task .mode ≡ m → selects (modeOf m) ≡ true → task .width + tailOf task n ≡ lengthOf task n
-  unfolding lengthOf
-  length-selected n e s = sym (ap (λ (b : Bool). cond b (task .width + tailOf task n) n) (ap (λ (m : Mode). selects (modeOf m)) e ∙ s))
-
-  pub length-carried : (n : ℕ) {m : Mode} → task .mode ≡ m → selects (modeOf m) ≡ false → n ≡ lengthOf task n
-  unfolding lengthOf
-  length-carried n e s = sym (ap (λ (b : Bool). cond b (task .width + tailOf task n) n) (ap (λ (m : Mode). selects (modeOf m)) e ∙ s))
-
-  pub length-most : (n : ℕ) → lengthOf task n ≤ task .width + n
-  unfolding lengthOf
-  length-most n = go (selects (modeOf (task .mode)))
-    where
-      go : (t : Bool) → cond t (task .width + tailOf task n) n ≤ task .width + n
-      go true = omega (arith, tail-most n)
-      go false = omega arith
-
   -- whether a record opens a block
   pub opens-begins : (size : ℕ) (begins : Bool) (n : ℕ) {m : Mode} → task .mode ≡ m → isTF (modeOf m) ≡ true → begins ≡ opensOf task size begins n
   unfolding opensOf

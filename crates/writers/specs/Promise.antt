@@ -20,7 +20,8 @@ use Rattle.records.specs.Flat.{flatOf, FlatFair, Fielded}
 use Rattle.records.specs.Promise.{outBytes}
 use Rattle.walks.specs.Promise.{Good}
 use Rattle.writers.specs.declared.Place.{Place}
-use Rattle.writers.specs.Writing.{lengthOf, opensOf, sizeWord, pieceOf}
+use Rattle.tasks.specs.Promise.{lengthOf}
+use Rattle.writers.specs.Writing.{opensOf, sizeWord, pieceOf}
 
 -- the output blocks of a plan, as bytes
 unfoldable pub blocksIn : Plan → List (List (List ℕ)) → List (List ℕ)

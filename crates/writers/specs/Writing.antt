@@ -1,32 +1,17 @@
 -- The steps of writing, record after record, by numbers alone. Assumes nothing.
 use mathlib.Core.Bool.{Bool, cond}
 use mathlib.Core.List.{List, [], _++_}
-use Prim.Native.Nat.{ℕ, _+_, _-_, _*_, _≤_}
+use Prim.Native.Nat.{ℕ, _+_, _*_, _≤_}
 use lib.Dec.{ltb}
 use lib.ListN.{length}
 use Rattle.rules.specs.Grammar.{Format, ff, fv, fu}
 use Rattle.rules.specs.Output.{lengthWord}
-use Rattle.rules.specs.Plan.{selects, isTF}
+use Rattle.rules.specs.Plan.{isTF}
 use Rattle.rules.specs.Reel.{word}
 use Rattle.terms.specs.Meaning.{modeOf}
 use Rattle.terms.specs.declared.Task.{Task}
-use Rattle.reels.specs.declared.Form.{Form}
 use Rattle.reels.specs.Words.{written}
 use Rattle.writers.specs.declared.Place.{Place}
-
--- what the plan asks of input blocks
-abbrev pub formOf : Task → Form
-formOf task = record { format = task .format; n = task .n; m = task .m; least = task .least }
-
--- ---- lengths
-
--- with CV the data past A's n
-unfoldable pub tailOf : Task → ℕ → ℕ
-tailOf task n = cond (task .carries) (n - task .n) 0
-
--- the length of the output of a record of n bytes
-unfoldable pub lengthOf : Task → ℕ → ℕ
-lengthOf task n = cond (selects (modeOf (task .mode))) (task .width + tailOf task n) n
 
 -- ---- blocks
 

@@ -9,9 +9,9 @@ ghost use Rattle.rules.specs.Halves.{over};
 ghost use Rattle.rules.specs.Output.{cost};
 ghost use Rattle.rules.proofs.WordLaws.{wordAt};
 ghost use Rattle.terms.specs.Meaning.{formatOf};
-ghost use Rattle.writers.specs.Writing.{formOf, tailOf, lengthOf, opensOf, Small, firstPlace, nextPlace, offsetPut, sizeWord};
+ghost use Rattle.tasks.specs.Promise.{lengthOf};
+ghost use Rattle.writers.specs.Writing.{opensOf, Small, firstPlace, nextPlace, offsetPut, sizeWord};
 ghost use Rattle.writers.specs.Promise.{Ready, OffsetsPut, Writable, DataPut, PiecePut, Opening, NextFits, NextPut, Lent, Headed, BlocksPut, ReelPut};
-use reels::Form;
 use terms::Format;
 use terms::Mode;
 use terms::Task;
@@ -34,47 +34,6 @@ pub fn copy_reel(s: &[u8], out: &mut [u8])
     while i < s.len() {
         out[i] = s[i];
         i += 1;
-    }
-}
-
-// What the plan asks of input blocks.
-fn form_of(task: Task) -> Form
-    ensures { λ r. ⌜ r ≡ formOf task ⌝ }
-{
-    let format = task.format;
-    Form {
-        format,
-        n: task.n,
-        m: task.m,
-        least: task.least,
-    }
-}
-
-// With CV, how much data past A's n follows.
-fn tail_length(task: Task, length: usize) -> usize
-    ensures { λ r. ⌜ r ≡ tailOf task length ⌝ }
-{
-    let n = task.n;
-    if length < n {
-        return 0;
-    }
-    if task.carries {
-        return length - n;
-    }
-    0
-}
-
-// The length of a record's output: TR carries records unchanged.
-fn output_length(task: Task, length: usize) -> usize
-    requires { ⌜ (task .width ≤ 65536) × (length ≤ 65536) ⌝ }
-    ensures { λ r. ⌜ r ≡ lengthOf task length ⌝ }
-{
-    let mode = task.mode;
-    match mode {
-        Mode::TC => length,
-        Mode::TF => task.width + tail_length(task, length),
-        Mode::TR => length,
-        Mode::TRF => task.width + tail_length(task, length),
     }
 }
 
@@ -154,7 +113,7 @@ fn put_offsets(task: Task, s: &[u8], blocks: usize, out: &mut [u8])
     requires { ⌜ Ready task (now s) blocks (length (now out)) ⌝ }
     ensures { λ _. ⌜ OffsetsPut task (now (s .entry)) blocks (now (out .entry)) (now (out .exit)) ⌝ }
 {
-    let form = form_of(task);
+    let form = tasks::form_of(task);
     let mut w = walks::taken(form, s, task.first);
     let mut x = first_place(task, blocks);
     loop {
@@ -166,7 +125,7 @@ fn put_offsets(task: Task, s: &[u8], blocks: usize, out: &mut [u8])
                 begins,
                 next,
             } => {
-                let n = output_length(task, length);
+                let n = tasks::output_length(task, length);
                 put_offset(task, x, begins, n, out);
                 x = next_place(task, x, begins, n);
                 w = next;
@@ -213,7 +172,7 @@ fn put_piece(task: Task, fields: &[u16], record: &[u8], at: usize, out: &mut [u8
     requires { ⌜ at + (task .cost + lengthOf task (length (now «record»))) ≤ length (now out) ⌝ }
     ensures { λ _. ⌜ PiecePut task (now (fields .entry)) (now («record» .entry)) at (now (out .entry)) (now (out .exit)) ⌝ }
 {
-    let n = output_length(task, record.len());
+    let n = tasks::output_length(task, record.len());
     let format = task.format;
     put_size(format, at, n + 4, out);
     let from = at + task.cost;
@@ -238,7 +197,7 @@ fn put_next(task: Task, fields: &[u16], record: &[u8], begins: bool, x: Place, o
     requires { ⌜ NextFits task (length (now «record»)) begins x (now out) ⌝ }
     ensures { λ _. ⌜ NextPut task (now (fields .entry)) (now («record» .entry)) begins x (now (out .entry)) (now (out .exit)) ⌝ }
 {
-    let n = output_length(task, record.len());
+    let n = tasks::output_length(task, record.len());
     if opens(task, x.size, begins, n) {
         put_block_word(task, x, out);
         put_piece(task, fields, record, x.at + task.cost, out);
@@ -252,7 +211,7 @@ fn put_blocks(task: Task, fields: &[u16], s: &[u8], blocks: usize, out: &mut [u8
     requires { ⌜ Headed task (now fields) (now s) blocks (now out) ⌝ }
     ensures { λ _. ⌜ BlocksPut task (now (fields .entry)) (now (s .entry)) blocks (now (out .entry)) (now (out .exit)) ⌝ }
 {
-    let form = form_of(task);
+    let form = tasks::form_of(task);
     let mut walk = walks::taken(form, s, task.first);
     let mut x = first_place(task, blocks);
     loop {
@@ -266,7 +225,7 @@ fn put_blocks(task: Task, fields: &[u16], s: &[u8], blocks: usize, out: &mut [u8
             } => {
                 let end = start + length;
                 put_next(task, fields, &s[start..end], begins, x, out);
-                let n = output_length(task, length);
+                let n = tasks::output_length(task, length);
                 x = next_place(task, x, begins, n);
                 walk = next;
             }

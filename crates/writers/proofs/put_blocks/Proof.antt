@@ -4,7 +4,7 @@ use native.Mathlib.Omega.{arith}
 use borrow.Author.Needs.{needs}
 use Rattle.walks.specs.Promise.{bytesLeft}
 use Rattle.walks.proofs.PromiseLaws.{inside, ended}
-use Rattle.writers.specs.Writing.{lengthOf}
+use Rattle.tasks.specs.Promise.{lengthOf}
 use Rattle.writers.specs.Promise.{Headed, BlocksPut}
 use Rattle.writers.proofs.OffsetLaws.{form-same, turn, few-blocks, limit-small, width-small, record-small, record-ends, record-long, record-few, place-small}
 use Rattle.writers.proofs.LayingLaws.{Laying, laying-start, laying-length, laying-word, laying-end, laying-writable, laying-fits, laying-next}
@@ -15,9 +15,7 @@ use Rattle.writers.proofs.put_blocks.Lts as lts
 use Rattle.walks.proofs.record.Reads as record-reads
 use Rattle.walks.proofs.taken.Reads as taken-reads
 use Rattle.writers.proofs.first_place.Reads as first-place-reads
-use Rattle.writers.proofs.form_of.Reads as form-of-reads
 use Rattle.writers.proofs.next_place.Reads as next-place-reads
-use Rattle.writers.proofs.output_length.Reads as output-length-reads
 use Rattle.writers.proofs.put_next.Reads as put-next-reads
 
 abbrev Inv-loop : tie.InvT-loop

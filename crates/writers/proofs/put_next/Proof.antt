@@ -10,7 +10,6 @@ use Rattle.writers.proofs.put_next.Tie as tie
 use Rattle.writers.proofs.put_next.Reads as reads
 use Rattle.writers.proofs.put_next.Lts as lts
 use Rattle.writers.proofs.opens.Reads as opens-reads
-use Rattle.writers.proofs.output_length.Reads as output-length-reads
 use Rattle.writers.proofs.put_block_word.Reads as put-block-word-reads
 use Rattle.writers.proofs.put_piece.Reads as put-piece-reads
 

@@ -16,9 +16,7 @@ use Rattle.reels.proofs.put_word.Reads as put-word-reads
 use Rattle.walks.proofs.record.Reads as record-reads
 use Rattle.walks.proofs.taken.Reads as taken-reads
 use Rattle.writers.proofs.first_place.Reads as first-place-reads
-use Rattle.writers.proofs.form_of.Reads as form-of-reads
 use Rattle.writers.proofs.next_place.Reads as next-place-reads
-use Rattle.writers.proofs.output_length.Reads as output-length-reads
 use Rattle.writers.proofs.put_offset.Reads as put-offset-reads
 
 abbrev Inv-loop : tie.InvT-loop

@@ -5,7 +5,6 @@ use Rattle.writers.proofs.put_piece.Statement.{statement}
 use Rattle.writers.proofs.put_piece.Tie as tie
 use Rattle.writers.proofs.put_piece.Reads as reads
 use Rattle.writers.proofs.put_piece.Lts as lts
-use Rattle.writers.proofs.output_length.Reads as output-length-reads
 use Rattle.writers.proofs.put_data.Reads as put-data-reads
 use Rattle.writers.proofs.put_size.Reads as put-size-reads
 

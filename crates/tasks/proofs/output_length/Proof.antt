@@ -1,13 +1,10 @@
--- The mode says whether fields are selected. Assumes nothing.
+-- The mode says whether fields are selected.
 use mathlib.Core.Path.{refl}
 use native.Mathlib.Omega.{arith}
-use Rattle.writers.proofs.StepLaws.{tail-small, length-selected, length-carried}
+use Rattle.tasks.proofs.LengthLaws.{tail-small, length-selected, length-carried}
 use borrow.Author.Needs.{needs}
-use Rattle.writers.proofs.output_length.Statement.{statement}
-use Rattle.writers.proofs.output_length.Tie as tie
-use Rattle.writers.proofs.output_length.Reads as reads
-use Rattle.writers.proofs.output_length.Lts as lts
-use Rattle.writers.proofs.tail_length.Reads as tail-length-reads
+use Rattle.tasks.proofs.output_length.Statement.{statement}
+use Rattle.tasks.proofs.output_length.Tie as tie
 
 enum-told : tie.Need-enum-told
 enum-told c = search needs

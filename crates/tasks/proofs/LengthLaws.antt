@@ -1,0 +1,89 @@
+-- What the functions on a plan's numbers answer is what the rules say of its records, and one answer only: each way out of a function is what its
+-- definition says there, by the tests that led there.
+use mathlib.Core.Path.{_≡_, refl, ap, ap₂, sym, _∙_}
+use mathlib.Core.Bool.{Bool, true, false, cond}
+use mathlib.Core.List.{List}
+use Prim.Native.Nat.{ℕ, _+_, _-_, _≤_, _<_}
+use native.Mathlib.Omega.{arith}
+use lib.ListN.{length}
+use Rattle.rules.specs.Plan.{Plan, selects, recordLength}
+use Rattle.rules.specs.Blocks.{leastData}
+use Rattle.rules.specs.Output.{outRecord}
+use Rattle.rules.specs.Accepted.{Accepted}
+use Rattle.rules.proofs.BlockSizes.{least-selects}
+use Rattle.rules.proofs.RecordLaws.{length-outRecord}
+use Rattle.rules.proofs.Never.{output-other}
+use Rattle.terms.specs.Meaning.{modeOf, TaskIs}
+use Rattle.terms.specs.declared.Mode.{Mode}
+use Rattle.terms.specs.declared.Task.{Task}
+use Rattle.reels.specs.declared.Form.{Form}
+use Rattle.tasks.specs.Promise.{formOf, tailOf, lengthOf}
+
+module _ (task : Task) where
+  -- the tail
+  pub tail-short : (n : ℕ) → n < task .n → 0 ≡ tailOf task n
+  unfolding tailOf
+  tail-short n l = go (task .carries)
+    where
+      go : (t : Bool) → 0 ≡ cond t (n - task .n) 0
+      go true = omega arith
+      go false = refl
+
+  pub tail-carried : (n : ℕ) → task .carries ≡ true → n - task .n ≡ tailOf task n
+  unfolding tailOf
+  tail-carried n e = rw e
+
+  pub tail-dropped : (n : ℕ) → task .carries ≡ false → 0 ≡ tailOf task n
+  unfolding tailOf
+  tail-dropped n e = rw e
+
+  pub tail-most : (n : ℕ) → tailOf task n ≤ n
+  unfolding tailOf
+  tail-most n = go (task .carries)
+    where
+      go : (t : Bool) → cond t (n - task .n) 0 ≤ n
+      go true = omega arith
+      go false = omega arith
+
+  pub tail-small : (n r : ℕ) → r ≡ tailOf task n → r ≤ n
+  tail-small n r e = omega (arith, tail-most n)
+
+  -- the length of an output record
+  pub length-selected : (n : ℕ) {m : Mode} → task .mode ≡ m → selects (modeOf m) ≡ true → task .width + tailOf task n ≡ lengthOf task n
+  unfolding lengthOf
+  length-selected n e s = sym (ap (λ (b : Bool). cond b (task .width + tailOf task n) n) (ap (λ (m : Mode). selects (modeOf m)) e ∙ s))
+
+  pub length-carried : (n : ℕ) {m : Mode} → task .mode ≡ m → selects (modeOf m) ≡ false → n ≡ lengthOf task n
+  unfolding lengthOf
+  length-carried n e s = sym (ap (λ (b : Bool). cond b (task .width + tailOf task n) n) (ap (λ (m : Mode). selects (modeOf m)) e ∙ s))
+
+  pub length-most : (n : ℕ) → lengthOf task n ≤ task .width + n
+  unfolding lengthOf
+  length-most n = go (selects (modeOf (task .mode)))
+    where
+      go : (t : Bool) → cond t (task .width + tailOf task n) n ≤ task .width + n
+      go true = omega (arith, tail-most n)
+      go false = omega arith
+
+  -- two outcomes that a promise allows are equal
+  pub form-only-one : {x y : Form} → x ≡ formOf task → y ≡ formOf task → x ≡ y
+  form-only-one a b = a ∙ sym b
+
+  pub length-only-one : (n : ℕ) {x y : ℕ} → x ≡ lengthOf task n → y ≡ lengthOf task n → x ≡ y
+  length-only-one n a b = a ∙ sym b
+
+module _ {task : Task} {p : Plan} (is : TaskIs task p) where
+  -- the length of an output record
+  pub out-length : Accepted p → (r : List ℕ) → leastData p ≤ length r → length (outRecord p r) ≡ lengthOf task (length r)
+  unfolding lengthOf tailOf
+  out-length ok r l = go (selects (p .mode)) refl
+    where
+      go : (t : Bool) → selects (p .mode) ≡ t → length (outRecord p r) ≡ lengthOf task (length r)
+      go true t =
+          length-outRecord p ok t r (let z : recordLength (p .input) ≤ length r = omega (arith, least-selects p t) in z)
+          ∙ ap₂ (λ (k n : ℕ). k + cond (p .carries) (length r - n) 0) (sym (is .width)) (sym (is .n))
+          ∙ ap (λ (c : Bool). task .width + cond c (length r - task .n) 0) (sym (is .carries))
+          ∙ sym (ap (λ (b : Bool). cond b (task .width + tailOf task (length r)) (length r)) (ap selects (is .mode) ∙ t))
+      go false t =
+          ap length (output-other p t r)
+          ∙ sym (ap (λ (b : Bool). cond b (task .width + tailOf task (length r)) (length r)) (ap selects (is .mode) ∙ t))

@@ -1,0 +1,19 @@
+-- What the numbers of a plan say, by numbers alone.
+use mathlib.Core.Bool.{cond}
+use Prim.Native.Nat.{ℕ, _+_, _-_}
+use Rattle.rules.specs.Plan.{selects}
+use Rattle.terms.specs.Meaning.{modeOf}
+use Rattle.terms.specs.declared.Task.{Task}
+use Rattle.reels.specs.declared.Form.{Form}
+
+-- what the plan asks of input blocks
+abbrev pub formOf : Task → Form
+formOf task = record { format = task .format; n = task .n; m = task .m; least = task .least }
+
+-- with CV the data past A's n
+unfoldable pub tailOf : Task → ℕ → ℕ
+tailOf task n = cond (task .carries) (n - task .n) 0
+
+-- the length of the output of a record of n bytes
+unfoldable pub lengthOf : Task → ℕ → ℕ
+lengthOf task n = cond (selects (modeOf (task .mode))) (task .width + tailOf task n) n
