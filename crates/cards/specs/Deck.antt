@@ -1,4 +1,4 @@
--- Where the operands of a deck's cards stand, and what was read of its FS cards. Assumes nothing.
+-- Where the operands of a deck's cards stand, and what was read of its FS cards.
 use mathlib.Core.Path.{_≡_}
 use mathlib.Core.List.{List, [], _∷_, map}
 use mathlib.Core.Option.{Option, none, some}

@@ -1,4 +1,4 @@
--- What the parameters of the U card have said so far, and what a parameter more makes of it. Assumes nothing.
+-- What the parameters of the U card have said so far, and what a parameter more makes of it.
 use mathlib.Core.Path.{_≡_}
 use mathlib.Core.Bool.{Bool, true, false, cond, not}
 use mathlib.Core.List.{List, map}

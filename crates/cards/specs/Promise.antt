@@ -1,5 +1,5 @@
 -- What `read_deck` promises of its answer, for every deck: the refusal of 1 to 7 that the rules give, or what they say that the cards ask for.
--- Assumes nothing.
+--
 use mathlib.Core.Path.{_≡_}
 use mathlib.Core.List.{List}
 use Prim.Native.Nat.{ℕ, _+_}

@@ -1,4 +1,4 @@
--- What the FS cards have said so far, and what a field or a CV more makes of it. Assumes nothing.
+-- What the FS cards have said so far, and what a field or a CV more makes of it.
 use mathlib.Core.Path.{_≡_}
 use mathlib.Core.Bool.{true, false, cond}
 use mathlib.Core.List.{List, [], _∷_}

@@ -1,4 +1,4 @@
--- Refusals 4 to 7 as they are told from what was noted of the U card and of the FS cards. Assumes nothing.
+-- Refusals 4 to 7 as they are told from what was noted of the U card and of the FS cards.
 use mathlib.Core.Bool.{Bool, cond, _&&_}
 use Prim.Native.Nat.{ℕ}
 use lib.Dec.{eqb}

@@ -1,4 +1,4 @@
--- The answer of a run, step by step: each refusal is that of the first step that refuses. By the definition of a run. Assumes nothing.
+-- The answer of a run, step by step: each refusal is that of the first step that refuses. By the definition of a run.
 use mathlib.Core.Path.{_≡_, refl, ap, sym, _∙_, subst}
 use mathlib.Core.Bool.{Bool, true, false, cond, _&&_}
 use mathlib.Core.List.{List, [], _∷_, map}

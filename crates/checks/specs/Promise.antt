@@ -1,4 +1,4 @@
--- What is promised of a run before anything is written, for every plan that the numbers may be. Assumes nothing.
+-- What is promised of a run before anything is written, for every plan that the numbers may be.
 use mathlib.Core.Path.{_≡_}
 use mathlib.Core.Bool.{cond}
 use mathlib.Core.List.{List}

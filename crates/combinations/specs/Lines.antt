@@ -1,4 +1,4 @@
--- The lines of the combinations, as the code asks them: some together, and those of FF only where A and B have two numbers each. Assumes nothing.
+-- The lines of the combinations, as the code asks them: some together, and those of FF only where A and B have two numbers each.
 use mathlib.Core.Bool.{Bool, true, cond, not, _&&_}
 use mathlib.Core.Path.{_≡_}
 use Prim.Native.Nat.{ℕ, _+_, _/_, _%_, _≤_}

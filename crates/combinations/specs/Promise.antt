@@ -1,4 +1,4 @@
--- What is promised of the combinations and of the fields' places: refusals 8 and 9. Assumes nothing.
+-- What is promised of the combinations and of the fields' places: refusals 8 and 9.
 use mathlib.Core.Bool.{cond, _||_}
 use mathlib.Core.List.{List, [], _∷_}
 use Prim.Native.Nat.{ℕ, suc, _≤_}

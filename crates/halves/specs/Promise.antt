@@ -1,5 +1,5 @@
 -- What pack and unpack leave in the lent output, for every input: the field of document 01, "Half bytes", and where a size is not 1 to 16,
--- which document 01's limits never let through, the output as it was. Assumes nothing.
+-- which document 01's limits never let through, the output as it was.
 use mathlib.Core.Bool.{Bool, cond, _&&_}
 use mathlib.Core.List.{List}
 use Prim.Native.Nat.{ℕ}

@@ -1,4 +1,4 @@
--- What `judge` promises: the verdict is what the rules answer. Assumes nothing.
+-- What `judge` promises: the verdict is what the rules answer.
 use mathlib.Core.Path.{_≡_}
 use mathlib.Core.Bool.{Bool, cond, not, _||_}
 use Prim.Native.Nat.{ℕ, _+_}

@@ -1,5 +1,5 @@
 -- What the marks and the numbers of the code mean in the rules: which values a mark permits, and which source a number stands for.
--- Assumes nothing.
+--
 use mathlib.Core.Path.{_≡_}
 use mathlib.Core.Bool.{Bool, true, false}
 use mathlib.Core.List.{List}

@@ -1,4 +1,4 @@
--- What `weigh` promises: the lowest half with no permitted value; else whether every half is kept, or the lowest that is lost. Assumes nothing.
+-- What `weigh` promises: the lowest half with no permitted value; else whether every half is kept, or the lowest that is lost.
 use mathlib.Core.Path.{_≡_}
 use mathlib.Core.Bool.{Bool, true, false}
 use mathlib.Core.List.{List}

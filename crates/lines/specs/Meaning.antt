@@ -1,4 +1,4 @@
--- What the answers about a line say, in the words of document 01, "The deck". Assumes nothing.
+-- What the answers about a line say, in the words of document 01, "The deck".
 use mathlib.Core.Path.{_≡_}
 use mathlib.Core.Logic.{_⊎_}
 use mathlib.Core.Bool.{Bool, true, false}

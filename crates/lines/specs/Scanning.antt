@@ -1,5 +1,5 @@
 -- A scan of a deck, byte by byte: what it knows of the lines that have ended and of the line that is begun. What it comes to is a refusal 1 or 2 of
--- document 01, "The deck", or the number of the cards. Assumes nothing.
+-- document 01, "The deck", or the number of the cards.
 use mathlib.Core.Bool.{Bool, true, false, cond, _&&_}
 use mathlib.Core.List.{List, [], _∷_}
 use mathlib.Core.Option.{Option, none, some}

@@ -1,5 +1,5 @@
 -- What is known of the numbers and the reel by the plan that is given, and one turn of a walk over its records: the records that are taken, all of them before the
--- first turn, then one less at each. Assumes nothing.
+-- first turn, then one less at each.
 use mathlib.Core.Path.{_≡_, refl, sym, subst}
 use mathlib.Core.List.{List}
 use Prim.Native.Nat.{ℕ, zero, suc, _≤_}

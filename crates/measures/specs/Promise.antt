@@ -1,4 +1,4 @@
--- What the passes promise, for every plan that the numbers may be, and every reel that is good by it. Assumes nothing.
+-- What the passes promise, for every plan that the numbers may be, and every reel that is good by it.
 use mathlib.Core.Path.{_≡_}
 use mathlib.Core.Bool.{true, false}
 use mathlib.Core.List.{List, map}

@@ -1,4 +1,4 @@
--- What is tallied of the output, record after record, by numbers alone. Assumes nothing.
+-- What is tallied of the output, record after record, by numbers alone.
 use mathlib.Core.Bool.{Bool, cond, _||_}
 use Prim.Native.Nat.{ℕ, _+_, _≤_}
 use lib.Dec.{ltb, eqb}

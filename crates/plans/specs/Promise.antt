@@ -1,4 +1,4 @@
--- What is promised of the plan of a deck. Assumes nothing.
+-- What is promised of the plan of a deck.
 use mathlib.Core.Path.{_≡_}
 use mathlib.Core.List.{List, [], _++_, map}
 use Prim.Native.Nat.{ℕ, _-_}

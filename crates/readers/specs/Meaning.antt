@@ -1,4 +1,4 @@
--- What the answers of the readers mean: each says what the rules' reader of the same text answers, and where. Assumes nothing.
+-- What the answers of the readers mean: each says what the rules' reader of the same text answers, and where.
 use mathlib.Core.Path.{_≡_}
 use mathlib.Core.Bool.{cond}
 use mathlib.Core.List.{List}

@@ -1,4 +1,4 @@
--- The fields of a plan as numbers, five to a field: as they are lent to whoever looks at a record. Assumes nothing.
+-- The fields of a plan as numbers, five to a field: as they are lent to whoever looks at a record.
 use mathlib.Core.Path.{_≡_}
 use mathlib.Core.Bool.{cond}
 use mathlib.Core.List.{List, [], _∷_}

@@ -1,5 +1,5 @@
 -- What looking at a record answers and what writing its output leaves, for all fields that the lent numbers may be: there is one list of
--- them. Assumes nothing.
+-- them.
 use mathlib.Core.Path.{_≡_}
 use mathlib.Core.Bool.{Bool, cond}
 use mathlib.Core.List.{List, [], _++_}

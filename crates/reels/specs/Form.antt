@@ -1,4 +1,4 @@
--- What a plan asks of blocks, as a struct. Assumes nothing.
+-- What a plan asks of blocks, as a struct.
 use mathlib.Core.Path.{_≡_}
 use Prim.Native.Nat.{_≤_}
 use Rattle.rules.specs.Plan.{Plan, recordLength, blockLength}

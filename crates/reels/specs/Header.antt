@@ -1,4 +1,4 @@
--- What the header of a reel is read as. Assumes nothing.
+-- What the header of a reel is read as.
 use mathlib.Core.Bool.{cond, _&&_}
 use mathlib.Core.List.{List, []}
 use Prim.Native.Nat.{ℕ, suc, _+_, _*_}

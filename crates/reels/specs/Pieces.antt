@@ -1,4 +1,4 @@
--- The pieces of a block one after the other, as they are read. Assumes nothing.
+-- The pieces of a block one after the other, as they are read.
 use mathlib.Core.Bool.{cond, _&&_}
 use mathlib.Core.List.{List}
 use Prim.Native.Nat.{ℕ, _+_}

@@ -1,4 +1,4 @@
--- What a block, and a reel, is read as. Assumes nothing.
+-- What a block, and a reel, is read as.
 use mathlib.Core.Path.{_≡_}
 use mathlib.Core.Bool.{Bool, cond, _&&_, _||_}
 use mathlib.Core.List.{List}

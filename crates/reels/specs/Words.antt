@@ -1,4 +1,4 @@
--- What a list is after a word was put into it. Assumes nothing.
+-- What a list is after a word was put into it.
 use mathlib.Core.Bool.{cond}
 use mathlib.Core.List.{List}
 use Prim.Native.Nat.{ℕ, _+_}

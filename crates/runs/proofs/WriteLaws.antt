@@ -1,5 +1,5 @@
 -- A run that finishes has what the writers ask, and what they write is what the rules say; a run that is refused leaves the lent output. By the parts of a
--- finished run, and since no refusal has the number 0. Assumes nothing.
+-- finished run, and since no refusal has the number 0.
 use mathlib.Core.Path.{_≡_, refl, ap, sym, _∙_, subst}
 use mathlib.Core.Bool.{Bool, true, false}
 use mathlib.Core.List.{List, [], _∷_, _++_, map}

@@ -1,4 +1,4 @@
--- What is promised of writing, and of a whole run, for every plan that the numbers may be. Assumes nothing.
+-- What is promised of writing, and of a whole run, for every plan that the numbers may be.
 use mathlib.Core.Path.{_≡_}
 use mathlib.Core.List.{List}
 use Prim.Native.Nat.{ℕ, _≤_}

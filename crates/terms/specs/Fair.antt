@@ -1,4 +1,4 @@
--- What those who run a plan may ask of the struct that holds it. Assumes nothing.
+-- What those who run a plan may ask of the struct that holds it.
 use mathlib.Core.Path.{_≡_}
 use Prim.Native.Nat.{_≤_}
 use lib.ListN.{length, take}

@@ -1,4 +1,4 @@
--- What the types that cards name mean in the rules. Assumes nothing.
+-- What the types that cards name mean in the rules.
 use mathlib.Core.Path.{_≡_}
 use mathlib.Core.Bool.{Bool, cond, not}
 use mathlib.Core.List.{List, [], _∷_, _++_, map}

@@ -1,5 +1,5 @@
 -- The records of a reel one after the other, each with a mark that says whether it is the first of its block; and so for what is made of each
--- record, as its length. Assumes nothing.
+-- record, as its length.
 use mathlib.Core.Bool.{Bool, true, false}
 use mathlib.Core.List.{List, [], _∷_, _++_}
 use Prim.Native.Nat.{ℕ, _-_}

@@ -1,4 +1,4 @@
--- What the functions promise: where a reel is read by the rules, a walk goes along just the records that these find. Assumes nothing.
+-- What the functions promise: where a reel is read by the rules, a walk goes along just the records that these find.
 use mathlib.Core.Path.{_≡_}
 use mathlib.Core.Bool.{Bool, true}
 use mathlib.Core.List.{List, [], _∷_, _++_}

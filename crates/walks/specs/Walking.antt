@@ -1,4 +1,4 @@
--- What a walk is answered, for every list of bytes and every walk. Assumes nothing.
+-- What a walk is answered, for every list of bytes and every walk.
 use mathlib.Core.Bool.{true, false, cond}
 use mathlib.Core.List.{List}
 use Prim.Native.Nat.{ℕ, zero, suc, _+_, _-_}

@@ -1,5 +1,5 @@
 -- What the writers promise: for every plan and every reel of records that the lent numbers may be, the reel of the output blocks stands at the front of the
--- lent output, and bytes past it stay. Assumes nothing.
+-- lent output, and bytes past it stay.
 use mathlib.Core.Path.{_≡_}
 use mathlib.Core.Bool.{Bool, true, false, cond}
 use mathlib.Core.List.{List, _++_, map}

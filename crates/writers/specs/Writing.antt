@@ -1,4 +1,4 @@
--- The steps of writing, record after record, by numbers alone. Assumes nothing.
+-- The steps of writing, record after record, by numbers alone.
 use mathlib.Core.Bool.{Bool, cond}
 use mathlib.Core.List.{List, [], _++_}
 use Prim.Native.Nat.{ℕ, _+_, _*_, _≤_}

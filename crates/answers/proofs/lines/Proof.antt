@@ -1,4 +1,4 @@
--- `lines` is safe and ends: the bytes that are left fall at each line. Assumes nothing.
+-- `lines` is safe and ends: the bytes that are left fall at each line.
 use Prim.Native.Nat.{_-_}
 use native.Mathlib.Omega.{arith}
 use lib.ListN.{length}

@@ -1,4 +1,4 @@
--- `main` is safe and ends: the arguments that are left fall. Assumes nothing.
+-- `main` is safe and ends: the arguments that are left fall.
 use Prim.Native.Nat.{_-_}
 use native.Mathlib.Omega.{arith}
 use Rattle.answers.proofs.main.Statement.{statement}

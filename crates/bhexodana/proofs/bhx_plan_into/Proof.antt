@@ -1,5 +1,5 @@
 -- `bhexodana::bhx_plan_into` meets its contract: a walk of its MIR, by hand. It has two calls and no branch: `fill`, which is covered, and `store`, to which the table is given for good.
--- Assumes nothing.
+--
 use mathlib.Core.Path.{_≡_, refl, _∙_, ap}
 use Prim.Native.Nat.{ℕ, _<_, _≤_, _^_}
 use mathlib.Core.List.{[], _∷_, List, _++_}

@@ -1,5 +1,5 @@
 -- `bhexodana::store` meets its contract: a walk of its MIR, by hand, with a loop. The borrow is opened once, before the loop, and closed once, after it.
--- Assumes nothing.
+--
 use mathlib.Core.Path.{_≡_, refl, sym, _∙_, ap, subst}
 use Prim.Native.Nat.{ℕ, suc, _+_, _-_, _*_, _<_, _≤_, _^_, zero-le}
 use native.Mathlib.Omega.{arith}

@@ -1,5 +1,5 @@
 -- `cards::list` and `cards::rest` meet their contracts: by the steps of a list, each of which adds an item to the selection. The measure of both is the
--- bytes of the card that are left. Assumes nothing.
+-- bytes of the card that are left.
 use mathlib.Core.List.{List}
 use mathlib.Core.Path.{refl, subst}
 use Prim.Native.Nat.{ℕ, _<_}

@@ -1,4 +1,4 @@
--- `cards::allowed` meets its contract: each way through its test gives what the test of a number gives. Assumes nothing.
+-- `cards::allowed` meets its contract: each way through its test gives what the test of a number gives.
 use borrow.Author.Tests.{le-leb, lt-leb}
 use Rattle.cards.proofs.allowed.Statement.{statement}
 use Rattle.cards.proofs.allowed.Tie as tie

@@ -1,4 +1,4 @@
--- `cards::asked_for` meets its contract: it puts together just that. Assumes nothing.
+-- `cards::asked_for` meets its contract: it puts together just that.
 use mathlib.Core.Path.{refl}
 use Rattle.cards.specs.Verdict.{askedFor}
 use Rattle.cards.proofs.asked_for.Statement.{statement}

@@ -1,4 +1,4 @@
--- `cards::both_allowed` meets its contract: each way through its test gives what the test of both numbers gives. Assumes nothing.
+-- `cards::both_allowed` meets its contract: each way through its test gives what the test of both numbers gives.
 use mathlib.Core.Path.{sym, _∙_}
 use borrow.Author.Needs.{needs}
 use Rattle.cards.proofs.both_allowed.Statement.{statement}

@@ -1,4 +1,4 @@
--- `cards::card_at` meets its contract: the line that begins there, or none. Assumes nothing.
+-- `cards::card_at` meets its contract: the line that begins there, or none.
 use mathlib.Core.Path.{subst}
 use denote.Ref.{now}
 use borrow.Author.Needs.{needs}

@@ -1,4 +1,4 @@
--- `cards::card_on` meets its contract: by what card the line is; the operand stands on the line, so its place is in the deck. Assumes nothing.
+-- `cards::card_on` meets its contract: by what card the line is; the operand stands on the line, so its place is in the deck.
 use mathlib.Core.Path.{sym, subst}
 use mathlib.Core.List.{List}
 use Prim.Native.Nat.{ℕ}

@@ -1,4 +1,4 @@
--- `cards::first_card` meets its contract: each way through its test gives what the rule gives. Assumes nothing.
+-- `cards::first_card` meets its contract: each way through its test gives what the rule gives.
 use borrow.Author.Tests.{eq-eqb, ne-eqb}
 use Rattle.cards.proofs.first_card.Statement.{statement}
 use Rattle.cards.proofs.first_card.Tie as tie

@@ -1,5 +1,5 @@
 -- `cards::fs_cards` meets its contract: the loop's invariant is that what is right of the cards from here on is right of all of them.
--- The measure is what is left of the deck. Assumes nothing.
+-- The measure is what is left of the deck.
 use mathlib.Core.Path.{_≡_, sym, subst}
 use mathlib.Core.Logic.{_⊎_, ⊎-elim}
 use mathlib.Core.List.{List}

@@ -1,4 +1,4 @@
--- `cards::is_complete` meets its contract: each test in turn. Assumes nothing.
+-- `cards::is_complete` meets its contract: each test in turn.
 use borrow.Author.Tests.{not-true, not-false}
 use borrow.Author.Needs.{needs}
 use Rattle.cards.specs.Parameters.{hasSeen}

@@ -1,4 +1,4 @@
--- `cards::judged` meets its contract: by whether a number was given. Assumes nothing.
+-- `cards::judged` meets its contract: by whether a number was given.
 use borrow.Author.Tests.{eq-eqb, ne-eqb}
 use borrow.Author.Needs.{needs}
 use Rattle.cards.specs.Verdict.{judgedAs}

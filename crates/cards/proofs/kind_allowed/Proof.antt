@@ -1,4 +1,4 @@
--- `cards::kind_allowed` meets its contract: by kind, each limit of the rules. Assumes nothing.
+-- `cards::kind_allowed` meets its contract: by kind, each limit of the rules.
 use borrow.Author.Needs.{needs}
 use Rattle.cards.proofs.kind_allowed.Statement.{statement}
 use Rattle.cards.proofs.kind_allowed.Tie as tie

@@ -1,4 +1,4 @@
--- `cards::limits_on` meets its contract: each return has passed the tests before it, in the order of the numbers. Assumes nothing.
+-- `cards::limits_on` meets its contract: each return has passed the tests before it, in the order of the numbers.
 use mathlib.Core.Path.{sym, _∙_}
 use borrow.Author.Tests.{eq-eqb, ne-eqb, not-true, not-false}
 use borrow.Author.Needs.{needs}

@@ -1,4 +1,4 @@
--- `cards::no_parameter` meets its contract: it makes just that state. Assumes nothing.
+-- `cards::no_parameter` meets its contract: it makes just that state.
 use mathlib.Core.Path.{refl}
 use Rattle.cards.specs.Parameters.{noParameter}
 use Rattle.cards.proofs.no_parameter.Statement.{statement}

@@ -1,4 +1,4 @@
--- `cards::no_selection` meets its contract: it makes just that state. Assumes nothing.
+-- `cards::no_selection` meets its contract: it makes just that state.
 use mathlib.Core.Path.{refl}
 use Rattle.cards.specs.Selected.{noSelection}
 use Rattle.cards.proofs.no_selection.Statement.{statement}

@@ -1,4 +1,4 @@
--- `cards::nothing_asked` meets its contract: it puts together just that. Assumes nothing.
+-- `cards::nothing_asked` meets its contract: it puts together just that.
 use borrow.Author.Needs.{needs}
 use Rattle.cards.specs.Selected.{noSelection}
 use Rattle.cards.specs.Promise.{nothingAsked}

@@ -1,4 +1,4 @@
--- `cards::placed` meets its contract: each way through its test writes what the rule writes. Assumes nothing.
+-- `cards::placed` meets its contract: each way through its test writes what the rule writes.
 use borrow.Author.Tests.{lt-ltb, le-ltb}
 use borrow.Author.Needs.{needs}
 use Rattle.cards.specs.Selected.{placed}

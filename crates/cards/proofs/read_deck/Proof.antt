@@ -1,4 +1,4 @@
--- `cards::read_deck` meets its contract: the refusal of the order, or what a deck in order says. Assumes nothing.
+-- `cards::read_deck` meets its contract: the refusal of the order, or what a deck in order says.
 use mathlib.Core.Path.{sym, _∙_, subst}
 use denote.Ref.{now}
 use borrow.Author.Needs.{needs}

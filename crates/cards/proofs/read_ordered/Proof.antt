@@ -1,4 +1,4 @@
--- `cards::read_ordered` meets its contract: the first card is a U card, and each way out is one of the ways in which the cards are read. Assumes nothing.
+-- `cards::read_ordered` meets its contract: the first card is a U card, and each way out is one of the ways in which the cards are read.
 use mathlib.Core.Path.{_≡_, sym, subst}
 use mathlib.Core.Logic.{_⊎_, ⊎-elim}
 use mathlib.Core.List.{List}

@@ -1,4 +1,4 @@
--- `cards::refused` meets its contract: it puts together just that. Assumes nothing.
+-- `cards::refused` meets its contract: it puts together just that.
 use borrow.Author.Needs.{needs}
 use Rattle.cards.specs.Promise.{refusedDeck}
 use Rattle.cards.proofs.refused.Statement.{statement}

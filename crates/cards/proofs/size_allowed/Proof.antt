@@ -1,4 +1,4 @@
--- `cards::size_allowed` meets its contract: by the size, each limit of the rules. Assumes nothing.
+-- `cards::size_allowed` meets its contract: by the size, each limit of the rules.
 use mathlib.Core.Path.{ap, _∙_}
 use Prim.Native.Nat.{ℕ}
 use borrow.Author.Needs.{needs}

@@ -1,5 +1,5 @@
 -- `cards::u_card` meets its contract: the loop's invariant is that what was noted and what the rest of the card says
--- are what the card says, and each way out of the loop is a way in which a list ends. The measure is what is left of the card. Assumes nothing.
+-- are what the card says, and each way out of the loop is a way in which a list ends. The measure is what is left of the card.
 use mathlib.Core.Path.{refl, sym, subst}
 use mathlib.Core.Bool.{true}
 use mathlib.Core.List.{List}

@@ -1,4 +1,4 @@
--- `cards::utility_allowed` meets its contract: each test in turn, as in the rules. Assumes nothing.
+-- `cards::utility_allowed` meets its contract: each test in turn, as in the rules.
 use mathlib.Core.Path.{sym, _∙_}
 use borrow.Author.Tests.{not-true, not-false}
 use borrow.Author.Needs.{needs}

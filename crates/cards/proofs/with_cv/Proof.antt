@@ -1,4 +1,4 @@
--- `cards::with_cv` meets its contract: each way through its test notes what the rule notes. Assumes nothing.
+-- `cards::with_cv` meets its contract: each way through its test notes what the rule notes.
 use borrow.Author.Tests.{eq-eqb, ne-eqb}
 use borrow.Author.Needs.{needs}
 use Rattle.cards.specs.Selected.{withCV}

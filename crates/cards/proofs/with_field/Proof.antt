@@ -1,4 +1,4 @@
--- `cards::with_field` meets its contract: the field is placed, and its card noted where a number is outside its limits. Assumes nothing.
+-- `cards::with_field` meets its contract: the field is placed, and its card noted where a number is outside its limits.
 use mathlib.Core.Path.{sym, _∙_}
 use borrow.Author.Tests.{not-true, not-false}
 use borrow.Author.Needs.{needs}

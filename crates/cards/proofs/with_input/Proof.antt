@@ -1,4 +1,4 @@
--- `cards::with_input` meets its contract: it makes just that state. Assumes nothing.
+-- `cards::with_input` meets its contract: it makes just that state.
 use mathlib.Core.Path.{refl}
 use Rattle.cards.specs.Parameters.{withPart}
 use Rattle.cards.proofs.with_input.Statement.{statement}

@@ -1,4 +1,4 @@
--- `cards::with_parameter` meets its contract: by whether its letter has stood; a letter is below 7, so that it has a place. Assumes nothing.
+-- `cards::with_parameter` meets its contract: by whether its letter has stood; a letter is below 7, so that it has a place.
 use mathlib.Core.Path.{sym}
 use native.Mathlib.Omega.{arith}
 use borrow.Author.Needs.{needs}

@@ -1,4 +1,4 @@
--- `cards::with_part` meets its contract: by parameter, each gives its part. Assumes nothing.
+-- `cards::with_part` meets its contract: by parameter, each gives its part.
 use borrow.Author.Needs.{needs}
 use Rattle.cards.specs.Parameters.{withPart}
 use Rattle.cards.proofs.with_part.Statement.{statement}

@@ -1,4 +1,4 @@
--- The header, the blocks, and what is asked of their records. Assumes nothing.
+-- The header, the blocks, and what is asked of their records.
 use Rattle.checks.proofs.RunLaws.{ends-no-reel, ends-bad, read-by, ends-read}
 use borrow.Author.Needs.{needs}
 use Rattle.checks.proofs.check.Statement.{statement}

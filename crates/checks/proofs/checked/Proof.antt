@@ -1,4 +1,4 @@
--- Each step in its order. Assumes nothing.
+-- Each step in its order.
 use Rattle.checks.proofs.RunLaws.{stops-unpermitted, stops-long, ends-housed}
 use borrow.Author.Needs.{needs}
 use Rattle.checks.proofs.checked.Statement.{statement}

@@ -1,4 +1,4 @@
--- The two tests of the length. Assumes nothing.
+-- The two tests of the length.
 use Rattle.checks.proofs.RunLaws.{room-over, most-over, room-enough}
 use borrow.Author.Needs.{needs}
 use Rattle.checks.proofs.housed.Statement.{statement}

@@ -1,4 +1,4 @@
--- By the mode. Assumes nothing.
+-- By the mode.
 use mathlib.Core.Path.{ap}
 use Rattle.rules.specs.Plan.{selects}
 use Rattle.terms.specs.declared.Mode.{Mode}

@@ -1,4 +1,4 @@
--- `halves::allowed` meets its contract: each way through its test gives what the size's test gives. Assumes nothing.
+-- `halves::allowed` meets its contract: each way through its test gives what the size's test gives.
 use borrow.Author.Tests.{le-leb, lt-leb}
 use Rattle.halves.proofs.allowed.Statement.{statement}
 use Rattle.halves.proofs.allowed.Tie as tie

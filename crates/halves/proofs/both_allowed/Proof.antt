@@ -1,4 +1,4 @@
--- `halves::both_allowed` meets its contract: each way through its test gives what the test of the sizes gives. Assumes nothing.
+-- `halves::both_allowed` meets its contract: each way through its test gives what the test of the sizes gives.
 use mathlib.Core.Path.{sym, _∙_}
 use borrow.Author.Needs.{needs}
 use Rattle.halves.proofs.both_allowed.Statement.{statement}

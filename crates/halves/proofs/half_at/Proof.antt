@@ -1,4 +1,4 @@
--- `halves::half_at` meets its contract: an even place has the high half of its byte, an odd one the low half. Assumes nothing.
+-- `halves::half_at` meets its contract: an even place has the high half of its byte, an odd one the low half.
 use mathlib.Core.Path.{sym}
 use Prim.Native.Nat.{_/_}
 use native.Mathlib.Omega.{arith}

@@ -1,5 +1,5 @@
 -- `halves::put_packed` meets its contract: before each turn the first i bytes of dst are those of the packed field, whose halves end the row.
--- Assumes nothing.
+--
 use Prim.Native.Nat.{ℕ, _+_, _-_, _*_, _<_}
 use native.Mathlib.Omega.{arith}
 use borrow.Author.Needs.{needs}

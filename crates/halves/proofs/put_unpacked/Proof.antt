@@ -1,4 +1,4 @@
--- `halves::put_unpacked` meets its contract: before each turn the first i bytes of dst are those of the unpacked field. Assumes nothing.
+-- `halves::put_unpacked` meets its contract: before each turn the first i bytes of dst are those of the unpacked field.
 use Prim.Native.Nat.{_-_}
 use native.Mathlib.Omega.{arith}
 use borrow.Author.Needs.{needs}

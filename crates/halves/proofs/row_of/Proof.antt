@@ -1,5 +1,5 @@
 -- `halves::row_of` meets its contract: before each turn the row is that of the packed halves up to the next digit's place, and 0 from there
--- on, as at the start. Assumes nothing.
+-- on, as at the start.
 use mathlib.Core.Path.{_≡_, refl, sym, ap, _∙_, subst}
 use mathlib.Core.List.{List, _∷_}
 use Prim.Native.Nat.{ℕ, zero, suc, _+_, _-_, _*_, _/_, _%_, _≤_, _<_}

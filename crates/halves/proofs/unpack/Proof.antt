@@ -1,4 +1,4 @@
--- `halves::unpack` meets its contract: what its one call leaves where both sizes are allowed, and nothing where not. Assumes nothing.
+-- `halves::unpack` meets its contract: what its one call leaves where both sizes are allowed, and nothing where not.
 use mathlib.Core.Path.{sym, _∙_}
 use borrow.Author.Needs.{needs}
 use lib.ListN.{length}

@@ -1,4 +1,4 @@
--- `halves::unpack_at` meets its contract: each of its three answers is the byte that stands at such a place. Assumes nothing.
+-- `halves::unpack_at` meets its contract: each of its three answers is the byte that stands at such a place.
 use mathlib.Core.Path.{sym, ap, _∙_}
 use Prim.Native.Nat.{ℕ, _+_, _-_, _*_}
 use native.Mathlib.Omega.{arith}

@@ -1,4 +1,4 @@
--- `lines::allowed` meets its contract: each way through its test gives what the byte's test gives. Assumes nothing.
+-- `lines::allowed` meets its contract: each way through its test gives what the byte's test gives.
 use borrow.Author.Tests.{le-leb, lt-leb}
 use Rattle.lines.proofs.allowed.Statement.{statement}
 use Rattle.lines.proofs.allowed.Tie as tie

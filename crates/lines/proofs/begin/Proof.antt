@@ -1,4 +1,4 @@
--- `lines::begin` meets its contract: its answer is the definition's. Assumes nothing.
+-- `lines::begin` meets its contract: its answer is the definition's.
 use mathlib.Core.Path.{refl}
 use Rattle.lines.specs.Scanning.{start}
 use Rattle.lines.proofs.begin.Statement.{statement}

@@ -1,5 +1,5 @@
 -- `lines::begins` meets its contract. The loop's invariant: the text and the line from `i` on are to be compared as the whole ones are, and the
--- line has the bytes passed. The measure is what is left of the text. Assumes nothing.
+-- line has the bytes passed. The measure is what is left of the text.
 use mathlib.Core.Path.{_≡_, refl, _∙_}
 use Prim.Native.Nat.{_-_, _≤_}
 use native.Mathlib.Omega.{arith}

@@ -1,4 +1,4 @@
--- `lines::begun_kind` meets its contract: a line of 80 bytes or fewer is read, a longer one is no card. Assumes nothing.
+-- `lines::begun_kind` meets its contract: a line of 80 bytes or fewer is read, a longer one is no card.
 use mathlib.Core.Path.{_≡_, sym, _∙_}
 use native.Mathlib.Omega.{arith}
 use borrow.Author.Needs.{needs}

@@ -1,4 +1,4 @@
--- `lines::card` meets its contract: a line that has not the length and the bytes of a card is none. Assumes nothing.
+-- `lines::card` meets its contract: a line that has not the length and the bytes of a card is none.
 use mathlib.Core.Path.{sym, _∙_}
 use borrow.Author.Needs.{needs}
 use Rattle.lines.proofs.MeaningLaws.{card-says-untidy}

@@ -1,4 +1,4 @@
--- `lines::count` meets its contract, below the highest number and at it. Assumes nothing.
+-- `lines::count` meets its contract, below the highest number and at it.
 use mathlib.Core.Path.{sym}
 use borrow.Author.Needs.{needs}
 use Rattle.lines.proofs.StepLaws.{counted-more, counted-most}

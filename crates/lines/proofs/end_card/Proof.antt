@@ -1,4 +1,4 @@
--- `lines::end_card` meets its contract: behind END the line ends, or a blank or another byte stands. Assumes nothing.
+-- `lines::end_card` meets its contract: behind END the line ends, or a blank or another byte stands.
 use native.Mathlib.Omega.{arith}
 use borrow.Author.Needs.{needs}
 use Rattle.lines.proofs.MeaningLaws.{card-says-END, card-says-END-blank, card-says-END-other}

@@ -1,4 +1,4 @@
--- `lines::first` meets its contract: each way through its tests gives the place of the definition. Assumes nothing.
+-- `lines::first` meets its contract: each way through its tests gives the place of the definition.
 use mathlib.Core.Path.{sym}
 use Rattle.lines.proofs.StepLaws.{first-stays, first-place, first-unmarked}
 use Rattle.lines.proofs.first.Statement.{statement}

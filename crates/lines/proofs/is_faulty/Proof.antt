@@ -1,4 +1,4 @@
--- `lines::is_faulty` meets its contract: each way through its tests gives what the definition's tests give. Assumes nothing.
+-- `lines::is_faulty` meets its contract: each way through its tests gives what the definition's tests give.
 use mathlib.Core.Path.{sym}
 use Rattle.lines.proofs.StepLaws.{faulty-first, faulty-ended, faulty-past}
 use Rattle.lines.proofs.is_faulty.Statement.{statement}

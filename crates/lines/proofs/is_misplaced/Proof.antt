@@ -1,4 +1,4 @@
--- `lines::is_misplaced` meets its contract, for each kind of card. Assumes nothing.
+-- `lines::is_misplaced` meets its contract, for each kind of card.
 use mathlib.Core.Path.{_∙_}
 use borrow.Author.Needs.{needs}
 use Rattle.lines.proofs.is_misplaced.Statement.{statement}

@@ -1,4 +1,4 @@
--- `lines::is_tidy` meets its contract: each way through its tests gives what the test of the length and the bytes gives. Assumes nothing.
+-- `lines::is_tidy` meets its contract: each way through its tests gives what the test of the length and the bytes gives.
 use mathlib.Core.Path.{sym, _∙_}
 use native.Mathlib.Omega.{arith}
 use borrow.Author.Needs.{needs}

@@ -1,4 +1,4 @@
--- `lines::judged` meets its contract: its answer is made of the answers of the functions that it calls, as the definition is. Assumes nothing.
+-- `lines::judged` meets its contract: its answer is made of the answers of the functions that it calls, as the definition is.
 use borrow.Author.Needs.{needs}
 use Rattle.lines.proofs.StepLaws.{judged-is}
 use Rattle.lines.proofs.judged.Statement.{statement}

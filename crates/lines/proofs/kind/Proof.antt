@@ -1,4 +1,4 @@
--- `lines::kind` meets its contract: the card that was read is the line's. Assumes nothing.
+-- `lines::kind` meets its contract: the card that was read is the line's.
 use borrow.Author.Needs.{needs}
 use Rattle.lines.proofs.StepLaws.{kind-is}
 use Rattle.lines.proofs.kind.Statement.{statement}

@@ -1,5 +1,5 @@
 -- `lines::line` meets its contract. The loop's invariant: no line ends from `at` to before `end`. The measure is what is left of the deck.
--- Assumes nothing.
+--
 use Prim.Native.Nat.{_-_, _≤_}
 use native.Mathlib.Omega.{arith}
 use borrow.Author.Needs.{needs}

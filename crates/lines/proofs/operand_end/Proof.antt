@@ -1,5 +1,5 @@
 -- `lines::operand_end` meets its contract. The loop's invariant: no blank stands from `start` to before `i`. The measure is what is left of the
--- line. Assumes nothing.
+-- line.
 use mathlib.Core.Path.{_≡_}
 use Prim.Native.Nat.{_-_, _≤_}
 use native.Mathlib.Omega.{arith}

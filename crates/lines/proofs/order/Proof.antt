@@ -1,4 +1,4 @@
--- `lines::order` meets its contract: it is the scan of the whole deck, which is shorter than the highest number. Assumes nothing.
+-- `lines::order` meets its contract: it is the scan of the whole deck, which is shorter than the highest number.
 use mathlib.Core.Path.{ap, _∙_}
 use native.Mathlib.Omega.{arith}
 use borrow.Author.Needs.{needs}

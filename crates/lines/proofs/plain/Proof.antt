@@ -1,5 +1,5 @@
 -- `lines::plain` meets its contract. The loop's invariant: the bytes from `i` on are asked for what all are asked for, since those before it
--- passed. The measure is what is left of the line. Assumes nothing.
+-- passed. The measure is what is left of the line.
 use mathlib.Core.Path.{_≡_, refl, sym, _∙_}
 use Prim.Native.Nat.{_-_}
 use native.Mathlib.Omega.{arith}

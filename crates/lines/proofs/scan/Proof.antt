@@ -1,5 +1,5 @@
 -- `lines::scan` meets its contract. The loop's invariant: what is left of the piece is scanned from `current` as all of it is from the state that was
--- given. The measure is what is left of the piece. Assumes nothing.
+-- given. The measure is what is left of the piece.
 use mathlib.Core.Path.{_≡_, refl, sym, ap, _∙_}
 use Prim.Native.Nat.{_+_, _-_}
 use borrow.Author.Needs.{needs}

@@ -1,4 +1,4 @@
--- `lines::scanned` meets its contract: a line that is begun is judged, and then the verdict is given. Assumes nothing.
+-- `lines::scanned` meets its contract: a line that is begun is judged, and then the verdict is given.
 use mathlib.Core.Path.{sym, ap, _∙_}
 use borrow.Author.Needs.{needs}
 use Rattle.lines.specs.Scanning.{verdictOf}

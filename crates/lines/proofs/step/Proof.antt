@@ -1,4 +1,4 @@
--- `lines::step` meets its contract: hex 0A ends the line, and another byte goes to it. Assumes nothing.
+-- `lines::step` meets its contract: hex 0A ends the line, and another byte goes to it.
 use mathlib.Core.Path.{sym, _∙_}
 use borrow.Author.Needs.{needs}
 use Rattle.lines.proofs.StepLaws.{step-end, step-byte}

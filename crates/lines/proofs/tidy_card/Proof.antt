@@ -1,4 +1,4 @@
--- `lines::tidy_card` meets its contract: the line's first bytes are those of one of the four cards, or of none. Assumes nothing.
+-- `lines::tidy_card` meets its contract: the line's first bytes are those of one of the four cards, or of none.
 use mathlib.Core.Path.{subst}
 use mathlib.Core.Bool.{true, false}
 use borrow.Author.Needs.{needs}

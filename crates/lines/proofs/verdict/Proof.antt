@@ -1,4 +1,4 @@
--- `lines::verdict` meets its contract: each way through its tests gives what the definition's tests give. Assumes nothing.
+-- `lines::verdict` meets its contract: each way through its tests gives what the definition's tests give.
 use mathlib.Core.Path.{sym, ap, _∙_}
 use Prim.Native.Nat.{ℕ}
 use borrow.Author.Needs.{needs}

@@ -1,4 +1,4 @@
--- `lines::with_byte` meets its contract: a byte up to the 80th is kept, and none past it. Assumes nothing.
+-- `lines::with_byte` meets its contract: a byte up to the 80th is kept, and none past it.
 use borrow.Author.Needs.{needs}
 use Rattle.lines.proofs.StepLaws.{byte-kept, byte-past}
 use Rattle.lines.proofs.with_byte.Statement.{statement}

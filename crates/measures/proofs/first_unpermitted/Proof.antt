@@ -1,4 +1,4 @@
--- Each turn asks one record more; a walk ends since less of the reel is left at each turn. Assumes nothing.
+-- Each turn asks one record more; a walk ends since less of the reel is left at each turn.
 use native.Mathlib.Omega.{arith}
 use borrow.Author.Needs.{needs}
 use borrow.Author.Tests.{not-true, not-false}

@@ -1,4 +1,4 @@
--- Each turn tallies one record more; a walk ends since less of the reel is left at each turn. Assumes nothing.
+-- Each turn tallies one record more; a walk ends since less of the reel is left at each turn.
 use native.Mathlib.Omega.{arith}
 use borrow.Author.Needs.{needs}
 use Rattle.walks.specs.Promise.{bytesLeft}

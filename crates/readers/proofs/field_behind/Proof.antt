@@ -1,4 +1,4 @@
--- `readers::field_behind` meets its contract: the middle, the comma, the last number. Assumes nothing.
+-- `readers::field_behind` meets its contract: the middle, the comma, the last number.
 use Prim.Native.Nat.{_+_}
 use mathlib.Core.Path.{_≡_, sym, _∙_, subst}
 use borrow.Author.Needs.{needs}

@@ -1,4 +1,4 @@
--- `readers::first_record` meets its contract: the number stands behind the R. Assumes nothing.
+-- `readers::first_record` meets its contract: the number stands behind the R.
 use mathlib.Core.Path.{subst}
 use borrow.Author.Needs.{needs}
 use denote.Ref.{now}

@@ -1,4 +1,4 @@
--- `readers::format` meets its contract: by the byte behind the F. Assumes nothing.
+-- `readers::format` meets its contract: by the byte behind the F.
 use mathlib.Core.Path.{sym, _∙_}
 use borrow.Author.Needs.{needs}
 use denote.Ref.{now}

@@ -1,4 +1,4 @@
--- `readers::item` meets its contract: CV by its two bytes, any other item by its numbers. Assumes nothing.
+-- `readers::item` meets its contract: CV by its two bytes, any other item by its numbers.
 use mathlib.Core.Path.{_≡_, sym, _∙_, subst}
 use borrow.Author.Needs.{needs}
 use denote.Ref.{now}

@@ -1,4 +1,4 @@
--- `readers::kind` meets its contract: by the bracket and the letter behind it. Assumes nothing.
+-- `readers::kind` meets its contract: by the bracket and the letter behind it.
 use Prim.Native.Nat.{_+_}
 use mathlib.Core.Path.{_≡_, refl, sym, _∙_, subst}
 use borrow.Author.Needs.{needs}

@@ -1,4 +1,4 @@
--- `readers::mode` meets its contract: by the bytes behind the T. Assumes nothing.
+-- `readers::mode` meets its contract: by the bytes behind the T.
 use mathlib.Core.Path.{_≡_, sym, _∙_}
 use borrow.Author.Needs.{needs}
 use denote.Ref.{now}

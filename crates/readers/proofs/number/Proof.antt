@@ -1,4 +1,4 @@
--- `readers::number` meets its contract. The loop's invariant: `used` digits of that value are read, and the same work is left. Assumes nothing.
+-- `readers::number` meets its contract. The loop's invariant: `used` digits of that value are read, and the same work is left.
 use Prim.Native.Nat.{ℕ, _-_, _≤_}
 use mathlib.Core.Path.{_≡_, ap, _∙_, subst}
 use borrow.Author.Needs.{needs}

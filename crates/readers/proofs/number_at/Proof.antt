@@ -1,4 +1,4 @@
--- `readers::number_at` meets its contract: places behind `from` count from the front. Assumes nothing.
+-- `readers::number_at` meets its contract: places behind `from` count from the front.
 use Prim.Native.Nat.{ℕ}
 use mathlib.Core.List.{List}
 use mathlib.Core.Path.{subst}

@@ -1,4 +1,4 @@
--- `readers::number_then` meets its contract: the mark stands behind the number, or not. Assumes nothing.
+-- `readers::number_then` meets its contract: the mark stands behind the number, or not.
 use mathlib.Core.Path.{sym, _∙_, subst}
 use borrow.Author.Needs.{needs}
 use denote.Ref.{now}

@@ -1,4 +1,4 @@
--- `readers::parameter` meets its contract: by its first byte. Assumes nothing.
+-- `readers::parameter` meets its contract: by its first byte.
 use Prim.Native.Nat.{ℕ}
 use mathlib.Core.Path.{_≡_, sym, _∙_, subst}
 use mathlib.Core.Logic.{_⊎_, ⊎-elim}

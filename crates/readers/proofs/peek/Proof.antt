@@ -1,4 +1,4 @@
--- `readers::peek` meets its contract: inside it does not matter what stands for the end. Assumes nothing.
+-- `readers::peek` meets its contract: inside it does not matter what stands for the end.
 use mathlib.Core.Path.{sym}
 use borrow.Author.Needs.{needs}
 use native.Mathlib.Omega.{arith}

@@ -1,4 +1,4 @@
--- `readers::rewind` meets its contract: by the byte behind the I or the O. Assumes nothing.
+-- `readers::rewind` meets its contract: by the byte behind the I or the O.
 use Prim.Native.Nat.{_<_}
 use mathlib.Core.Path.{sym, _∙_, subst}
 use mathlib.Core.Logic.{⊎-elim}

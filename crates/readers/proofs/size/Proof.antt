@@ -1,4 +1,4 @@
--- `readers::size` meets its contract: the bracket, the number, and what is behind it. Assumes nothing.
+-- `readers::size` meets its contract: the bracket, the number, and what is behind it.
 use Prim.Native.Nat.{_+_}
 use mathlib.Core.Path.{_≡_, sym, _∙_, subst}
 use borrow.Author.Needs.{needs}

@@ -1,4 +1,4 @@
--- `readers::size_behind` meets its contract: by the byte behind the number. Assumes nothing.
+-- `readers::size_behind` meets its contract: by the byte behind the number.
 use Prim.Native.Nat.{_+_}
 use mathlib.Core.Path.{_≡_, sym, _∙_, subst}
 use borrow.Author.Needs.{needs}

@@ -1,4 +1,4 @@
--- `readers::sizes` meets its contract: the sign behind the letter, and the size behind it. Assumes nothing.
+-- `readers::sizes` meets its contract: the sign behind the letter, and the size behind it.
 use mathlib.Core.Path.{_≡_, sym, _∙_, subst}
 use mathlib.Core.Logic.{⊎-elim}
 use borrow.Author.Needs.{needs}

@@ -1,4 +1,4 @@
--- `readers::sizes_behind` meets its contract: the comma, the first size with its comma, and the second with its bracket. Assumes nothing.
+-- `readers::sizes_behind` meets its contract: the comma, the first size with its comma, and the second with its bracket.
 use Prim.Native.Nat.{_+_}
 use mathlib.Core.Path.{_≡_, sym, _∙_, subst}
 use borrow.Author.Needs.{needs}

@@ -1,4 +1,4 @@
--- `records::byte_permitted` meets its contract: each arm asks what its kind asks of the two halves of byte i. Assumes nothing.
+-- `records::byte_permitted` meets its contract: each arm asks what its kind asks of the two halves of byte i.
 use mathlib.Core.Path.{sym, _∙_}
 use native.Mathlib.Omega.{arith}
 use borrow.Author.Needs.{needs}

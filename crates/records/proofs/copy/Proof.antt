@@ -1,4 +1,4 @@
--- `records::copy` meets its contract: before each turn the first i bytes of dst are those of src. Assumes nothing.
+-- `records::copy` meets its contract: before each turn the first i bytes of dst are those of src.
 use mathlib.Core.Path.{refl}
 use Prim.Native.Nat.{_-_}
 use native.Mathlib.Omega.{arith}

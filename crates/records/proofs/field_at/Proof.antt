@@ -1,4 +1,4 @@
--- `records::field_at` meets its contract: each part is read from its place. Assumes nothing.
+-- `records::field_at` meets its contract: each part is read from its place.
 use borrow.Author.Needs.{needs}
 use Rattle.records.specs.Flat.{fieldAt}
 use Rattle.records.proofs.field_at.Statement.{statement}

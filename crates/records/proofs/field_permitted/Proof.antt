@@ -1,4 +1,4 @@
--- `records::field_permitted` meets its contract: a copy may read any, and the part that is lent is the field's input. Assumes nothing.
+-- `records::field_permitted` meets its contract: a copy may read any, and the part that is lent is the field's input.
 use mathlib.Core.Path.{sym, ap, _∙_}
 use mathlib.Core.List.{List}
 use Prim.Native.Nat.{ℕ}

@@ -1,4 +1,4 @@
--- `records::flatten` meets its contract: before each turn the numbers of the first i fields stand over zeros. Assumes nothing.
+-- `records::flatten` meets its contract: before each turn the numbers of the first i fields stand over zeros.
 use mathlib.Core.Path.{_≡_, refl, sym, _∙_}
 use mathlib.Core.List.{map}
 use Prim.Native.Nat.{_-_, _≤_}

@@ -1,4 +1,4 @@
--- `records::input_permitted` meets its contract: before each turn what is left to ask is of the bytes from i on. Assumes nothing.
+-- `records::input_permitted` meets its contract: before each turn what is left to ask is of the bytes from i on.
 use mathlib.Core.Path.{_≡_, refl, sym, _∙_}
 use Prim.Native.Nat.{_-_, _*_}
 use native.Mathlib.Omega.{arith}

@@ -1,4 +1,4 @@
--- `records::is_digit` meets its contract: a half is at least 0. Assumes nothing.
+-- `records::is_digit` meets its contract: a half is at least 0.
 use native.Mathlib.Omega.{arith}
 use borrow.Author.Tests.{le-leb}
 use Rattle.records.proofs.is_digit.Statement.{statement}

@@ -1,4 +1,4 @@
--- `records::is_sign` meets its contract: each way through its test gives what the test of a sign gives. Assumes nothing.
+-- `records::is_sign` meets its contract: each way through its test gives what the test of a sign gives.
 use borrow.Author.Tests.{le-leb, lt-leb}
 use Rattle.records.proofs.is_sign.Statement.{statement}
 use Rattle.records.proofs.is_sign.Tie as tie

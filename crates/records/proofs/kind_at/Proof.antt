@@ -1,4 +1,4 @@
--- `records::kind_at` meets its contract: each arm gives the kind that its number names. Assumes nothing.
+-- `records::kind_at` meets its contract: each arm gives the kind that its number names.
 use borrow.Author.Tests.{ne-eqb}
 use Rattle.records.specs.Flat.{kindAt}
 use Rattle.records.proofs.kind_at.Statement.{statement}

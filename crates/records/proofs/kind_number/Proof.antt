@@ -1,4 +1,4 @@
--- `records::kind_number` meets its contract: each arm gives the number of its kind. Assumes nothing.
+-- `records::kind_number` meets its contract: each arm gives the number of its kind.
 use borrow.Author.Needs.{needs}
 use Rattle.terms.specs.Meaning.{fieldOf}
 use Rattle.records.proofs.kind_number.Statement.{statement}

@@ -1,4 +1,4 @@
--- `records::output_size` meets its contract: each arm gives the size of its kind; a copy has one. Assumes nothing.
+-- `records::output_size` meets its contract: each arm gives the size of its kind; a copy has one.
 use borrow.Author.Needs.{needs}
 use Rattle.terms.specs.Meaning.{fieldOf}
 use Rattle.records.proofs.output_size.Statement.{statement}

@@ -1,4 +1,4 @@
--- `records::packs` meets its contract: each way through its tests gives what the two halves allow. Assumes nothing.
+-- `records::packs` meets its contract: each way through its tests gives what the two halves allow.
 use mathlib.Core.Path.{sym, _∙_}
 use borrow.Author.Tests.{eq-eqb, ne-eqb}
 use borrow.Author.Needs.{needs}

@@ -1,4 +1,4 @@
--- `records::permitted` meets its contract: before each turn what is left to ask is of the fields from i on. Assumes nothing.
+-- `records::permitted` meets its contract: before each turn what is left to ask is of the fields from i on.
 use mathlib.Core.Path.{_≡_, sym, _∙_}
 use Prim.Native.Nat.{_-_}
 use native.Mathlib.Omega.{arith}

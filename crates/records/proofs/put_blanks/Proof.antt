@@ -1,4 +1,4 @@
--- `records::put_blanks` meets its contract: before each turn the first i bytes of part are blanks. Assumes nothing.
+-- `records::put_blanks` meets its contract: before each turn the first i bytes of part are blanks.
 use mathlib.Core.Path.{sym}
 use Prim.Native.Nat.{ℕ, _-_}
 use native.Mathlib.Omega.{arith}

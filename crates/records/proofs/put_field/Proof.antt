@@ -1,4 +1,4 @@
--- `records::put_field` meets its contract: each arm leaves in the part that it is lent what the field makes of its input. Assumes nothing.
+-- `records::put_field` meets its contract: each arm leaves in the part that it is lent what the field makes of its input.
 use mathlib.Core.Path.{_∙_}
 use Prim.Native.Nat.{_+_, _-_, _≤_}
 use native.Mathlib.Omega.{arith}

@@ -1,4 +1,4 @@
--- `records::put_fields` meets its contract: before each turn the first i fields stand over the output. Assumes nothing.
+-- `records::put_fields` meets its contract: before each turn the first i fields stand over the output.
 use mathlib.Core.Path.{_∙_}
 use Prim.Native.Nat.{_-_}
 use native.Mathlib.Omega.{arith}

@@ -1,4 +1,4 @@
--- `records::put_numbers` meets its contract: five stores in a row are the five numbers of the field. Assumes nothing.
+-- `records::put_numbers` meets its contract: five stores in a row are the five numbers of the field.
 use native.Mathlib.Omega.{arith}
 use borrow.Author.Needs.{needs}
 use lib.ListN.{length-set}

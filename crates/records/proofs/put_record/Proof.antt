@@ -1,4 +1,4 @@
--- `records::put_record` meets its contract: the fields over blanks are the fixed part, and with CV the tail is put behind it. Assumes nothing.
+-- `records::put_record` meets its contract: the fields over blanks are the fixed part, and with CV the tail is put behind it.
 use mathlib.Core.Path.{_≡_, sym, ap, _∙_}
 use mathlib.Core.List.{_++_}
 use Prim.Native.Nat.{ℕ, _+_, _-_, _≤_}

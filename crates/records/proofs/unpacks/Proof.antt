@@ -1,4 +1,4 @@
--- `records::unpacks` meets its contract: each way through its tests gives what the two halves allow. Assumes nothing.
+-- `records::unpacks` meets its contract: each way through its tests gives what the two halves allow.
 use mathlib.Core.Path.{sym, _∙_}
 use borrow.Author.Needs.{needs}
 use Rattle.records.proofs.unpacks.Statement.{statement}

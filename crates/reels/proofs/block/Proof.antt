@@ -1,4 +1,4 @@
--- The two offsets are read and compared; each way out is a law of the parts. Assumes nothing.
+-- The two offsets are read and compared; each way out is a law of the parts.
 use borrow.Author.Needs.{needs}
 use native.Mathlib.Omega.{arith}
 use Rattle.reels.proofs.HeaderLaws.{words-missing, part-outside, part-backwards, part-taken}

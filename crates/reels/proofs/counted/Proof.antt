@@ -1,4 +1,4 @@
--- The walk holds a place and how many pieces were counted before it; each way out is a law of the counting. Assumes nothing.
+-- The walk holds a place and how many pieces were counted before it; each way out is a law of the counting.
 use mathlib.Core.Path.{_≡_, sym, _∙_}
 use Prim.Native.Nat.{_-_}
 use native.Mathlib.Omega.{arith}

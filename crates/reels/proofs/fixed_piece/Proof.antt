@@ -1,4 +1,4 @@
--- A piece of n bytes, where n is not 0 and so many are left. Assumes nothing.
+-- A piece of n bytes, where n is not 0 and so many are left.
 use borrow.Author.Needs.{needs}
 use native.Mathlib.Omega.{arith}
 use Rattle.reels.proofs.PiecesLaws.{fixed-zero, fixed-over, fixed-good}

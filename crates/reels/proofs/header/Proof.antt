@@ -1,4 +1,4 @@
--- The walk over the offsets holds the count, the number of an offset and the offset; each way out is a law of the header. Assumes nothing.
+-- The walk over the offsets holds the count, the number of an offset and the offset; each way out is a law of the header.
 use mathlib.Core.Path.{_∙_}
 use Prim.Native.Nat.{_-_}
 use native.Mathlib.Omega.{arith}

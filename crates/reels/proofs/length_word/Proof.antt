@@ -1,4 +1,4 @@
--- Each test of the word is one of the rules. Assumes nothing.
+-- Each test of the word is one of the rules.
 use borrow.Author.Needs.{needs}
 use native.Mathlib.Omega.{arith}
 use denote.Ref.{now}

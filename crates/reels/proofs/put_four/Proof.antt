@@ -1,4 +1,4 @@
--- Four stores, where the four bytes are inside. Assumes nothing.
+-- Four stores, where the four bytes are inside.
 use borrow.Author.Needs.{needs}
 use native.Mathlib.Omega.{arith}
 use lib.ListN.{length-set}

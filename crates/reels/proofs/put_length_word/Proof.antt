@@ -1,4 +1,4 @@
--- The two bytes of the length and two zero bytes are its word. Assumes nothing.
+-- The two bytes of the length and two zero bytes are its word.
 use mathlib.Core.Path.{_∙_}
 use borrow.Author.Needs.{needs}
 use Rattle.reels.proofs.WordsLaws.{four-length, length-too-high}

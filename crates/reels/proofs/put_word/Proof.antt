@@ -1,4 +1,4 @@
--- The four bytes of the number are its word. Assumes nothing.
+-- The four bytes of the number are its word.
 use mathlib.Core.Path.{_∙_}
 use borrow.Author.Needs.{needs}
 use Rattle.reels.proofs.WordsLaws.{four-word}

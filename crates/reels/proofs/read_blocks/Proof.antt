@@ -1,4 +1,4 @@
--- The walk holds the number of a block and how many records were counted before it; each way out is a law of the reading. Assumes nothing.
+-- The walk holds the number of a block and how many records were counted before it; each way out is a law of the reading.
 use mathlib.Core.Path.{subst}
 use Prim.Native.Nat.{_+_, _-_}
 use native.Mathlib.Omega.{arith}

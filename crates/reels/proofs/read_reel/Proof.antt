@@ -1,4 +1,4 @@
--- The header, and then the blocks. Assumes nothing.
+-- The header, and then the blocks.
 use mathlib.Core.Path.{sym, _∙_}
 use borrow.Author.Needs.{needs}
 use Rattle.reels.proofs.ReelReads.{not-reel}

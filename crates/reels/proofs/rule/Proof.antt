@@ -1,4 +1,4 @@
--- The sizes of the block, its start, and the count of its pieces. Assumes nothing.
+-- The sizes of the block, its start, and the count of its pieces.
 use mathlib.Core.Path.{sym, _∙_}
 use borrow.Author.Needs.{needs}
 use Rattle.reels.proofs.RecordsLaws.{judged-counted, judged-no-start, judged-size}

@@ -1,4 +1,4 @@
--- By the three tests, and by cases on the format. Assumes nothing.
+-- By the three tests, and by cases on the format.
 use mathlib.Core.Path.{ap}
 use borrow.Author.Needs.{needs}
 use Rattle.rules.specs.Plan.{isFF}

@@ -1,4 +1,4 @@
--- By cases on the format. Assumes nothing.
+-- By cases on the format.
 use mathlib.Core.Path.{sym, ap, _∙_, refl}
 use borrow.Author.Needs.{needs}
 use denote.Ref.{now}

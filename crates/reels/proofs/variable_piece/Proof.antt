@@ -1,4 +1,4 @@
--- The record's word, and the piece behind it. Assumes nothing.
+-- The record's word, and the piece behind it.
 use mathlib.Core.Path.{_≡_, sym, _∙_}
 use Prim.Native.Nat.{_+_, _≤_}
 use native.Mathlib.Omega.{arith}

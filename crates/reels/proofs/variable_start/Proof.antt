@@ -1,4 +1,4 @@
--- The block's word, and whether it says the block's length. Assumes nothing.
+-- The block's word, and whether it says the block's length.
 use mathlib.Core.Path.{sym, _∙_}
 use borrow.Author.Needs.{needs}
 use Rattle.reels.proofs.PiecesLaws.{variable-good, variable-other, variable-none}

@@ -1,4 +1,4 @@
--- The number at a place is the number of the four bytes there, each of which is below 256. Assumes nothing.
+-- The number at a place is the number of the four bytes there, each of which is below 256.
 use borrow.Author.Needs.{needs}
 use native.Mathlib.Omega.{arith}
 use Rattle.rules.proofs.WordLaws.{wordAt}

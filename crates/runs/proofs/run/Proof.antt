@@ -1,4 +1,4 @@
--- Refused, or finished and written. Assumes nothing.
+-- Refused, or finished and written.
 use native.Mathlib.Omega.{arith}
 use Rattle.runs.proofs.WriteLaws.{ran-refused, finishing, ran-written}
 use borrow.Author.Needs.{needs}

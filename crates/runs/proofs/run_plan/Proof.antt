@@ -1,4 +1,4 @@
--- The plan's numbers and its fields, and then the run. Assumes nothing.
+-- The plan's numbers and its fields, and then the run.
 use Rattle.rules.specs.Lent.{zoneF}
 use Rattle.terms.specs.Meaning.{planIn}
 use Rattle.runs.proofs.WriteLaws.{all-short, front-many, given-plan}

@@ -1,4 +1,4 @@
--- Number by number. Assumes nothing.
+-- Number by number.
 use mathlib.Core.Path.{refl, ap, _∙_}
 use mathlib.Core.Bool.{cond}
 use Prim.Native.Nat.{ℕ}

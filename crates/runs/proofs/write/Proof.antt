@@ -1,4 +1,4 @@
--- By the mode. Assumes nothing.
+-- By the mode.
 use mathlib.Core.Path.{ap}
 use native.Mathlib.Omega.{arith}
 use Rattle.rules.specs.Plan.{isTC}

@@ -1,4 +1,4 @@
--- The walk is the one before the first record of the first block. Assumes nothing.
+-- The walk is the one before the first record of the first block.
 use Rattle.walks.proofs.AnswerLaws.{begun}
 use borrow.Author.Needs.{needs}
 use Rattle.walks.proofs.begin.Statement.{statement}

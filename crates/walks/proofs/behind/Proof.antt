@@ -1,4 +1,4 @@
--- By the test of the place. Assumes nothing.
+-- By the test of the place.
 use mathlib.Core.Path.{_∙_}
 use Rattle.walks.proofs.AnswerLaws.{walk-behind, walk-over}
 use borrow.Author.Needs.{needs}

@@ -1,4 +1,4 @@
--- The place is where the pieces of a block begin. Assumes nothing.
+-- The place is where the pieces of a block begin.
 use mathlib.Core.Path.{ap}
 use mathlib.Core.Bool.{true}
 use Prim.Native.Nat.{ℕ}

@@ -1,4 +1,4 @@
--- The piece at the walk's place, and where its block stands in the reel. Assumes nothing.
+-- The piece at the walk's place, and where its block stands in the reel.
 use mathlib.Core.Path.{_≡_, ap, sym, _∙_}
 use Prim.Native.Nat.{ℕ, _+_, _*_, _≤_}
 use mathlib.Core.List.{List}

@@ -1,4 +1,4 @@
--- What is left of the way to record R leads to the same place from each turn on. Assumes nothing.
+-- What is left of the way to record R leads to the same place from each turn on.
 use mathlib.Core.Path.{_≡_, sym, _∙_}
 use Prim.Native.Nat.{_-_}
 use borrow.Author.Needs.{needs}

@@ -1,4 +1,4 @@
--- Before each turn the bytes up to i are those of s. Assumes nothing.
+-- Before each turn the bytes up to i are those of s.
 use Prim.Native.Nat.{_-_}
 use native.Mathlib.Omega.{arith}
 use lib.ListN.{length}

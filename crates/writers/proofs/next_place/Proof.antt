@@ -1,4 +1,4 @@
--- Each place by the test that led there. Assumes nothing.
+-- Each place by the test that led there.
 use mathlib.Core.Path.{sym, _∙_}
 use Rattle.writers.proofs.StepLaws.{next-opens, next-behind}
 use borrow.Author.Needs.{needs}

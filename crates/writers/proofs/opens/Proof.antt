@@ -1,4 +1,4 @@
--- The mode says which test is asked. Assumes nothing.
+-- The mode says which test is asked.
 use mathlib.Core.Path.{refl, _∙_}
 use Rattle.writers.proofs.StepLaws.{opens-begins, opens-overfills}
 use borrow.Author.Needs.{needs}

@@ -1,4 +1,4 @@
--- What is left of the room, and what is asked of it. Assumes nothing.
+-- What is left of the room, and what is asked of it.
 use Rattle.writers.proofs.StepLaws.{overfills-size, overfills-cost, overfills-room}
 use Rattle.writers.proofs.overfills.Statement.{statement}
 use Rattle.writers.proofs.overfills.Tie as tie

@@ -1,4 +1,4 @@
--- The size is from here to the offset that was read. Assumes nothing.
+-- The size is from here to the offset that was read.
 use Rattle.writers.proofs.RecordLaws.{size-upto}
 use borrow.Author.Needs.{needs}
 use Rattle.writers.proofs.put_block_word.Statement.{statement}

@@ -1,4 +1,4 @@
--- Before each turn the bytes up to the place stand. Assumes nothing.
+-- Before each turn the bytes up to the place stand.
 use mathlib.Core.Path.{ap, sym, _∙_}
 use native.Mathlib.Omega.{arith}
 use borrow.Author.Needs.{needs}

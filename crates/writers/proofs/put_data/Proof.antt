@@ -1,4 +1,4 @@
--- The mode says whether fields are selected. Assumes nothing.
+-- The mode says whether fields are selected.
 use mathlib.Core.Path.{refl}
 use mathlib.Core.Bool.{true}
 use Rattle.writers.proofs.RecordLaws.{copy-room, record-room, selects-as, data-copied, data-selected}

@@ -1,4 +1,4 @@
--- Where the record opens a block, the block's word stands before it. Assumes nothing.
+-- Where the record opens a block, the block's word stands before it.
 use mathlib.Core.Bool.{true, false}
 use native.Mathlib.Omega.{arith}
 use Rattle.terms.specs.Meaning.{formatOf}

@@ -1,4 +1,4 @@
--- Each outcome by the test that led there. Assumes nothing.
+-- Each outcome by the test that led there.
 use mathlib.Core.Path.{sym, _∙_}
 use Rattle.writers.proofs.StepLaws.{offset-opens, offset-behind}
 use borrow.Author.Needs.{needs}

@@ -1,4 +1,4 @@
--- Before each turn the offsets of the blocks that are open or closed stand in the header. Assumes nothing.
+-- Before each turn the offsets of the blocks that are open or closed stand in the header.
 use mathlib.Core.Path.{_∙_}
 use native.Mathlib.Omega.{arith}
 use lib.ListN.{length}

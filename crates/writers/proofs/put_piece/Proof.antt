@@ -1,4 +1,4 @@
--- The output stands behind the word. Assumes nothing.
+-- The output stands behind the word.
 use Rattle.writers.proofs.RecordLaws.{piece-put}
 use borrow.Author.Needs.{needs}
 use Rattle.writers.proofs.put_piece.Statement.{statement}

@@ -1,4 +1,4 @@
--- The format says whether there is a word. Assumes nothing.
+-- The format says whether there is a word.
 use mathlib.Core.Path.{sym, _∙_}
 use Rattle.rules.proofs.PlaceLaws.{over-nothing}
 use Rattle.reels.proofs.WordsLaws.{length-put}

@@ -1,4 +1,4 @@
--- The count, the offsets and the blocks, one behind the other. Assumes nothing.
+-- The count, the offsets and the blocks, one behind the other.
 use Rattle.writers.specs.Promise.{ReelPut}
 use Rattle.writers.proofs.WriteLaws.{first-ready, second-headed, reel-put}
 use borrow.Author.Needs.{needs}

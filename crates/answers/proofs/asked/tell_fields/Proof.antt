@@ -1,4 +1,4 @@
--- `asked::tell_fields` is safe and ends: the fields that are left fall. Assumes nothing.
+-- `asked::tell_fields` is safe and ends: the fields that are left fall.
 use Prim.Native.Nat.{_-_}
 use native.Mathlib.Omega.{arith}
 use borrow.Author.Needs.{needs}

@@ -1,4 +1,4 @@
--- `reel::lengths` is safe and ends: a count of turns falls, though the walk ends by itself. Assumes nothing.
+-- `reel::lengths` is safe and ends: a count of turns falls, though the walk ends by itself.
 use native.Mathlib.Omega.{arith}
 use borrow.Author.Needs.{needs}
 use Rattle.answers.proofs.reel.lengths.Statement.{statement}

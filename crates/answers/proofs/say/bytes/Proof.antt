@@ -1,4 +1,4 @@
--- `say::bytes` is safe and ends: the bytes that are left fall. Assumes nothing.
+-- `say::bytes` is safe and ends: the bytes that are left fall.
 use Prim.Native.Nat.{_≤_, _-_}
 use native.Mathlib.Omega.{arith}
 use lib.ListN.{length}

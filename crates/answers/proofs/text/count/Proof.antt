@@ -1,4 +1,4 @@
--- `text::count` answers at most the length of what is lent. Assumes nothing.
+-- `text::count` answers at most the length of what is lent.
 use mathlib.Core.Path.{sym}
 use native.Mathlib.Omega.{arith}
 use lib.Seq.{length-take-le}

@@ -1,4 +1,4 @@
--- `text::decode` puts each part behind the bytes that are done, and so no more than there is room for. Assumes nothing.
+-- `text::decode` puts each part behind the bytes that are done, and so no more than there is room for.
 use mathlib.Core.Path.{_≡_, sym}
 use Prim.Native.Nat.{_≤_, _-_}
 use native.Mathlib.Omega.{arith}

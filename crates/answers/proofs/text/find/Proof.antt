@@ -1,4 +1,4 @@
--- `text::find` answers a place in the slice, or its length. Assumes nothing.
+-- `text::find` answers a place in the slice, or its length.
 use mathlib.Core.Path.{sym}
 use Prim.Native.Nat.{_≤_, _-_}
 use native.Mathlib.Omega.{arith}

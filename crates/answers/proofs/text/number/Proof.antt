@@ -1,4 +1,4 @@
--- `text::number` ends and its sums fit: the number grows no more once it is over a million. Assumes nothing.
+-- `text::number` ends and its sums fit: the number grows no more once it is over a million.
 use mathlib.Core.Logic.{⊎-elim}
 use Prim.Native.Nat.{_≤_, _-_}
 use native.Mathlib.Omega.{arith}

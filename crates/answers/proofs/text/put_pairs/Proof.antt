@@ -1,4 +1,4 @@
--- `text::put_pairs` puts no more bytes than there is room for, of as many pairs of digits. Assumes nothing.
+-- `text::put_pairs` puts no more bytes than there is room for, of as many pairs of digits.
 use mathlib.Core.Path.{_≡_}
 use Prim.Native.Nat.{_+_, _-_, _≤_}
 use native.Mathlib.Omega.{arith}

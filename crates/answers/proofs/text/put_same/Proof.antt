@@ -1,4 +1,4 @@
--- `text::put_same` puts no more bytes than there is room for. Assumes nothing.
+-- `text::put_same` puts no more bytes than there is room for.
 use mathlib.Core.Path.{_≡_}
 use Prim.Native.Nat.{_≤_, _-_}
 use native.Mathlib.Omega.{arith}
