@@ -5,7 +5,6 @@ use mathlib.Core.Path.{_≡_}
 use mathlib.Core.Logic.{_⊎_}
 use mathlib.Core.Bool.{Bool, true, false}
 use mathlib.Core.List.{List, [], _∷_, _++_, map}
-use mathlib.Core.Option.{Option, none, some}
 use Prim.Native.Nat.{ℕ, zero, suc, _+_, _-_, _*_, _/_, _%_, _≤_, _<_}
 use lib.ListN.{length}
 use Rattle.rules.specs.Places.{All, Some, Found}
@@ -13,7 +12,7 @@ use Rattle.rules.specs.Deck.{Card, uCard, fsCard, endCard, lines}
 use Rattle.rules.specs.Texts.{CardText, UText, FsText}
 use Rattle.rules.specs.Grammar.{Mode, tc, tf, tr, trf, Format, ff, fv, fu, Size, two, one, Parameter, modeIs, formatIs, inputIs, outputIs, rewindIn, rewindOut, firstIs, Item}
 use Rattle.rules.specs.Halves.{Kind, copy, pack, unpack, inputSize, outputSize, Field}
-use Rattle.rules.specs.Asked.{cvs, fieldsOf, Given, given, Utility}
+use Rattle.rules.specs.Asked.{cvs, fieldsOf, Utility}
 use Rattle.rules.specs.Plan.{Plan, assembled, selects, recordLength, blockLength, inputHalves, allowed}
 
 -- two lists agree element by element
@@ -131,9 +130,16 @@ Row6 deck p = (us : List Parameter) × (cards : List (List Item)) × Says deck u
 
 -- ---- row 7: a number outside its limits
 
+pub data IsR : Parameter → Type 0 where
+  an-R : {n : ℕ} → IsR (firstIs n)
+
 -- the parameters give T, F, A and B, and R or its default 1
-abbrev pub Complete : List Parameter → Utility → Type 0
-Complete us u = given us ≡ record { mode = some (u .mode); format = some (u .format); input = some (u .input); output = some (u .output); first = u .first }
+pub record Complete (us : List Parameter) (u : Utility) : Type 0 where
+  pub mode : Some (λ x. x ≡ modeIs (u .mode)) us
+  pub format : Some (λ x. x ≡ formatIs (u .format)) us
+  pub input : Some (λ x. x ≡ inputIs (u .input)) us
+  pub output : Some (λ x. x ≡ outputIs (u .output)) us
+  pub first : Some (λ x. x ≡ firstIs (u .first)) us ⊎ ((Some IsR us → ⊥) × (u .first ≡ 1))
 
 abbrev pub Within : ℕ → ℕ → ℕ → Type 0
 Within a b n = (a ≤ n) × (n ≤ b)
