@@ -4,9 +4,16 @@
 //   NAME half pack|unpack SOURCE M    what M bytes of hex 5A hold once SOURCE was packed or unpacked into them
 //   NAME deck DECK                    the refusal, 1 to 7, and its place; or 0 0 and what the cards ask for
 //   NAME reel DECK REEL               the refusal, 1 to 7, 11 or 12, and its place; or 0 0, the blocks, the records and the length of each
+//   NAME plan DECK ENTRIES            refusal, place, keeping, lost place and field count; and the digest of a table of 70 entries of which the
+//                                     first ENTRIES were lent. ENTRIES `-`: no table, and `-` for the digest
+//   NAME run DECK REEL ROOM           refusal, place, length, records and blocks; the digest of an output of 70,000 bytes of which the first ROOM
+//                                     were lent; and the reel written, `..` where it has over 64 bytes, `-` where the run was refused
 // Bytes are hex digits, or xCOUNT:HH for COUNT bytes HH, in parts joined by `+`; `-` is no byte.
 mod asked;
+mod digest;
+mod plan;
 mod reel;
+mod run;
 mod say;
 mod text;
 
@@ -75,6 +82,29 @@ fn deck_and_reel(words: &[u8]) {
     reel::tell(reel::form_of(read.asked), &bytes[..m]);
 }
 
+fn deck_and_table(words: &[u8]) {
+    let mut bytes = room();
+    let n = text::decode(text::before(words, b' '), &mut bytes);
+    let entries = text::after(words, b' ');
+    if same(entries, b"-") {
+        plan::tell(&bytes[..n]);
+        return;
+    }
+    plan::tell_into(&bytes[..n], text::at_most(entries, 70));
+}
+
+fn deck_and_output(words: &[u8]) {
+    let rest = text::after(words, b' ');
+    let mut deck = room();
+    let n = text::decode(text::before(words, b' '), &mut deck);
+    let mut reel = room();
+    let m = text::decode(text::before(rest, b' '), &mut reel);
+    let mut out = room();
+    run::mark(&mut out);
+    let lent = text::count(text::after(rest, b' '), &out);
+    run::tell(&deck[..n], &reel[..m], &mut out, lent);
+}
+
 fn case(line: &[u8]) {
     say::words(text::before(line, b' '));
     say::words(b" ");
@@ -87,6 +117,10 @@ fn case(line: &[u8]) {
         deck(words);
     } else if same(subject, b"reel") {
         deck_and_reel(words);
+    } else if same(subject, b"plan") {
+        deck_and_table(words);
+    } else if same(subject, b"run") {
+        deck_and_output(words);
     } else {
         say::words(b"is no case");
     }

@@ -78,11 +78,31 @@ fn least(a: usize, b: usize) -> usize
     if a < b { a } else { b }
 }
 
+// The number that decimal digits say, but no more than `most`.
+pub(crate) fn at_most(s: &[u8], most: usize) -> usize
+    ensures { λ r. ⌜ r ≤ most ⌝ }
+{
+    least(number(s), most)
+}
+
+// So many, but no more than there are bytes.
+fn within(count: usize, s: &[u8]) -> usize
+    ensures { λ r. ⌜ Counts r (now (s .entry)) ⌝ }
+{
+    least(count, s.len())
+}
+
 // The number that decimal digits say, but no more than there are bytes lent.
 pub(crate) fn count(s: &[u8], lent: &[u8]) -> usize
     ensures { λ r. ⌜ Counts r (now (lent .entry)) ⌝ }
 {
-    least(number(s), lent.len())
+    within(number(s), lent)
+}
+
+// The first so many bytes, or all where there are no more.
+pub(crate) fn first(s: &[u8], count: usize) -> &[u8] {
+    let end = within(count, s);
+    &s[..end]
 }
 
 // The byte that two hex digits say.
