@@ -71,6 +71,9 @@ pub mod Never
 pub mod CopyLaws
 pub mod FullBlocks
 pub mod ReadBack
+pub mod TakenRecords
+pub mod Apart
+pub mod Confused
 pub mod PlanSteps
 pub mod PieceLaws
 pub mod ScanLaws

@@ -134,7 +134,7 @@ pub taken-all-of : {P : List ℕ → Type 0} (k : ℕ) {recs : List (List (List 
 taken-all-of k noMore = noMore
 taken-all-of k (also {x = rs} h a) = also (all-drop k h) (taken-all-of (k - length rs) a)
 
-holds-bytes : (p : Plan) → Accepted p → {bs : List (List ℕ)} {recs : List (List (List ℕ))} → All (All Byte) bs → Holds p bs recs → All (All (All Byte)) recs
+pub holds-bytes : (p : Plan) → Accepted p → {bs : List (List ℕ)} {recs : List (List (List ℕ))} → All (All Byte) bs → Holds p bs recs → All (All (All Byte)) recs
 holds-bytes p ok noMore no-block = noMore
 holds-bytes p ok (also h a) (block {b = b} {bs = bs} {rs = rs} v k) = also (bytes-records p ok bs b rs h v) (holds-bytes p ok a k)
 

@@ -18,6 +18,7 @@ pub mod Places
 pub mod Texts
 pub mod Rows
 pub mod RunRows
+pub mod Taken
 pub mod Accepted
 pub mod Demand
 pub mod Open
