@@ -1,0 +1,128 @@
+-- Demand 3 and the run together, of what the exported functions promise: where bhx_plan marks a deck as keeping, two runs of bhx_run that are not
+-- refused and write the same reel took the same records. It holds since their promises are the rules' answers, of which it is proved.
+use mathlib.Core.Path.{_≡_, refl, ap, sym, _∙_, subst}
+use mathlib.Core.Logic.{_⊎_, inl, inr}
+use mathlib.Core.Bool.{Bool, true, false}
+use mathlib.Core.List.{List}
+use Prim.Native.Nat.{ℕ}
+use native.Mathlib.Omega.{arith}
+use lib.Dec.{eqb}
+use lib.ListN.{length, take, drop}
+use lib.Seq.{take-at}
+use borrow.Author.Tests.{eqb-true, eqb-false}
+use Rattle.rules.specs.Answer.{Answer, fine, refuse}
+use Rattle.rules.specs.Places.{All, Byte}
+use Rattle.rules.specs.Plan.{Plan, planAnswer}
+use Rattle.rules.specs.Run.{Ran as RuleRan}
+use Rattle.rules.specs.Lent.{zoneF, plan, run, runAnswer, outputAfter}
+use Rattle.rules.specs.Taken.{Takes}
+use Rattle.rules.proofs.AnswerLaws.{fine-same}
+use Rattle.rules.proofs.Apart.{run-never-0, took, same-taken}
+use Rattle.bhexodana.specs.Promise.{plannedOf, ranOf}
+use Rattle.bhexodana.specs.declared.Planned.{Planned}
+use Rattle.bhexodana.specs.declared.Ran.{Ran}
+
+-- ---- the promises
+
+-- what bhx_plan promises of its answer
+abbrev pub PlanOf : List ℕ → Planned → Type 0
+PlanOf deck n = n ≡ plannedOf (planAnswer (plan deck))
+
+-- what bhx_run promises of its answer, and of the lent output afterwards
+pub record RanInto (deck reel before : List ℕ) (r : Ran) (after : List ℕ) : Type 0 where
+  pub answer : r ≡ ranOf (runAnswer (run (length before) deck reel))
+  pub output : after ≡ outputAfter before (run (length before) deck reel)
+
+-- two outcomes that it allows are equal
+pub only-one-run : (deck reel before : List ℕ) (r r′ : Ran) (after after′ : List ℕ) → RanInto deck reel before r after → RanInto deck reel before r′ after′
+    → (r ≡ r′) × (after ≡ after′)
+only-one-run deck reel before r r′ after after′ w w′ = (w .answer ∙ sym (w′ .answer), w .output ∙ sym (w′ .output))
+
+-- the reel that a run wrote
+abbrev pub reelIn : Ran → List ℕ → List ℕ
+reelIn r after = take (r .length) after
+
+-- ---- what they say
+
+-- a deck that is marked as keeping has a plan
+pub keeping-plan : (deck : List ℕ) (n : Planned) → PlanOf deck n → n .keeping ≡ 1 → (p : Plan) × (plan deck ≡ fine p) × (planAnswer (plan deck) .keeping ≡ 1)
+keeping-plan deck n w k = go (plan deck) refl
+  where
+    one : planAnswer (plan deck) .keeping ≡ 1
+    one = sym (ap (λ (z : Planned). z .keeping) w) ∙ k
+
+    go : (x : Answer Plan) → plan deck ≡ x → (p : Plan) × (plan deck ≡ fine p) × (planAnswer (plan deck) .keeping ≡ 1)
+    go (fine p) e = (p, e, one)
+    go (refuse q) e = let z : _≡_ {A = ℕ} 0 1 = sym (ap (λ (x : Answer Plan). planAnswer x .keeping) e) ∙ one in absurd (omega arith)
+
+-- a run that is not refused is finished, its reel stands at the front of the lent output, and its records are counted
+pub finished-run : (deck reel before : List ℕ) (r : Ran) (after : List ℕ) → All Byte reel → RanInto deck reel before r after → r .refusal ≡ 0
+    → (x : RuleRan) × (run (length before) deck reel ≡ fine x) × (reelIn r after ≡ x .reel) × (r .records ≡ x .records)
+unfolding run
+finished-run deck reel before r after a w z = go (run (length before) deck reel) refl
+  where
+    go : (y : Answer RuleRan) → run (length before) deck reel ≡ y → (x : RuleRan) × (run (length before) deck reel ≡ fine x) × (reelIn r after ≡ x .reel) × (r .records ≡ x .records)
+    go (refuse q) d = absurd (run-never-0 zoneF (length before) deck reel a q d (sym (ap (λ (n : Ran). n .refusal) (w .answer ∙ ap (λ (y : Answer RuleRan). ranOf (runAnswer y)) d)) ∙ z))
+    go (fine x) d =
+        let is : r ≡ ranOf (runAnswer (fine x)) = w .answer ∙ ap (λ (y : Answer RuleRan). ranOf (runAnswer y)) d in
+        let out : after ≡ outputAfter before (fine x) = w .output ∙ ap (outputAfter before) d in (
+          x,
+          d,
+          ap (λ (n : ℕ). take n after) (ap (λ (n : Ran). n .length) is) ∙ ap (take (length (x .reel))) out ∙ take-at (x .reel) (drop (length (x .reel)) before) (length (x .reel)) refl,
+          ap (λ (n : Ran). n .records) is,
+        )
+
+-- ---- demand 3 and the run
+
+-- of both reels these records, and no others, are taken; there are as many as either run counted
+pub record SameTaken (deck s s′ : List ℕ) (r r′ : Ran) : Type 0 where
+  pub p : Plan
+  pub planned : plan deck ≡ fine p
+  pub records : List (List ℕ)
+  pub takes : Takes p s records
+  pub takes′ : Takes p s′ records
+  pub only : (rs : List (List ℕ)) → Takes p s rs → rs ≡ records
+  pub only′ : (rs : List (List ℕ)) → Takes p s′ rs → rs ≡ records
+  pub many : r .records ≡ length records
+  pub many′ : r′ .records ≡ length records
+
+module _ (deck : List ℕ) (n : Planned) (planned : PlanOf deck n) (keeping : n .keeping ≡ 1) (s s′ before before′ : List ℕ) (a : All Byte s) (a′ : All Byte s′) (r r′ : Ran) (after after′ : List ℕ)
+    (w : RanInto deck s before r after) (w′ : RanInto deck s′ before′ r′ after′) where
+  -- marked as keeping: two runs that are not refused and write the same reel took the same records, in the same order, and so as many
+  pub same-records : r .refusal ≡ 0 → r′ .refusal ≡ 0 → reelIn r after ≡ reelIn r′ after′ → SameTaken deck s s′ r r′
+  unfolding plan run
+  same-records z z′ e =
+      let q = keeping-plan deck n planned keeping in
+      let x = finished-run deck s before r after a w z in
+      let x′ = finished-run deck s′ before′ r′ after′ a′ w′ z′ in
+      let t = took zoneF deck (q .0) (q .1) (length before) s (x .0) a (x .1) in
+      let t′ = took zoneF deck (q .0) (q .1) (length before′) s′ (x′ .0) a′ (x′ .1) in
+      let same : t′ .records ≡ t .records =
+      sym (same-taken zoneF deck (q .0) (q .1) (omega arith) (q .2) (length before) (length before′) s s′ a a′ (x .0) (x′ .0) (x .1) (x′ .1) (sym (x .2) ∙ e ∙ x′ .2) (t .records) (t′ .records) (t .takes) (t′ .takes)) in
+      record {
+        p = q .0;
+        planned = q .1;
+        records = t .records;
+        takes = t .takes;
+        takes′ = subst (Takes (q .0) s′) same (t′ .takes);
+        only = t .only;
+        only′ = λ rs u. t′ .only rs u ∙ same;
+        many = x .3 ∙ t .many;
+        many′ = x′ .3 ∙ t′ .many ∙ ap length same;
+      }
+
+  -- so where a record taken differs, a run is refused, or the reels that are written differ
+  pub told-apart : (p : Plan) → plan deck ≡ fine p → (rs rs′ : List (List ℕ)) → Takes p s rs → Takes p s′ rs′ → (rs ≡ rs′ → ⊥)
+      → (r .refusal ≡ 0 → ⊥) ⊎ ((r′ .refusal ≡ 0 → ⊥) ⊎ (reelIn r after ≡ reelIn r′ after′ → ⊥))
+  told-apart p e rs rs′ t t′ o = go (eqb (r .refusal) 0) refl (eqb (r′ .refusal) 0) refl
+    where
+      told : r .refusal ≡ 0 → r′ .refusal ≡ 0 → reelIn r after ≡ reelIn r′ after′ → ⊥
+      told z z′ d =
+          let v = same-records z z′ d in
+          let is : p ≡ v .p = fine-same p (v .p) (sym e ∙ v .planned) in
+          o (v .only rs (subst (λ (x : Plan). Takes x s rs) is t) ∙ sym (v .only′ rs′ (subst (λ (x : Plan). Takes x s′ rs′) is t′)))
+
+      go : (b : Bool) → eqb (r .refusal) 0 ≡ b → (b′ : Bool) → eqb (r′ .refusal) 0 ≡ b′ → (r .refusal ≡ 0 → ⊥) ⊎ ((r′ .refusal ≡ 0 → ⊥) ⊎ (reelIn r after ≡ reelIn r′ after′ → ⊥))
+      go false z b′ z′ = inl (eqb-false (r .refusal) 0 z)
+      go true z false z′ = inr (inl (eqb-false (r′ .refusal) 0 z′))
+      go true z true z′ = inr (inr (told (eqb-true (r .refusal) 0 z) (eqb-true (r′ .refusal) 0 z′)))
