@@ -1,16 +1,13 @@
 -- The turns are counted down, so the loop ends.
 use native.Mathlib.Omega.{arith}
-use Rattle.plan_deck.proofs.feed_all.Statement.{statement}
-use Rattle.plan_deck.proofs.feed_all.Tie as tie
-use Rattle.plan_deck.proofs.feed_all.Reads as reads
-use Rattle.plan_deck.proofs.feed_all.Lts as lts
-use Rattle.plan_deck.proofs.feed.Reads as feed-reads
+use Rattle.inputs.proofs.feed_all.Statement.{statement}
+use Rattle.inputs.proofs.feed_all.Tie as tie
 
 abbrev Inv-loop : tie.InvT-loop
-Inv-loop now₀ turns₀ now turns = Unit {0}
+Inv-loop fd fed₀ turns₀ fed turns = Unit {0}
 
 abbrev μ-loop : tie.MeasureT-loop
-μ-loop now₀ turns₀ now turns = turns
+μ-loop fd fed₀ turns₀ fed turns = turns
 
 loop-holds : tie.Need-loop-holds Inv-loop μ-loop
 loop-holds c = tt

@@ -1,0 +1,69 @@
+-- What was read lies within the room, which keeps its length; the room that is left falls at each read that brings a byte.
+use Prim.Native.Nat.{_≤_, _-_}
+use mathlib.Core.Path.{_≡_}
+use lib.ListN.{length}
+use borrow.Author.Needs.{needs}
+use Rattle.io.proofs.Counting.{counts}
+use Rattle.inputs.proofs.fill.Statement.{statement}
+use Rattle.inputs.proofs.fill.Tie as tie
+
+abbrev Inv-loop : tie.InvT-loop
+Inv-loop fd room₀ at₀ room at = (at ≤ length room) × (length room ≡ length room₀)
+
+abbrev μ-loop : tie.MeasureT-loop
+μ-loop fd room₀ at₀ room at = length room₀ - at
+
+loop-holds : tie.Need-loop-holds Inv-loop μ-loop
+loop-holds c = search needs
+
+sub-some : tie.Need-sub-some Inv-loop μ-loop
+sub-some c = search needs
+
+part-some-start : tie.Need-part-some-start Inv-loop μ-loop
+part-some-start c = search needs
+
+part-some-end : tie.Need-part-some-end Inv-loop μ-loop
+part-some-end c = search needs
+
+some-requires : tie.Need-some-requires Inv-loop μ-loop
+some-requires c κs = tt
+
+same-length : tie.Need-same-length Inv-loop μ-loop
+same-length c = search needs
+
+returns : tie.Need-returns Inv-loop μ-loop
+returns c = counts _ _ (search needs)
+
+add-at : tie.Need-add-at Inv-loop μ-loop
+add-at c = search needs
+
+loop-less : tie.Need-loop-less Inv-loop μ-loop
+loop-less c = search needs
+
+loop-again : tie.Need-loop-again Inv-loop μ-loop
+loop-again c = search needs
+
+same-length-2 : tie.Need-same-length-2 Inv-loop μ-loop
+same-length-2 c = search needs
+
+returns-2 : tie.Need-returns-2 Inv-loop μ-loop
+returns-2 c = counts _ _ (search needs)
+
+pub fill-spec : {M : Type 1} → statement M
+fill-spec =
+    tie.close
+    (tie.spec
+    Inv-loop
+    μ-loop
+    loop-holds
+    sub-some
+    part-some-start
+    part-some-end
+    some-requires
+    same-length
+    returns
+    add-at
+    loop-less
+    loop-again
+    same-length-2
+    returns-2)

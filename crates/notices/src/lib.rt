@@ -1,0 +1,69 @@
+// What programs tell people: the line of numbers on standard output, and in plain words on standard error what was refused, where, and
+// what to look at, or what a plan loses. The words of refusals 1 to 10 stand in `deck`, those of 11 to 15 in `reel`.
+mod deck;
+mod reel;
+
+use libc::STDERR_FILENO;
+use libc::STDOUT_FILENO;
+
+// Words on standard error.
+pub fn say(text: &[u8]) {
+    io::write_all(STDERR_FILENO, text);
+}
+
+fn number(n: usize) {
+    io::print_decimal(STDERR_FILENO, n as u64);
+}
+
+// The numbers on standard output, with a blank between.
+pub fn line(numbers: &[usize]) {
+    let mut i = 0;
+    while i < numbers.len() {
+        if i > 0 {
+            io::write_all(STDOUT_FILENO, b" ");
+        }
+        io::print_decimal(STDOUT_FILENO, numbers[i] as u64);
+        i += 1;
+    }
+    if !io::write_all(STDOUT_FILENO, b"\n") {
+        os::fail(b"standard output");
+    }
+}
+
+// Half 2i is the high half of data byte i, from 0; people count bytes from 1.
+fn half(place: usize) {
+    say(b"half byte ");
+    number(place);
+    if place % 2 == 0 {
+        say(b", the high half of byte ");
+    } else {
+        say(b", the low half of byte ");
+    }
+    number(place / 2 + 1);
+    say(b" of the input record");
+}
+
+// A refusal, by its number and its place.
+pub fn refused(refusal: usize, place: usize) {
+    say(b"refused by ");
+    number(refusal);
+    if refusal < 11 {
+        deck::explain(refusal, place);
+    } else {
+        reel::explain(refusal, place);
+    }
+    say(b"\n");
+}
+
+// What a plan loses: a half byte of the first n bytes, or the tail, whose place is 2n.
+pub fn lost(n: usize, place: usize) {
+    say(b"the plan loses: ");
+    if place / 2 == n {
+        say(b"the tail, all data past the first ");
+        number(n);
+        say(b" bytes, is dropped; records that differ only there become alike\n");
+        return;
+    }
+    half(place);
+    say(b", is not in the output; records that differ only there become alike\n");
+}
