@@ -1,0 +1,24 @@
+-- The reel of a finished run lies within the output that was lent: that output now begins with it.
+use mathlib.Core.Path.{_≡_, ap, _∙_}
+use mathlib.Core.List.{List, _++_}
+use Prim.Native.Nat.{ℕ, _+_, _≤_, zero-le}
+use native.Mathlib.Omega.{arith}
+use lib.ListN.{length, drop, length-append}
+use Rattle.rules.specs.Answer.{Answer, fine, refuse}
+use Rattle.rules.specs.Run.{Ran as RuleRan}
+use Rattle.rules.specs.Lent.{run, runAnswer, outputAfter}
+use Rattle.bhexodana.specs.Promise.{ranOf}
+use Rattle.bhexodana.specs.declared.Ran.{Ran}
+
+within : (x : Answer RuleRan) (lent out : List ℕ) → out ≡ outputAfter lent x → runAnswer x .reelLength ≤ length out
+within (fine x) lent out e =
+    let h : length out ≡ length (x .reel) + length (drop (length (x .reel)) lent)
+    = ap length e ∙ length-append (x .reel) (drop (length (x .reel)) lent) in
+    omega (arith, h)
+within (refuse r) lent out e = zero-le
+
+pub reel-within : (room : ℕ) (deck s lent out : List ℕ) (ran : Ran) →
+    ran ≡ ranOf (runAnswer (run room deck s)) → out ≡ outputAfter lent (run room deck s) → ran .length ≤ length out
+reel-within room deck s lent out ran e o =
+    let h : ran .length ≡ runAnswer (run room deck s) .reelLength = ap (λ (r : Ran). r .length) e in
+    omega (arith, h, within (run room deck s) lent out o)

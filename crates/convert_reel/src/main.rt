@@ -1,0 +1,74 @@
+// Converts a reel as a deck asks: convert_reel DECK REEL OUT. Prints one line: refusal, place, length, records, blocks. OUT is written only
+// where the run is finished. What is refused, and a file that cannot be read or written, is said in plain words on standard error; such a
+// file gives no line.
+mod given;
+mod output;
+
+ghost use mathlib.Core.Path.{_≡_};
+ghost use lib.ListN.{length};
+
+// Room for one byte more than the longest reel has: a file that fills it is no reel, whatever follows.
+fn reel_room() -> [u8; 65537]
+    ensures { λ r. ⌜ 65537 ≡ length r ⌝ }
+{
+    [0; 65537]
+}
+
+fn refused(refusal: usize, place: usize) {
+    notices::line(&[refusal, place, 0, 0, 0]);
+    notices::refused(refusal, place);
+}
+
+// The room is the longest reel's: a longer output is refused in any room.
+fn convert(deck: &[u8], reel: &[u8], out: &[u8]) {
+    let mut room = io::large_buffer();
+    let ran = bhexodana::bhx_run(deck, reel, &mut room);
+    if ran.refusal != 0 {
+        refused(ran.refusal, ran.place);
+        return;
+    }
+    let n = ran.length;
+    if output::write(out, &room[..n]) {
+        notices::line(&[0, 0, n, ran.records, ran.blocks]);
+    }
+}
+
+fn convert_files(deck: &[u8], reel: &[u8], out: &[u8]) {
+    let mut cards = io::large_buffer();
+    let read = given::deck(deck, &mut cards);
+    if read.failed {
+        return;
+    }
+    let mut blocks = reel_room();
+    let filled = given::reel(reel, &mut blocks);
+    if filled.failed {
+        return;
+    }
+    if read.refusal != 0 {
+        refused(read.refusal, read.place);
+        return;
+    }
+    let n = read.length;
+    let m = filled.length;
+    convert(&cards[..n], &blocks[..m], out);
+}
+
+fn convert_named() {
+    let mut deck = io::buffer();
+    let n = given::name(1, &mut deck);
+    let mut reel = io::buffer();
+    let m = given::name(2, &mut reel);
+    let mut out = io::buffer();
+    let k = given::name(3, &mut out);
+    if n > 0 && m > 0 && k > 0 {
+        convert_files(&deck[..n], &reel[..m], &out[..k]);
+    }
+}
+
+fn main() {
+    if os::arg_count() == 4 {
+        convert_named();
+        return;
+    }
+    notices::say(b"usage: convert_reel DECK REEL OUT\n");
+}

@@ -1,0 +1,89 @@
+// Writes a file so that no half-written one ever has its name: beside it first, under a name of this process's own, and then renamed. What
+// fails is said on standard error.
+ghost use Prim.Native.Nat.{_≤_};
+ghost use lib.ListN.{length};
+ghost use Rattle.io.specs.Counts.{Counts};
+
+// Puts the text into the room from a place on, as much of it as goes in, and answers where it ends.
+fn put(room: &mut [u8], from: usize, text: &[u8]) -> usize
+    requires { ⌜ from ≤ length (now room) ⌝ }
+    ensures { λ r. ⌜ Counts r (now (room .exit)) ⌝ }
+{
+    let mut i = 0;
+    while i < text.len() {
+        if room.len() <= from + i {
+            break;
+        }
+        room[from + i] = text[i];
+        i += 1;
+    }
+    from + i
+}
+
+fn process() -> u64 {
+    let number = libc::getpid();
+    if number < 0 {
+        return 0;
+    }
+    number as u64
+}
+
+// Puts the name of the part that is written first into the room: the file's, this process's number and `part`. A name that fills the room
+// is longer than any that a file may have.
+fn part_name(path: &[u8], room: &mut [u8]) -> usize
+    ensures { λ r. ⌜ Counts r (now (room .exit)) ⌝ }
+{
+    let mut digits = [0u8; 20];
+    let n = io::decimal(process(), &mut digits);
+    let named = put(room, 0, path);
+    let dotted = put(room, named, b".");
+    let numbered = put(room, dotted, &digits[..n]);
+    put(room, numbered, b".part")
+}
+
+// Whether all bytes are in the file, on its device, and the file is closed.
+fn fill(fd: i32, bytes: &[u8], path: &[u8]) -> bool {
+    let mut filled = io::write_all(fd, bytes);
+    if filled {
+        filled = libc::fsync(fd) == 0;
+    }
+    if !filled {
+        os::fail(path);
+        libc::close(fd);
+        return false;
+    }
+    if libc::close(fd) != 0 {
+        os::fail(path);
+        return false;
+    }
+    true
+}
+
+// Whether the part, which is open, is filled and has taken the file's name. Otherwise it is gone.
+fn complete(fd: i32, part: &[u8], bytes: &[u8], path: &[u8]) -> bool {
+    let filled = fill(fd, bytes, path);
+    if filled {
+        if os::rename(part, path) == 0 {
+            return true;
+        }
+        os::fail(path);
+    }
+    os::unlink(part);
+    false
+}
+
+// Whether the file now holds these bytes. Otherwise what had its name still has it.
+pub fn write(path: &[u8], bytes: &[u8]) -> bool {
+    let mut room = io::buffer();
+    let n = part_name(path, &mut room);
+    let fd = os::create(&room[..n]);
+    if fd >= 0 {
+        return complete(fd, &room[..n], bytes, path);
+    }
+    if os::errno() == libc::EEXIST {
+        os::fail(&room[..n]);
+    } else {
+        os::fail(path);
+    }
+    false
+}
