@@ -1,5 +1,6 @@
 // What programs read: a deck of any length, and a reel, from a descriptor. A read that failed is told apart from the end of a file.
 ghost use Rattle.io.specs.Counts.{Counts};
+ghost use Rattle.inputs.specs.Reading.{Went, Judged, DeckSays};
 use lines::OrderRead;
 use lines::Scanner;
 
@@ -48,7 +49,9 @@ struct Fed {
     failed: bool,
 }
 
-fn feed(fd: i32, state: Scanner) -> Fed {
+fn feed(fd: i32, state: Scanner) -> Fed
+    ensures { λ r. ⌜ Went state (r .state) ⌝ }
+{
     let mut room = io::large_buffer();
     let read = fill(fd, &mut room);
     let n = read.length;
@@ -60,7 +63,9 @@ fn feed(fd: i32, state: Scanner) -> Fed {
 }
 
 // A proved loop has to end, and nothing says that the input does: it counts its turns down, from a number that no run uses up.
-fn feed_all(fd: i32, state: Scanner) -> Fed {
+fn feed_all(fd: i32, state: Scanner) -> Fed
+    ensures { λ r. ⌜ Went state (r .state) ⌝ }
+{
     let mut fed = Fed {
         state,
         more: true,
@@ -90,6 +95,7 @@ pub struct DeckRead {
 // scanner finds whatever its length; that its cards are in order does not arise.
 fn longer(fd: i32, room: &[u8; 65536]) -> DeckRead
     ensures { λ r. ⌜ Counts (r .length) (now (room .entry)) ⌝ }
+    ensures { λ r. ⌜ Judged (now (room .entry)) r ⌝ }
 {
     let fed = feed_all(fd, lines::scan(lines::begin(), room));
     let state = fed.state;
@@ -113,6 +119,7 @@ fn longer(fd: i32, room: &[u8; 65536]) -> DeckRead
 // A deck of any length.
 pub fn deck(fd: i32, room: &mut [u8; 65536]) -> DeckRead
     ensures { λ r. ⌜ Counts (r .length) (now (room .exit)) ⌝ }
+    ensures { λ r. ⌜ DeckSays (now (room .exit)) r ⌝ }
 {
     let read = fill(fd, room);
     if read.length == 65536 {

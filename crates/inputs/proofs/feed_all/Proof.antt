@@ -1,22 +1,26 @@
--- The turns are counted down, so the loop ends.
+-- The turns are counted down, so the loop ends. Each turn goes on where the last one stopped.
+use mathlib.Core.Path.{refl}
+use mathlib.Core.List.{[]}
 use native.Mathlib.Omega.{arith}
+use Rattle.inputs.specs.Reading.{Went}
+use Rattle.inputs.proofs.ReadingLaws.{further}
 use Rattle.inputs.proofs.feed_all.Statement.{statement}
 use Rattle.inputs.proofs.feed_all.Tie as tie
 
 abbrev Inv-loop : tie.InvT-loop
-Inv-loop fd fed₀ turns₀ fed turns = Unit {0}
+Inv-loop fd fed₀ turns₀ fed turns = Went (fed₀ .state) (fed .state)
 
 abbrev μ-loop : tie.MeasureT-loop
 μ-loop fd fed₀ turns₀ fed turns = turns
 
 loop-holds : tie.Need-loop-holds Inv-loop μ-loop
-loop-holds c = tt
+loop-holds c = ([], refl)
 
 feed-requires : tie.Need-feed-requires Inv-loop μ-loop
 feed-requires c κs = tt
 
 returns : tie.Need-returns Inv-loop μ-loop
-returns c = tt
+returns c = further _ _ _ (c .before .before .before .before .before .loop .inv) (c .before .before .feed .ensures)
 
 sub-turns : tie.Need-sub-turns Inv-loop μ-loop
 sub-turns c = omega arith
@@ -25,10 +29,10 @@ loop-less : tie.Need-loop-less Inv-loop μ-loop
 loop-less c = omega arith
 
 loop-again : tie.Need-loop-again Inv-loop μ-loop
-loop-again c = tt
+loop-again c = further _ _ _ (c .before .before .before .before .before .loop .inv) (c .before .before .feed .ensures)
 
 returns-2 : tie.Need-returns-2 Inv-loop μ-loop
-returns-2 c = tt
+returns-2 c = c .before .loop .inv
 
 pub feed-all-spec : {M : Type 1} → statement M
 feed-all-spec =

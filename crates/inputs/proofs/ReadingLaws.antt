@@ -1,0 +1,24 @@
+-- A scan that goes on where another stopped is one scan of both pieces.
+use mathlib.Core.Path.{_≡_, ap, sym, _∙_}
+use mathlib.Core.List.{List, _++_}
+use Prim.Native.Nat.{ℕ}
+use Rattle.lines.specs.Scanning.{start, scanFrom, scannedOf}
+use Rattle.lines.specs.declared.Scanner.{Scanner}
+use Rattle.lines.specs.declared.OrderRead.{OrderRead}
+use Rattle.lines.proofs.DeckLaws.{scan-pieces}
+use Rattle.inputs.specs.Reading.{Went, numberOf, placeOf}
+
+pub further : (first now next : Scanner) → Went first now → Went now next → Went first next
+further first now next a b = (a .0 ++ b .0, b .1 ∙ ap (λ (s : Scanner). scanFrom s (b .0)) (a .1) ∙ scan-pieces first (a .0) (b .0))
+
+-- the first bytes, and then what more was read: what the scan of it all comes to
+pub all-scanned : (bytes : List ℕ) (none begun fed : Scanner) (read case : OrderRead) →
+    none ≡ start → begun ≡ scanFrom none bytes → Went begun fed → read ≡ scannedOf fed → read ≡ case →
+    (rest : List ℕ) ×
+    (numberOf case ≡ numberOf (scannedOf (scanFrom start (bytes ++ rest)))) × (placeOf case ≡ placeOf (scannedOf (scanFrom start (bytes ++ rest))))
+all-scanned bytes none begun fed read case n b w r k =
+    let whole : case ≡ scannedOf (scanFrom start (bytes ++ w .0))
+    = sym k ∙
+    r ∙
+    ap scannedOf (w .1 ∙ ap (λ (s : Scanner). scanFrom s (w .0)) (b ∙ ap (λ (s : Scanner). scanFrom s bytes) n) ∙ scan-pieces start bytes (w .0)) in
+    (w .0, ap numberOf whole, ap placeOf whole)
