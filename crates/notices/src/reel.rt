@@ -2,20 +2,37 @@
 use crate::number;
 use crate::say;
 
-// A block, a record. Refusal 11 has no place, and the place of 15 is a length.
-fn where_it_is(refusal: usize, place: usize) {
-    if refusal == 12 {
-        say(b", at block ");
-    } else {
-        say(b", at record ");
-    }
-    number(place);
-    say(b" of the input");
-}
-
 fn not_a_reel() {
     say(
-        b": the file is no reel: a block count, the offset of each block and of the reel's end, each a number of 4 bytes, and then the blocks; at most 65,536 bytes",
+        b": the file is no reel: a block count, the offset of each block and of the reel's end, each a big-endian number of 4 bytes, and then the blocks; at most 65,536 bytes",
+    );
+}
+
+fn bad_block(place: usize) {
+    say(b", at block ");
+    number(place);
+    say(b" of the input: this block is not one that the U card's F and A allow: ");
+    say(
+        b"in FF a multiple of n bytes, at most m, and m itself unless it is the last; in FU at most g; ",
+    );
+    say(
+        b"in FV at most m or g, with its length and that of each record in 2 bytes and 2 zero bytes before, and with fields at least n bytes of data in a record",
+    );
+}
+
+fn bad_record(place: usize) {
+    say(b", at record ");
+    number(place);
+    say(b" of the input: this record has a half byte that a field may not read: ");
+    say(b"to pack, a byte is F and a digit, the last one a sign from A to F and a digit; ");
+    say(b"to unpack, each half byte is a digit, the last one a sign from A to F");
+}
+
+fn no_room(place: usize) {
+    say(b", at record ");
+    number(place);
+    say(
+        b" of the input: the output of this record does not fit a block of B, by itself or, in TF, behind the records before it in its block",
     );
 }
 
@@ -27,27 +44,13 @@ fn too_long(length: usize) {
     );
 }
 
-fn what_it_is(refusal: usize) {
-    match refusal {
-        12 => say(
-            b": this block is not one that F and A of the U card allow; look at its length, and in FV at the words before the block and its records",
-        ),
-        13 => say(
-            b": a half byte of this record is not one that its field may read; look at the zones, digits and signs where the deck packs or unpacks",
-        ),
-        _ => say(
-            b": the output of this record does not fit a block of B, by itself or, in TF, behind the records before it in its block",
-        ),
-    }
-}
-
+// The place is a block or a record. Refusal 11 has none, and that of 15 is a length.
 pub fn explain(refusal: usize, place: usize) {
     match refusal {
         11 => not_a_reel(),
-        15 => too_long(place),
-        _ => {
-            where_it_is(refusal, place);
-            what_it_is(refusal);
-        }
+        12 => bad_block(place),
+        13 => bad_record(place),
+        14 => no_room(place),
+        _ => too_long(place),
     }
 }
