@@ -72,8 +72,8 @@ fn complete(fd: i32, part: &[u8], bytes: &[u8], path: &[u8]) -> bool {
     false
 }
 
-// Whether the file now holds these bytes. Otherwise what had its name still has it.
-pub fn write(path: &[u8], bytes: &[u8]) -> bool {
+// Makes the part, fills it and renames it.
+fn replace(path: &[u8], bytes: &[u8]) -> bool {
     let mut room = io::buffer();
     let n = part_name(path, &mut room);
     let fd = os::create(&room[..n]);
@@ -86,4 +86,26 @@ pub fn write(path: &[u8], bytes: &[u8]) -> bool {
         os::fail(path);
     }
     false
+}
+
+// Whether a device or a pipe has the name, from which a rename would take it: `fsync` refuses these as invalid. What cannot be opened is left
+// to the rename.
+fn is_special(path: &[u8]) -> bool {
+    let fd = os::open_update(path);
+    if fd < 0 {
+        return false;
+    }
+    let special = libc::fsync(fd) != 0 && os::errno() == libc::EINVAL;
+    libc::close(fd);
+    special
+}
+
+// Whether the file now holds these bytes. Otherwise what had its name still has it.
+pub fn write(path: &[u8], bytes: &[u8]) -> bool {
+    if is_special(path) {
+        notices::say(path);
+        notices::say(b": is a device or a pipe, and no file takes its place\n");
+        return false;
+    }
+    replace(path, bytes)
 }
