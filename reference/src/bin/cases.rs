@@ -1,4 +1,6 @@
-//! Random cases with their answers: `cases SEED COUNT KIND [--tally] [--large]`.
+//! Random cases with their answers: `cases SEED COUNT KIND [--tally] [--large] [--ask]`.
+//!
+//! With `--ask` a line is a case for the program `answers`, its name before it and no answer.
 
 #[path = "../cases/aim.rs"]
 mod aim;
@@ -21,12 +23,16 @@ use std::io::Write;
 use chance::Chance;
 use reference::{pack, plan, plan_into, run, unpack, Entry};
 
-/// A line of output, the refusal number in it, and what it shows.
+/// What is asked, what is answered, the refusal number in it, and what it shows.
 struct Case {
-    line: String,
+    asked: String,
+    answered: String,
     refusal: usize,
     marks: Vec<&'static str>,
 }
+
+/// The most room that a case of the program `answers` may lend.
+const MOST_ROOM: usize = 70_000;
 
 fn hex(bytes: &[u8]) -> String {
     if bytes.is_empty() {
@@ -62,11 +68,12 @@ fn plan_case(chance: &mut Chance, aim: usize, large: bool) -> Case {
     };
     let lent = entries.map_or("-".to_string(), |count| count.to_string());
     let reference::Planned { refusal, place, keeping, lost, fields } = planned;
-    let line = format!("{} {lent} {refusal} {place} {keeping} {lost} {fields}", hex(&deck));
+    let asked = format!("{} {lent}", hex(&deck));
+    let answered = format!("{refusal} {place} {keeping} {lost} {fields}");
     let mut marks = aim::marks(&deck);
     marks.extend((refusal == 0).then_some(if keeping == 1 { "keeps" } else { "loses" }));
     marks.extend(aim::heavy(&deck).then_some("heavy"));
-    Case { line, refusal, marks }
+    Case { asked, answered, refusal, marks }
 }
 
 /// A deck and a reel for a run.
@@ -81,17 +88,17 @@ fn deck_and_reel(chance: &mut Chance, aim: usize) -> (Vec<u8>, Vec<u8>) {
 
 fn run_case(chance: &mut Chance, aim: usize, large: bool) -> Case {
     let (deck, reel) = if large { large::case(chance) } else { deck_and_reel(chance, aim) };
-    let room = aim::room(chance, &deck, &reel, aim);
+    let room = aim::room(chance, &deck, &reel, aim).min(MOST_ROOM);
     let ran = run(&deck, &reel, room);
     let answers = [ran.refusal, ran.place, ran.length, ran.records, ran.blocks];
     let numbers: Vec<String> = answers.iter().map(usize::to_string).collect();
-    let line =
-        format!("{} {} {room} {} {}", hex(&deck), hex(&reel), numbers.join(" "), hex(&ran.reel));
+    let asked = format!("{} {} {room}", hex(&deck), hex(&reel));
+    let answered = format!("{} {}", numbers.join(" "), hex(&ran.reel));
     let mut marks = if ran.refusal == 0 { aim::marks(&deck) } else { vec![] };
     marks.extend((ran.refusal == 0 && ran.records == 0).then_some("empty output"));
     marks.extend((ran.refusal == 0 && ran.records > 1).then_some("two records or more"));
     marks.extend((aim::heavy(&deck) || reel.len() > 400).then_some("heavy"));
-    Case { line, refusal: ran.refusal, marks }
+    Case { asked, answered, refusal: ran.refusal, marks }
 }
 
 fn half_case(chance: &mut Chance) -> Case {
@@ -107,7 +114,8 @@ fn half_case(chance: &mut Chance) -> Case {
         src[n - 1] = if packs { 0xC0 | src[n - 1] & 15 } else { src[n - 1] & 0xF0 | 0x0D };
     }
     let (name, out) = if packs { ("pack", pack(&src, m)) } else { ("unpack", unpack(&src, m)) };
-    Case { line: format!("{name} {} {m} {}", hex(&src), hex(&out)), refusal: 0, marks: vec![name] }
+    let asked = format!("{name} {} {m}", hex(&src));
+    Case { asked, answered: hex(&out), refusal: 0, marks: vec![name] }
 }
 
 /// The aims of a kind, as often as they are wanted.
@@ -144,6 +152,14 @@ fn case(chance: &mut Chance, kind: &str, large: bool) -> Case {
     }
 }
 
+/// A case with its answer, or, where it has a number, as the program `answers` reads it.
+fn line(case: &Case, kind: &str, number: Option<usize>) -> String {
+    match number {
+        None => format!("{} {}", case.asked, case.answered),
+        Some(number) => format!("{kind}-{number} {kind} {}", case.asked),
+    }
+}
+
 fn tally(counts: &BTreeMap<usize, usize>, marks: &BTreeMap<&str, usize>) {
     for (refusal, count) in counts {
         eprintln!("refusal {refusal}: {count}");
@@ -159,22 +175,23 @@ fn main() {
     let numbers = (plain.first().and_then(|s| s.parse().ok()), plain.get(1).and_then(|s| s.parse().ok()));
     let kind = plain.get(2).map_or("", String::as_str);
     let ((Some(seed), Some(count)), "plan" | "run" | "half") = (numbers, kind) else {
-        eprintln!("cases SEED COUNT plan|run|half [--tally] [--large]");
+        eprintln!("cases SEED COUNT plan|run|half [--tally] [--large] [--ask]");
         std::process::exit(2);
     };
     let count: usize = count;
     let mut chance = Chance::new(seed);
     let (mut counts, mut marks) = (BTreeMap::new(), BTreeMap::new());
     let mut out = std::io::BufWriter::new(std::io::stdout().lock());
-    for _ in 0..count {
-        let case = case(&mut chance, kind, flags.iter().any(|flag| flag == "--large"));
+    let flag = |name: &str| flags.iter().any(|flag| flag == name);
+    for number in 1..=count {
+        let case = case(&mut chance, kind, flag("--large"));
         *counts.entry(case.refusal).or_insert(0) += 1;
         case.marks.iter().for_each(|mark| *marks.entry(*mark).or_insert(0) += 1);
-        if writeln!(out, "{}", case.line).is_err() {
+        if writeln!(out, "{}", line(&case, kind, flag("--ask").then_some(number))).is_err() {
             return;
         }
     }
-    if flags.iter().any(|flag| flag == "--tally") {
+    if flag("--tally") {
         tally(&counts, &marks);
     }
 }

@@ -1,40 +1,21 @@
 //! The expected lines of case files: `expect FILE..`, one line for each case.
 //!
-//! A case is `NAME half pack|unpack SRC M`, `NAME deck DECK` or `NAME reel DECK REEL`; bytes are
-//! hex, or `xCOUNT:HH` for COUNT bytes HH, joined by `+`, and `-` for none; `#` starts a comment.
+//! A case is `NAME half pack|unpack SRC M`, `NAME deck DECK`, `NAME reel DECK REEL`,
+//! `NAME plan DECK ENTRIES` or `NAME run DECK REEL ROOM`; bytes are hex, or `xCOUNT:HH` for COUNT
+//! bytes HH, joined by `+`, and `-` for none; `#` starts a comment.
 
-use reference::grammar::{Field, Format, Item, Mode, Sizes, Step};
-use reference::limits::{items, Asked};
+#[path = "../expect/asked.rs"]
+mod asked;
+#[path = "../expect/lent.rs"]
+mod lent;
+#[path = "../expect/text.rs"]
+mod text;
+
+use asked::{asked, said};
+use lent::{plan_line, run_line};
 use reference::plan::accepted;
-use reference::{blocks, deck, grammar, limits, pack, reel, unpack, Refused};
-
-/// The byte of two hex digits.
-fn byte(digits: &str) -> u8 {
-    u8::from_str_radix(digits, 16).expect("two hex digits")
-}
-
-/// The bytes of one part: `-`, `xCOUNT:HH` or hex.
-fn part(text: &str) -> Vec<u8> {
-    if text == "-" {
-        return Vec::new();
-    }
-    if let Some(repeated) = text.strip_prefix('x') {
-        let (count, digits) = repeated.split_once(':').expect("xCOUNT:HH");
-        return vec![byte(digits); count.parse().expect("a count")];
-    }
-    (0..text.len() / 2).map(|i| byte(&text[2 * i..2 * i + 2])).collect()
-}
-
-fn bytes(text: &str) -> Vec<u8> {
-    text.split('+').flat_map(part).collect()
-}
-
-fn hex(bytes: &[u8]) -> String {
-    if bytes.is_empty() {
-        return "-".to_string();
-    }
-    bytes.iter().map(|byte| format!("{byte:02X}")).collect()
-}
+use reference::{blocks, pack, reel, unpack, Refused};
+use text::{bytes, hex};
 
 /// What is left in M bytes of hex 5A; sizes that no field has (1 to 16) change nothing.
 fn half(step: &str, src: &[u8], m: usize) -> String {
@@ -47,53 +28,6 @@ fn half(step: &str, src: &[u8], m: usize) -> String {
         "unpack" => hex(&unpack(src, m)),
         _ => panic!("neither pack nor unpack: {step}"),
     }
-}
-
-/// What a deck asks for, or one of the refusals 1 to 7.
-fn asked(text: &[u8]) -> Result<Asked, Refused> {
-    let cards = deck::read(text)?;
-    limits::read(grammar::read(&cards)?)
-}
-
-fn sizes(name: &str, sizes: Sizes) -> String {
-    match sizes {
-        Sizes::One(g) => format!("{name}={g}"),
-        Sizes::Two(n, m) => format!("{name}={n},{m}"),
-    }
-}
-
-fn field(card: usize, field: Field) -> String {
-    let letter = match field.step {
-        Step::Copy => 'C',
-        Step::Pack => 'P',
-        Step::Unpack => 'U',
-    };
-    let Field { r, input, output, t, .. } = field;
-    format!(" {letter}:{r},{input},{output},{t}@{card}")
-}
-
-fn said(asked: &Asked) -> String {
-    let mode = match asked.mode {
-        Mode::TC => "TC",
-        Mode::TF => "TF",
-        Mode::TR => "TR",
-        Mode::TRF => "TRF",
-    };
-    let format = match asked.format {
-        Format::FF => "FF",
-        Format::FV => "FV",
-        Format::FU => "FU",
-    };
-    let cv = items(&asked.fs).find(|(_, item)| *item == Item::CV).map_or(0, |(card, _)| card);
-    let fields: Vec<String> = items(&asked.fs)
-        .filter_map(|(card, item)| match item {
-            Item::Field(one) => Some(field(card, one)),
-            Item::CV => None,
-        })
-        .collect();
-    let (a, b) = (sizes("A", asked.a), sizes("B", asked.b));
-    let (first, fs, count) = (asked.first, asked.fs.len(), fields.len());
-    format!("0 0 {mode} {format} {a} {b} R={first} fs={fs} cv={cv} {count}{}", fields.concat())
 }
 
 fn refused(refused: Refused) -> String {
@@ -123,6 +57,8 @@ fn expected(case: &str) -> String {
         ["half", step, src, m] => half(step, &bytes(src), m.parse().expect("a size")),
         ["deck", text] => asked(&bytes(text)).map_or_else(refused, |asked| said(&asked)),
         ["reel", text, input] => reading(&bytes(text), &bytes(input)).unwrap_or_else(refused),
+        ["plan", text, entries] => plan_line(&bytes(text), entries),
+        ["run", text, input, room] => run_line(&bytes(text), &bytes(input), room.parse().expect("a room")),
         _ => panic!("no case: {case}"),
     };
     format!("{} {answer}", words[0])

@@ -1,0 +1,53 @@
+//! What the cards of a deck ask for, as words of a line.
+
+use reference::grammar::{Field, Format, Item, Mode, Sizes, Step};
+use reference::limits::{items, Asked};
+use reference::{deck, grammar, limits, Refused};
+
+/// What a deck asks for, or one of the refusals 1 to 7.
+pub fn asked(text: &[u8]) -> Result<Asked, Refused> {
+    let cards = deck::read(text)?;
+    limits::read(grammar::read(&cards)?)
+}
+
+fn sizes(name: &str, sizes: Sizes) -> String {
+    match sizes {
+        Sizes::One(g) => format!("{name}={g}"),
+        Sizes::Two(n, m) => format!("{name}={n},{m}"),
+    }
+}
+
+fn field(card: usize, field: Field) -> String {
+    let letter = match field.step {
+        Step::Copy => 'C',
+        Step::Pack => 'P',
+        Step::Unpack => 'U',
+    };
+    let Field { r, input, output, t, .. } = field;
+    format!(" {letter}:{r},{input},{output},{t}@{card}")
+}
+
+/// The words after the name, for a deck that is read.
+pub fn said(asked: &Asked) -> String {
+    let mode = match asked.mode {
+        Mode::TC => "TC",
+        Mode::TF => "TF",
+        Mode::TR => "TR",
+        Mode::TRF => "TRF",
+    };
+    let format = match asked.format {
+        Format::FF => "FF",
+        Format::FV => "FV",
+        Format::FU => "FU",
+    };
+    let cv = items(&asked.fs).find(|(_, item)| *item == Item::CV).map_or(0, |(card, _)| card);
+    let fields: Vec<String> = items(&asked.fs)
+        .filter_map(|(card, item)| match item {
+            Item::Field(one) => Some(field(card, one)),
+            Item::CV => None,
+        })
+        .collect();
+    let (a, b) = (sizes("A", asked.a), sizes("B", asked.b));
+    let (first, fs, count) = (asked.first, asked.fs.len(), fields.len());
+    format!("0 0 {mode} {format} {a} {b} R={first} fs={fs} cv={cv} {count}{}", fields.concat())
+}

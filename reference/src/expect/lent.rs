@@ -1,0 +1,128 @@
+//! Plans and runs that are lent memory: it holds a pattern before the call, and a digest of all of it is told after.
+
+use reference::{plan, plan_into, run, Entry, Planned};
+
+use crate::text::hex;
+
+/// The table that a plan is lent the first entries of.
+const ENTRIES: usize = 70;
+
+/// The output that a run is lent the first bytes of.
+const BYTES: usize = 70_000;
+
+/// The longest reel that is shown whole.
+const SHOWN: usize = 64;
+
+/// The digest of numbers in order: d = (257 d + x + 1) mod 2,147,483,647, from 0.
+fn digest(numbers: impl IntoIterator<Item = usize>) -> usize {
+    numbers.into_iter().fold(0, |d, x| (257 * d + x + 1) % 2_147_483_647)
+}
+
+/// The pattern of a table; no field has such numbers in these places.
+fn table() -> Vec<Entry> {
+    let entry = |i| Entry { step: (i + 7) % 256, r: i + 1000, input: i + 2000, output: i + 3000, t: i + 4000 };
+    (0..ENTRIES).map(entry).collect()
+}
+
+/// The pattern of an output; 251 is prime, so that no row of 4, 8 or 80 bytes repeats it.
+fn output() -> Vec<u8> {
+    (0..BYTES).map(|i| (i % 251) as u8).collect()
+}
+
+fn numbers(entry: &Entry) -> [usize; 5] {
+    [entry.step, entry.r, entry.input, entry.output, entry.t]
+}
+
+fn planned(answer: Planned, digest: &str) -> String {
+    let Planned { refusal, place, keeping, lost, fields } = answer;
+    format!("{refusal} {place} {keeping} {lost} {fields} {digest}")
+}
+
+/// The answer to a deck alone, or with so many entries of the table lent to it.
+pub fn plan_line(deck: &[u8], entries: &str) -> String {
+    if entries == "-" {
+        return planned(plan(deck), "-");
+    }
+    let mut table = table();
+    let count: usize = entries.parse().expect("a number of entries");
+    let answer = plan_into(deck, &mut table[..count]);
+    planned(answer, &digest(table.iter().flat_map(numbers)).to_string())
+}
+
+/// The reel that a finished run wrote, if it is short; nothing was written where it was refused.
+fn shown(refusal: usize, reel: &[u8]) -> String {
+    match (refusal, reel.len()) {
+        (0, ..=SHOWN) => hex(reel),
+        (0, _) => "..".to_string(),
+        _ => "-".to_string(),
+    }
+}
+
+/// The answer of a run with so many bytes of the output lent to it.
+pub fn run_line(deck: &[u8], reel: &[u8], room: usize) -> String {
+    assert!(room <= BYTES, "a room over {BYTES}");
+    let ran = run(deck, reel, room);
+    let mut output = output();
+    output[..ran.reel.len()].copy_from_slice(&ran.reel);
+    let digest = digest(output.into_iter().map(usize::from));
+    let shown = shown(ran.refusal, &ran.reel);
+    format!("{} {} {} {} {} {digest} {shown}", ran.refusal, ran.place, ran.length, ran.records, ran.blocks)
+}
+
+#[cfg(test)]
+mod tests {
+    use super::*;
+
+    const FIRST: &[u8] = b"// UTT TRF,FF,A=(8,16),B=(7,7)\n// FS 1,4,1/5,(P,4,3),5\n// END\n";
+    const EMPTY: &[u8] = &[0, 0, 0, 0, 0, 0, 0, 8];
+
+    #[test]
+    fn digests() {
+        assert_eq!(digest([]), 0);
+        assert_eq!(digest([0]), 1);
+        assert_eq!(digest([0, 0]), 258);
+        assert_eq!(digest([1, 2, 3]), (257 * (257 * 2 + 3) + 4));
+        assert_eq!(digest([2_147_483_646]), 0);
+        assert_eq!(digest([2_147_483_645, 0]), 2_147_483_647 - 257 + 1);
+        assert_ne!(digest([1, 2]), digest([2, 1]));
+    }
+
+    #[test]
+    fn patterns() {
+        let table = table();
+        assert_eq!((table.len(), numbers(&table[0])), (70, [7, 1000, 2000, 3000, 4000]));
+        assert_eq!(numbers(&table[69]), [76, 1069, 2069, 3069, 4069]);
+        let output = output();
+        assert_eq!((output.len(), output[250], output[251]), (70_000, 250, 0));
+    }
+
+    /// The digests in the next two tests were worked out apart from this file.
+    #[test]
+    fn plans_with_and_without_a_table() {
+        assert_eq!(plan_line(FIRST, "-"), "0 0 1 0 2 -");
+        assert_eq!(plan_line(FIRST, "1"), "15 2 0 0 0 1389193452");
+        assert_eq!(plan_line(b"", "70"), "2 1 0 0 0 1389193452");
+        let others: Vec<[usize; 5]> = table()[2..].iter().map(numbers).collect();
+        let after = [&[[0, 1, 4, 4, 1], [1, 5, 4, 3, 5]][..], &others].concat();
+        let digest = digest(after.into_iter().flatten());
+        assert_eq!(plan_line(FIRST, "2"), format!("0 0 1 0 2 {digest}"));
+        assert_eq!(plan_line(FIRST, "2"), plan_line(FIRST, "70"));
+    }
+
+    #[test]
+    fn runs_and_their_rooms() {
+        assert_eq!(run_line(FIRST, EMPTY, 7), "15 8 0 0 0 293385196 -");
+        assert_eq!(run_line(FIRST, EMPTY, 8), "0 0 8 0 0 194523768 0000000000000008");
+        assert_eq!(run_line(FIRST, EMPTY, 70_000), run_line(FIRST, EMPTY, 8));
+        assert_eq!(run_line(FIRST, b"", 70_000), "11 0 0 0 0 293385196 -");
+    }
+
+    #[test]
+    fn reels_of_64_bytes_are_shown() {
+        let copy = b"// U TC,FU,A=(99),B=(99)\n// END\n";
+        let reel = |size: usize| reference::reel::write(&[vec![0xC1; size]]);
+        let last = |size| run_line(copy, &reel(size), 70_000).split(' ').last().map(str::to_string);
+        assert_eq!(last(52), Some(hex(&reel(52))));
+        assert_eq!(last(53), Some("..".to_string()));
+    }
+}
