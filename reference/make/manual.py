@@ -9,7 +9,10 @@ def make():
         'This file: the decks of document 001, IBM\'s manual. Its program names (UCT, UDD, ..) are no shape of document 01, so such a deck is 1; below that it stands',
         'with `// U ` in their place. Blanks behind commas end an operand in document 01. What 8 to 10 say of a deck is not asked here.',
     ])
-    d = lambda name, deck, expected, why: deck_case(f, name, deck, expected, why)
+    f.decks = []
+    def d(name, deck, expected, why):
+        f.decks.append((name, deck, expected, why.replace(', not asked here', '')))
+        deck_case(f, name, deck, expected, why)
     def u(name, operand, expected, why):
         d(name, '// U ' + operand + END, expected, why)
     def read(mode, fmt, a, b, r=1):

@@ -1,0 +1,77 @@
+"""The answers to plans and runs, worked apart from the converter: the memory that was lent, and its digest."""
+from common import *
+
+PATTERN = [((i + 7) % 256, i + 1000, i + 2000, i + 3000, i + 4000) for i in range(70)]
+BYTES = bytes(i % 251 for i in range(70000))
+KINDS = {'C': 0, 'P': 1, 'U': 2}
+
+
+def digest(numbers):
+    d = 0
+    for x in numbers:
+        d = (257 * d + x + 1) % 2147483647
+    return d
+
+
+def table_digest(fields):
+    """Of all 70 entries, the first holding these fields (letter, r, input, output, t), the others the pattern."""
+    entries = [(KINDS[f[0]],) + tuple(f[1:]) for f in fields]
+    return digest(x for entry in entries + PATTERN[len(entries):] for x in entry)
+
+
+NOTHING_WRITTEN = digest(BYTES)
+
+
+def deck(u, *fs):
+    return '// U ' + u + '\n' + ''.join('// FS %s\n' % items for items in fs) + '// END\n'
+
+
+def on_cards(items, count):
+    """FS operands of so many items each."""
+    return ['/'.join(items[i:i + count]) for i in range(0, len(items), count)]
+
+
+def told(answer):
+    """The outcome in words, behind a comment."""
+    words = answer.split()
+    if words[0] != '0':
+        return '%s at %s' % (words[0], words[1])
+    return 'keeps' if words[2] == '1' else 'loses, place %s' % words[3]
+
+
+class Plans(File):
+    def plan(self, name, text, answer, why, entries=None, fields=()):
+        """A case of a plan; `answer` is refusal and place, or the five numbers."""
+        if len(answer.split()) == 2:
+            answer += ' 0 0 0'
+        why += ': ' + told(answer)
+        if len(text) <= 260:
+            why = shown(text.encode('latin-1')) + '\n' + why
+        lent, after = ('-', '-') if entries is None else (str(entries), str(table_digest(fields)))
+        self.case(name, 'plan %s %s' % (runs(text.encode('latin-1')), lent), answer + ' ' + after, why)
+
+
+class Runs(File):
+    said = ''  # the deck of the case before, shown once where several in a row have it
+
+    def agrees(self, expected, answer):
+        # a whole line has seven words, the last of them two dots where the reel is long
+        if len(expected.split()) == 7:
+            return answer == expected
+        return super().agrees(expected, answer)
+
+    def done(self, name, text, reel, out, records, blocks, why, room=None):
+        """A run that writes the reel `out`; the room is exact where none is given."""
+        shown_reel = out.hex().upper() if len(out) <= 64 else '..'
+        answer = '0 0 %d %d %d %d %s' % (len(out), records, blocks, digest(out + BYTES[len(out):]), shown_reel)
+        self.run(name, text, reel, len(out) if room is None else room, answer, why)
+
+    def refused(self, name, text, reel, number, place, why, room=70000):
+        answer = '%d %d 0 0 0 %d -' % (number, place, NOTHING_WRITTEN)
+        self.run(name, text, reel, room, answer, why + ': %d at %d' % (number, place))
+
+    def run(self, name, text, reel, room, answer, why):
+        if text != self.said and len(text) <= 260:
+            self.note(shown(text.encode('latin-1')))
+        self.said = text
+        self.case(name, 'run %s %s %d' % (runs(text.encode('latin-1')), runs(reel), room), answer, why)
