@@ -1,3 +1,4 @@
+# shellcheck shell=sh
 # To be sourced. Runs a program of Rattle on either processor: on_this_machine PROGRAM ARGUMENT..
 # Programs run under the kit's own loader, and where the processor is another one under its emulator; both are found from where rt stands.
 on_this_machine() {

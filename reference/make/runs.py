@@ -300,6 +300,21 @@ def large(f):
            'three records of 4,095 blanks and a byte')
 
 
+def many(f):
+    f.note('A thousand records of a byte: in as many blocks, and in one')
+    all_bytes = [bytes([i % 256]) for i in range(1000)]
+    apart, one = reel(*all_bytes), reel(b''.join(all_bytes))
+    f.done('many-tr', deck('TR,FF,A=(1,1),B=(1,32760)'), apart, one, 1000, 1, 'a thousand blocks into one')
+    f.done('many-tr-apart', deck('TR,FF,A=(1,1000),B=(1,1)'), one, apart, 1000, 1000, 'and apart again')
+    f.done('many-tf', deck('TF,FF,A=(1,1),B=(2,2)', '1,1,2'), apart, reel(*[b'\x40' + x for x in all_bytes]), 1000, 1000, 'one block for each')
+    f.done('many-r-1000', deck('TR,FF,A=(1,1000),B=(1,7),R1000'), one, reel(all_bytes[999]), 1, 1, 'R at the last record')
+    f.done('many-r-1001', deck('TR,FF,A=(1,1000),B=(1,7),R1001'), one, EMPTY, 0, 0, 'R one past')
+    f.done('many-r-994', deck('TR,FF,A=(1,1000),B=(1,7),R994'), one, reel(b''.join(all_bytes[993:])), 7, 1, 'the last seven, exactly m')
+    records = [b'\x40' + x for x in all_bytes]
+    f.done('many-fv', deck('TRF,FV,A=(1,5004),B=(2,30)', '1,1,2'), reel(block(*all_bytes)), reel(*[block(*records[i:i + 4]) for i in range(0, 1000, 4)]), 1000, 250,
+           'a block of 5,004, and four records of 6 to a block of 28')
+
+
 def blanks(f):
     f.note('Where no field writes there is hex 40, also behind a record that stood there')
     gap = deck('TF,FF,A=(3,6),B=(6,12)', '1,1,2/3,1,5')
@@ -386,6 +401,6 @@ def refused_decks(f):
 
 def make():
     f = Runs('runs.txt', HEAD)
-    for section in (cases_of_paper, firsts, lengths, fixed, variable, undefined, tails, sizes, together, fillings, large, blanks, permitted, vectors, refused_decks):
+    for section in (cases_of_paper, firsts, lengths, fixed, variable, undefined, tails, sizes, together, fillings, large, many, blanks, permitted, vectors, refused_decks):
         section(f)
     return f
