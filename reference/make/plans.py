@@ -97,6 +97,11 @@ def sizes(f):
     t('n-1-to-4096', 1, 4096, '0 0 1 0 1', 't at n', '1,1,4096')
     t('n-4096-pack-9', 4096, 4096, '0 0 1 0 2', 'a pack of 16 to 9 at the end of both records keeps its 16 digits', '1,4080,1/4081,(P,16,9),4088')
     t('n-4096-pack-8', 4096, 4096, '0 0 0 8161 2', 'a pack of 16 to 8 drops the low half of byte 4,081', '1,4080,1/4081,(P,16,8),4089')
+    f.note('m of 32,760 and 32,761, g likewise')
+    for m, answer in ((32760, '0 0 1 0 0'), (32761, '7 1')):
+        f.plan('plan-m-%d' % m, deck('TR,FF,A=(1,%d),B=(1,5)' % m), answer, 'in A')
+        f.plan('plan-m-%d-in-b' % m, deck('TR,FF,A=(1,5),B=(1,%d)' % m), answer, 'in B')
+        f.plan('plan-g-%d' % m, deck('TC,FU,A=(%d),B=(%d)' % (m, m)), answer, 'in both')
     f.note('Sizes of 16 and 17')
     t('pack-16-16', 16, 16, '0 0 1 0 1', 'a pack of 16 to 16', '1,(P,16,16),1')
     t('pack-16-17', 17, 17, '7 2', 'an output size of 17', '1,(P,16,17),1')
