@@ -1,0 +1,212 @@
+! Bhexodana for Fortran: converts reels of blocked records as the cards of a deck ask.
+!
+! Link with libbhexodana.a, which `rt staticlib bhexodana` writes for x86-64 Linux. include/bhexodana.h lists the refusals and their places.
+!
+! A deck may be given in three ways:
+!   cards     an array of card images, character(len=80) or shorter; what is right of the text counts as comment
+!   text      one character variable with new_line('a') after each card; trailing blanks are part of it, so give trim(text)
+!   bytes     an array of integer(int8)
+! A reel, and the output, are arrays of integer(int8). What is given in one call must not overlap. The library keeps nothing between calls.
+!
+! Every answer begins with refusal and place. Refusal 0: the call finished. Otherwise the other parts of the answer are 0, and the output or the
+! table is as it was.
+module bhexodana
+    use, intrinsic :: iso_c_binding, only: c_int8_t, c_int16_t, c_int64_t, c_size_t, c_ptr, c_loc
+    use, intrinsic :: iso_fortran_env, only: int8, int64
+    implicit none
+    private
+
+    public :: plan_deck, plan_into, run_deck
+    public :: bhx_field, bhx_planned, bhx_ran
+
+    ! The version of this interface. It rises when an answer or an entry gets another shape.
+    integer, parameter, public :: bhexodana_version = 1
+
+    ! What a field does: bhx_field%kind.
+    integer, parameter, public :: bhx_copy = 0, bhx_pack = 1, bhx_unpack = 2
+
+    ! A plan has at most so many fields, and a reel so many bytes.
+    integer, parameter, public :: bhx_most_fields = 64, bhx_most_reel = 65536
+
+    ! A field of a plan: input bytes of the record from position r on become output bytes of the output record from position t on.
+    ! For a copy both sizes are the same. Positions count from 1.
+    type, bind(c) :: bhx_field
+        integer(c_int8_t) :: kind
+        integer(c_int16_t) :: r
+        integer(c_int16_t) :: input
+        integer(c_int16_t) :: output
+        integer(c_int16_t) :: t
+    end type bhx_field
+
+    ! What a plan answers. Where keeping is .false., lost is the lowest half byte that is lost, from 0, or two times A's n for the data past A's n.
+    type :: bhx_planned
+        integer(int64) :: refusal = 0
+        integer(int64) :: place = 0
+        logical :: keeping = .false.
+        integer(int64) :: lost = 0
+        integer(int64) :: fields = 0
+    end type bhx_planned
+
+    ! What a run answers: how many bytes of the output are the reel that was written, and its records and blocks.
+    type, bind(c) :: bhx_ran
+        integer(c_int64_t) :: refusal = 0
+        integer(c_int64_t) :: place = 0
+        integer(c_int64_t) :: length = 0
+        integer(c_int64_t) :: records = 0
+        integer(c_int64_t) :: blocks = 0
+    end type bhx_ran
+
+    ! answer = plan_deck(deck): the plan of a deck.
+    interface plan_deck
+        module procedure plan_cards, plan_text, plan_bytes
+    end interface plan_deck
+
+    ! call plan_into(deck, table, answer): the plan of a deck, with its fields in the first entries of the table; the others stay.
+    interface plan_into
+        module procedure plan_cards_into, plan_text_into, plan_bytes_into
+    end interface plan_into
+
+    ! call run_deck(deck, reel, output, answer): the reel that comes out stands in output(1:answer%length); the other bytes stay.
+    interface run_deck
+        module procedure run_cards, run_text, run_bytes
+    end interface run_deck
+
+    ! A plan's answer as the library gives it.
+    type, bind(c) :: raw_planned
+        integer(c_int64_t) :: refusal
+        integer(c_int64_t) :: place
+        integer(c_int64_t) :: keeping
+        integer(c_int64_t) :: lost
+        integer(c_int64_t) :: fields
+    end type raw_planned
+
+    interface
+        function raw_plan(deck, deck_length) bind(c, name="bhx_plan") result(answer)
+            import :: c_ptr, c_size_t, raw_planned
+            type(c_ptr), value :: deck
+            integer(c_size_t), value :: deck_length
+            type(raw_planned) :: answer
+        end function raw_plan
+
+        function raw_plan_into(deck, deck_length, table, entries) bind(c, name="bhx_plan_into") result(answer)
+            import :: c_ptr, c_size_t, raw_planned
+            type(c_ptr), value :: deck, table
+            integer(c_size_t), value :: deck_length, entries
+            type(raw_planned) :: answer
+        end function raw_plan_into
+
+        function raw_run(deck, deck_length, reel, reel_length, output, room) bind(c, name="bhx_run") result(answer)
+            import :: c_ptr, c_size_t, bhx_ran
+            type(c_ptr), value :: deck, reel, output
+            integer(c_size_t), value :: deck_length, reel_length, room
+            type(bhx_ran) :: answer
+        end function raw_run
+    end interface
+
+    ! Lent where an array is empty: the library takes no null pointer.
+    integer(c_int8_t), target, save :: nothing(1) = 0
+    type(bhx_field), target, save :: no_field(1) = bhx_field(0, 0, 0, 0, 0)
+
+contains
+
+    function plan_cards(cards) result(answer)
+        character(len=*), intent(in) :: cards(:)
+        type(bhx_planned) :: answer
+        answer = plan_bytes(bytes_of_cards(cards))
+    end function plan_cards
+
+    function plan_text(text) result(answer)
+        character(len=*), intent(in) :: text
+        type(bhx_planned) :: answer
+        answer = plan_bytes(bytes_of(text))
+    end function plan_text
+
+    function plan_bytes(deck) result(answer)
+        integer(int8), intent(in), target, contiguous :: deck(:)
+        type(bhx_planned) :: answer
+        answer = planned(raw_plan(address(deck), size(deck, kind=c_size_t)))
+    end function plan_bytes
+
+    subroutine plan_cards_into(cards, table, answer)
+        character(len=*), intent(in) :: cards(:)
+        type(bhx_field), intent(inout), target, contiguous :: table(:)
+        type(bhx_planned), intent(out) :: answer
+        call plan_bytes_into(bytes_of_cards(cards), table, answer)
+    end subroutine plan_cards_into
+
+    subroutine plan_text_into(text, table, answer)
+        character(len=*), intent(in) :: text
+        type(bhx_field), intent(inout), target, contiguous :: table(:)
+        type(bhx_planned), intent(out) :: answer
+        call plan_bytes_into(bytes_of(text), table, answer)
+    end subroutine plan_text_into
+
+    subroutine plan_bytes_into(deck, table, answer)
+        integer(int8), intent(in), target, contiguous :: deck(:)
+        type(bhx_field), intent(inout), target, contiguous :: table(:)
+        type(bhx_planned), intent(out) :: answer
+        type(c_ptr) :: entries
+        entries = c_loc(no_field)
+        if (size(table) > 0) entries = c_loc(table)
+        answer = planned(raw_plan_into(address(deck), size(deck, kind=c_size_t), entries, size(table, kind=c_size_t)))
+    end subroutine plan_bytes_into
+
+    subroutine run_cards(cards, reel, output, answer)
+        character(len=*), intent(in) :: cards(:)
+        integer(int8), intent(in), target, contiguous :: reel(:)
+        integer(int8), intent(inout), target, contiguous :: output(:)
+        type(bhx_ran), intent(out) :: answer
+        call run_bytes(bytes_of_cards(cards), reel, output, answer)
+    end subroutine run_cards
+
+    subroutine run_text(text, reel, output, answer)
+        character(len=*), intent(in) :: text
+        integer(int8), intent(in), target, contiguous :: reel(:)
+        integer(int8), intent(inout), target, contiguous :: output(:)
+        type(bhx_ran), intent(out) :: answer
+        call run_bytes(bytes_of(text), reel, output, answer)
+    end subroutine run_text
+
+    subroutine run_bytes(deck, reel, output, answer)
+        integer(int8), intent(in), target, contiguous :: deck(:), reel(:)
+        integer(int8), intent(inout), target, contiguous :: output(:)
+        type(bhx_ran), intent(out) :: answer
+        answer = raw_run(address(deck), size(deck, kind=c_size_t), address(reel), size(reel, kind=c_size_t), &
+            address(output), size(output, kind=c_size_t))
+    end subroutine run_bytes
+
+    ! Where an array begins in memory.
+    function address(bytes) result(place)
+        integer(int8), intent(in), target, contiguous :: bytes(:)
+        type(c_ptr) :: place
+        place = c_loc(nothing)
+        if (size(bytes) > 0) place = c_loc(bytes)
+    end function address
+
+    ! The answer with Fortran's types.
+    function planned(raw) result(answer)
+        type(raw_planned), intent(in) :: raw
+        type(bhx_planned) :: answer
+        answer = bhx_planned(raw%refusal, raw%place, raw%keeping == 1, raw%lost, raw%fields)
+    end function planned
+
+    function bytes_of(text) result(bytes)
+        character(len=*), intent(in) :: text
+        integer(int8) :: bytes(len(text))
+        bytes = transfer(text, bytes, len(text))
+    end function bytes_of
+
+    ! The cards one after the other, each with its line end.
+    function bytes_of_cards(cards) result(bytes)
+        character(len=*), intent(in) :: cards(:)
+        integer(int8) :: bytes(size(cards) * (len(cards) + 1))
+        integer :: i, at
+        at = 0
+        do i = 1, size(cards)
+            bytes(at + 1:at + len(cards)) = bytes_of(cards(i))
+            bytes(at + len(cards) + 1) = 10_int8
+            at = at + len(cards) + 1
+        end do
+    end function bytes_of_cards
+
+end module bhexodana

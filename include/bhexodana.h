@@ -1,0 +1,102 @@
+/*
+ * Bhexodana: converts reels of blocked records as the cards of a deck ask.
+ *
+ * Link with libbhexodana.a, which `rt staticlib bhexodana` writes for x86-64 Linux.
+ *
+ * Memory
+ *   The caller owns all of it. The library keeps no pointer after a call, reserves nothing and has nothing to free. It has no state of its own,
+ *   so calls from several threads are independent if they lend different memory.
+ *   No pointer may be null, also where its length is 0: lend any address then.
+ *   What is lent in one call must not overlap: the deck, the reel, the output and the table are different memory.
+ *   The table must be aligned as an array of bhx_field is.
+ *   The deck and the reel are only read. A refused call leaves every byte of the output and every entry of the table as it was. A finished run
+ *   leaves the bytes of the output past the length as they were, and a finished plan the entries past the field count.
+ *
+ * Refusals
+ *   Every answer begins with a refusal and a place. Refusal 0 says that the call finished; its place is 0, and the other numbers are what was
+ *   asked for. Where it is 1 to 15 the other numbers are 0. The lowest number that applies is given, at its first place:
+ *
+ *    1  a line is no card                                            card, from 1
+ *    2  no card, wrong order, no END card, or over 64 cards          the first card at fault, or one past the last
+ *    3  an operand is not of its grammar                             card
+ *    4  a parameter or CV stands twice                               card of the second
+ *    5  T, F, A or B is missing                                      1
+ *    6  a 65th field                                                 its card
+ *    7  a number is outside its limits                               card
+ *    8  a combination of the cards is not allowed                    1; an FS card in TC or TR: 2; CV outside FV: its card
+ *    9  a field lies outside its records                             field, from 1
+ *   10  a half byte has no permitted value                           the lowest such half, from 0
+ *   11  not a reel                                                   0
+ *   12  a block breaks its rule                                      block, from 1
+ *   13  a record taken has a half byte that is not permitted         record, from 1 in the input
+ *   14  a record's output does not fit a block of B                  record, from 1 in the input
+ *   15  run: the output reel is longer than the room, or than 65,536 bytes    its length
+ *       plan: the table has fewer entries than the plan has fields            the field count
+ *
+ *   A plan answers 1 to 10, and 15 where a table is lent; a run answers 1 to 15.
+ */
+#ifndef BHEXODANA_H
+#define BHEXODANA_H
+
+#include <stddef.h>
+#include <stdint.h>
+
+/* The version of this interface. It rises when an answer or an entry gets another shape. */
+#define BHEXODANA_VERSION 1
+
+/* What a field does: bhx_field.kind. */
+#define BHX_COPY 0
+#define BHX_PACK 1
+#define BHX_UNPACK 2
+
+/* A plan has at most so many fields: a table of this many entries always has room. */
+#define BHX_MOST_FIELDS 64
+
+/* A reel has at most so many bytes: an output of this size has room for every reel that can be written. */
+#define BHX_MOST_REEL 65536
+
+#ifdef __cplusplus
+extern "C" {
+#endif
+
+/* A field of a plan: `input` bytes of the record from position r on become `output` bytes of the output record from position t on. */
+typedef struct {
+    uint8_t kind;    /* BHX_COPY, BHX_PACK or BHX_UNPACK */
+    uint16_t r;      /* first position in the input record, from 1 */
+    uint16_t input;  /* bytes read; for a copy the same as output */
+    uint16_t output; /* bytes written */
+    uint16_t t;      /* first position in the output record, from 1 */
+} bhx_field;
+
+/* What a plan answers. */
+typedef struct {
+    uint64_t refusal; /* 0, or the number of the refusal */
+    uint64_t place;   /* where it was refused */
+    uint64_t keeping; /* 1 if no two different records that the plan converts have the same output, 0 if some have */
+    uint64_t lost;    /* where keeping is 0: the lowest half byte that is lost, from 0, or two times A's n for the data past A's n */
+    uint64_t fields;  /* how many fields the plan has */
+} bhx_planned;
+
+/* What a run answers. */
+typedef struct {
+    uint64_t refusal; /* 0, or the number of the refusal */
+    uint64_t place;   /* where it was refused */
+    uint64_t length;  /* how many bytes of the output are the reel that was written */
+    uint64_t records; /* how many records it has */
+    uint64_t blocks;  /* how many blocks it has */
+} bhx_ran;
+
+/* The plan of a deck. */
+bhx_planned bhx_plan(const uint8_t *deck, size_t deck_len);
+
+/* The plan of a deck, with its fields in the first entries of a table of so many entries. */
+bhx_planned bhx_plan_into(const uint8_t *deck, size_t deck_len, bhx_field *table, size_t entries);
+
+/* Runs a deck over a reel: the reel that it gives is written from the first byte of the output on, which has room for so many bytes. */
+bhx_ran bhx_run(const uint8_t *deck, size_t deck_len, const uint8_t *reel, size_t reel_len, uint8_t *out, size_t room);
+
+#ifdef __cplusplus
+}
+#endif
+
+#endif

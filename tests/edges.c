@@ -1,0 +1,199 @@
+/*
+ * The C interface at its edges: the layout of what is lent and answered, empty decks and reels, rooms and tables of every size, and that a refused
+ * call leaves all lent memory as it was. Each buffer has guards around it, and all its bytes are compared. C99, and C++ as well.
+ */
+#include "bhexodana.h"
+
+#include <stdio.h>
+#include <stdlib.h>
+#include <string.h>
+
+/* The build fails where a layout is another one. */
+#define HOLDS(name, test) typedef char name[(test) ? 1 : -1]
+HOLDS(version, BHEXODANA_VERSION == 1);
+HOLDS(field_size, sizeof(bhx_field) == 10);
+HOLDS(field_kind, offsetof(bhx_field, kind) == 0);
+HOLDS(field_r, offsetof(bhx_field, r) == 2);
+HOLDS(field_input, offsetof(bhx_field, input) == 4);
+HOLDS(field_output, offsetof(bhx_field, output) == 6);
+HOLDS(field_t, offsetof(bhx_field, t) == 8);
+HOLDS(planned_size, sizeof(bhx_planned) == 40);
+HOLDS(planned_refusal, offsetof(bhx_planned, refusal) == 0);
+HOLDS(planned_place, offsetof(bhx_planned, place) == 8);
+HOLDS(planned_keeping, offsetof(bhx_planned, keeping) == 16);
+HOLDS(planned_lost, offsetof(bhx_planned, lost) == 24);
+HOLDS(planned_fields, offsetof(bhx_planned, fields) == 32);
+HOLDS(ran_size, sizeof(bhx_ran) == 40);
+HOLDS(ran_refusal, offsetof(bhx_ran, refusal) == 0);
+HOLDS(ran_place, offsetof(bhx_ran, place) == 8);
+HOLDS(ran_length, offsetof(bhx_ran, length) == 16);
+HOLDS(ran_records, offsetof(bhx_ran, records) == 24);
+HOLDS(ran_blocks, offsetof(bhx_ran, blocks) == 32);
+HOLDS(length_size, sizeof(size_t) == 8);
+
+enum { GUARD = 64, ROOM = BHX_MOST_REEL + 16, ENTRIES = 70 };
+
+static const char deck[] = "// UTT TRF,FF,A=(8,16),B=(7,7)\n// FS 1,4,1/5,(P,4,3),5\n// END\n";
+static const char twins[] = "// UTT TRF,FF,A=(8,16),B=(6,6)\n// FS 1,4,1/5,(P,4,2),5\n// END\n";
+static const char copies[] = "// U TC,FU,A=(9),B=(9)\n// END";
+static const char barren[] = "// U TRF,FF,A=(2,2),B=(3,3)\n// FS 1,(P,2,2),1/1,(U,1,1),3\n// END\n";
+
+static const uint8_t empty_reel[8] = {0, 0, 0, 0, 0, 0, 0, 8};
+static const uint8_t reel[28] = {
+    0x00, 0x00, 0x00, 0x01, 0x00, 0x00, 0x00, 0x0C, 0x00, 0x00, 0x00, 0x1C,
+    0xC1, 0xC2, 0xC3, 0xC4, 0xF1, 0xF2, 0xF3, 0xC4,
+    0xC1, 0xC2, 0xC3, 0xC4, 0xF9, 0xF2, 0xF3, 0xC4,
+};
+static const uint8_t result[30] = {
+    0x00, 0x00, 0x00, 0x02, 0x00, 0x00, 0x00, 0x10, 0x00, 0x00, 0x00, 0x17, 0x00, 0x00, 0x00, 0x1E,
+    0xC1, 0xC2, 0xC3, 0xC4, 0x01, 0x23, 0x4C, 0xC1, 0xC2, 0xC3, 0xC4, 0x09, 0x23, 0x4C,
+};
+
+static int calls = 0, wrong = 0;
+
+static void check(int holds, const char *what)
+{
+    if (holds)
+        return;
+    wrong++;
+    printf("wrong: %s\n", what);
+}
+
+/* ---- lent memory: a pattern in and around it, of which only the first bytes may change */
+
+static uint8_t lent_out[GUARD + ROOM + GUARD], before_out[sizeof lent_out];
+static union {
+    uint8_t bytes[GUARD + ENTRIES * sizeof(bhx_field) + GUARD];
+    bhx_field aligned;
+} lent_table, before_table;
+
+static void fill(uint8_t *lent, uint8_t *before, size_t size)
+{
+    size_t i;
+    for (i = 0; i < size; i++)
+        lent[i] = (uint8_t)(31 + 7 * i + i / 251);
+    memcpy(before, lent, size);
+}
+
+/* Whether nothing changed but the `changed` bytes behind the guard, which are compared with what they must be. */
+static int stays(const uint8_t *lent, const uint8_t *before, size_t size, const uint8_t *now, size_t changed)
+{
+    return memcmp(lent, before, GUARD) == 0 && memcmp(lent + GUARD, now, changed) == 0 &&
+           memcmp(lent + GUARD + changed, before + GUARD + changed, size - GUARD - changed) == 0;
+}
+
+/* ---- runs and plans with their answers */
+
+static void runs(const char *what, const char *cards, const uint8_t *s, size_t s_len, size_t room, uint64_t refusal, uint64_t place,
+                 const uint8_t *now, uint64_t length, uint64_t records, uint64_t blocks)
+{
+    bhx_ran r;
+    calls++;
+    fill(lent_out, before_out, sizeof lent_out);
+    r = bhx_run((const uint8_t *)cards, strlen(cards), s, s_len, lent_out + GUARD, room);
+    check(r.refusal == refusal && r.place == place, what);
+    check(r.length == length && r.records == records && r.blocks == blocks, what);
+    check(stays(lent_out, before_out, sizeof lent_out, now, (size_t)length), what);
+}
+
+static void refuses_run(const char *what, const char *cards, const uint8_t *s, size_t s_len, size_t room, uint64_t refusal, uint64_t place)
+{
+    runs(what, cards, s, s_len, room, refusal, place, s, 0, 0, 0);
+}
+
+static void plans(const char *what, const char *cards, size_t entries, bhx_planned want, const bhx_field *fields)
+{
+    bhx_planned p;
+    uint64_t i;
+    size_t changed = (size_t)want.fields * sizeof(bhx_field);
+    bhx_field *table = (bhx_field *)(void *)(lent_table.bytes + GUARD);
+    calls++;
+    fill(lent_table.bytes, before_table.bytes, sizeof lent_table.bytes);
+    p = bhx_plan_into((const uint8_t *)cards, strlen(cards), table, entries);
+    check(memcmp(&p, &want, sizeof p) == 0, what);
+    for (i = 0; i < want.fields; i++) {
+        check(table[i].kind == fields[i].kind && table[i].r == fields[i].r && table[i].input == fields[i].input, what);
+        check(table[i].output == fields[i].output && table[i].t == fields[i].t, what);
+    }
+    check(stays(lent_table.bytes, before_table.bytes, sizeof lent_table.bytes, lent_table.bytes + GUARD, changed), what);
+}
+
+static void test_runs(void)
+{
+    static const uint8_t no_reel[13] = {0, 0, 0, 1, 0, 0, 0, 12, 0, 0, 0, 14, 0x40};
+    uint8_t bad[sizeof reel], undefined[14] = {0, 0, 0, 1, 0, 0, 0, 12, 0, 0, 0, 14, 1, 2};
+    runs("the paper's run", deck, reel, sizeof reel, ROOM, 0, 0, result, 30, 2, 2);
+    runs("room for just the reel", deck, reel, sizeof reel, 30, 0, 0, result, 30, 2, 2);
+    refuses_run("a byte too little", deck, reel, sizeof reel, 29, 15, 30);
+    refuses_run("no room", deck, reel, sizeof reel, 0, 15, 30);
+    runs("an empty reel", deck, empty_reel, 8, 8, 0, 0, empty_reel, 8, 0, 0);
+    refuses_run("an empty reel and room 7", deck, empty_reel, 8, 7, 15, 8);
+    refuses_run("no byte of a reel", deck, reel, 0, ROOM, 11, 0);
+    refuses_run("no byte of a reel and no room", deck, reel, 0, 0, 11, 0);
+    refuses_run("not a reel", deck, no_reel, sizeof no_reel, ROOM, 11, 0);
+    refuses_run("no deck", "", reel, sizeof reel, ROOM, 2, 1);
+    refuses_run("nothing at all", "", reel, 0, 0, 2, 1);
+    refuses_run("a refused plan", barren, reel, sizeof reel, ROOM, 10, 0);
+    refuses_run("a block too long", "// U TC,FU,A=(9),B=(9)\n// END", reel, sizeof reel, ROOM, 12, 1);
+    runs("copied", copies, undefined, sizeof undefined, ROOM, 0, 0, undefined, sizeof undefined, 1, 1);
+    memcpy(bad, reel, sizeof bad);
+    bad[24] = 0xFA;
+    refuses_run("a half that is not permitted, in the last record", deck, bad, sizeof bad, ROOM, 13, 2);
+}
+
+static void test_plans(void)
+{
+    static const bhx_field two[2] = {{BHX_COPY, 1, 4, 4, 1}, {BHX_PACK, 5, 4, 3, 5}};
+    static const bhx_field lossy[2] = {{BHX_COPY, 1, 4, 4, 1}, {BHX_PACK, 5, 4, 2, 5}};
+    static const bhx_planned keeps = {0, 0, 1, 0, 2}, loses = {0, 0, 0, 9, 2}, short_table = {15, 2, 0, 0, 0};
+    static const bhx_planned none = {2, 1, 0, 0, 0}, no_half = {10, 0, 0, 0, 0}, no_field = {0, 0, 1, 0, 0};
+    bhx_planned p = bhx_plan((const uint8_t *)twins, strlen(twins));
+    check(memcmp(&p, &loses, sizeof p) == 0, "the plan without a table");
+    p = bhx_plan((const uint8_t *)deck, strlen(deck));
+    check(memcmp(&p, &keeps, sizeof p) == 0, "the plan that keeps, without a table");
+    p = bhx_plan((const uint8_t *)"", 0);
+    check(memcmp(&p, &none, sizeof p) == 0, "the plan of no deck, without a table");
+    calls += 3;
+    plans("a table of 0", deck, 0, short_table, NULL);
+    plans("a table of 1", deck, 1, short_table, NULL);
+    plans("a table of 2", deck, 2, keeps, two);
+    plans("a table of 64", deck, 64, keeps, two);
+    plans("a table of 70", deck, ENTRIES, keeps, two);
+    plans("the plan that loses", twins, 64, loses, lossy);
+    plans("no field, a table of 0", copies, 0, no_field, NULL);
+    plans("no field, a table of 70", copies, ENTRIES, no_field, NULL);
+    plans("no deck", "", 64, none, NULL);
+    plans("no deck, a table of 0", "", 0, none, NULL);
+    plans("a refused plan", barren, 1, no_half, NULL);
+}
+
+/* 64 fields fill a table of 64; a 65th is refused, at its card. */
+static void test_many_fields(void)
+{
+    char cards[4096];
+    bhx_field fields[BHX_MOST_FIELDS];
+    bhx_planned full = {0, 0, 1, 0, 64}, short_table = {15, 64, 0, 0, 0}, over = {6, 10, 0, 0, 0};
+    size_t i, end = (size_t)sprintf(cards, "// U TF,FF,A=(64,64),B=(64,64)\n");
+    for (i = 0; i < 64; i++) {
+        bhx_field f = {BHX_COPY, 0, 1, 1, 0};
+        f.r = (uint16_t)(i + 1);
+        f.t = (uint16_t)(64 - i);
+        fields[i] = f;
+        end += (size_t)sprintf(cards + end, "%s%u,1,%u%s", i % 8 ? "/" : "// FS ", f.r, f.t, i % 8 == 7 ? "\n" : "");
+    }
+    strcpy(cards + end, "// END\n");
+    plans("64 fields, a table of 63", cards, 63, short_table, NULL);
+    plans("64 fields, a table of 64", cards, 64, full, fields);
+    plans("64 fields, a table of 70", cards, ENTRIES, full, fields);
+    strcpy(cards + end, "// FS 1,1,1\n// END\n");
+    plans("65 fields", cards, ENTRIES, over, NULL);
+}
+
+int main(void)
+{
+    test_runs();
+    test_plans();
+    test_many_fields();
+    printf("%d calls, %d wrong\n", calls, wrong);
+    return wrong ? 1 : 0;
+}
