@@ -24,9 +24,10 @@ struct work {
 struct times {
     double ours, plain;         /* the median time of a call, in seconds */
     double ratio, low, high;    /* of the repetitions: the median, and the 10 and the 90 percent points */
-    uint64_t length, records, fields;
+    uint64_t records, fields;
 };
 
+static struct work current; /* the workload that is made or measured */
 static uint8_t out_ours[REEL], out_plain[REEL];
 static bhx_field table_ours[BHX_MOST_FIELDS], table_plain[BHX_MOST_FIELDS];
 static double least_time = 0.004; /* the least time of one measurement, in seconds */
@@ -229,7 +230,6 @@ static void compare(const struct work *w, struct times *t)
         must(memcmp(&a, &b, sizeof a) == 0, w, "the answers differ");
         must(a.refusal == 0, w, "the run is refused");
         must(memcmp(out_ours, out_plain, REEL) == 0, w, "the outputs differ");
-        t->length = a.length;
         t->records = a.records;
     }
     bhx_planned a = bhx_plan_into(w->deck, w->deck_len, table_ours, BHX_MOST_FIELDS);
@@ -314,59 +314,78 @@ static void row(const struct work *w)
 static const char mixed[] = "1,(P,16,9),1/17,(P,16,9),10/33,(P,16,9),19/49,(U,8,15),28/57,(U,8,15),43";
 static const char mixed_shape[] = "zzzzzzzzzzzzzzzszzzzzzzzzzzzzzzszzzzzzzzzzzzzzzsddddddde" "ddddddde" "................";
 
+static void fixed_workloads(void)
+{
+    deck(&current, "FF, 80 bytes, TRF, one copy field", "TRF,FF,A=(80,3200),B=(80,3200)", "1,80,1");
+    fixed_reel(&current, REEL, 80, 3200, NULL);
+    row(&current);
+    deck(&current, "FF, 80 bytes, TR", "TR,FF,A=(80,3200),B=(80,1600)", NULL);
+    fixed_reel(&current, REEL - 200, 80, 3200, NULL);
+    row(&current);
+    deck(&current, "FF, 80 bytes, TF, three packs and two unpacks", "TF,FF,A=(80,3200),B=(60,2400)", mixed);
+    fixed_reel(&current, REEL, 80, 3200, mixed_shape);
+    row(&current);
+    deck(&current, "FF, one byte, TR", "TR,FF,A=(1,32760),B=(1,32760)", NULL);
+    fixed_reel(&current, REEL, 1, 32760, NULL);
+    row(&current);
+    deck(&current, "FF, one byte, TRF, one copy field", "TRF,FF,A=(1,32760),B=(1,32760)", "1,1,1");
+    fixed_reel(&current, REEL, 1, 32760, NULL);
+    row(&current);
+    deck(&current, "FF, one byte, TRF, one pack field", "TRF,FF,A=(1,32760),B=(1,32760)", "1,(P,1,1),1");
+    fixed_reel(&current, REEL, 1, 32760, "s");
+    row(&current);
+    many_fields(&current, "FF, 4,096 bytes, TRF, 64 copies of 64 bytes", 4096, 64, 64, true);
+    fixed_reel(&current, REEL, 4096, 4096, NULL);
+    row(&current);
+    many_fields(&current, "FF, 4,096 bytes, TRF, 64 copies of 4,096 bytes", 4096, 64, 4096, false);
+    fixed_reel(&current, REEL, 4096, 4096, NULL);
+    row(&current);
+}
+
+static void variable_workloads(void)
+{
+    deck(&current, "FV, 20 to 120 bytes, TRF, one copy field and CV", "TRF,FV,A=(20,4096),B=(20,4096)", "1,20,1/CV");
+    variable_reel(&current, REEL, 20, 120, 4096, NULL);
+    row(&current);
+    deck(&current, "FV, 16 to 40 bytes, TF, one pack field and CV", "TF,FV,A=(16,4096),B=(9,4096)", "1,(P,16,9),1/CV");
+    variable_reel(&current, REEL, 16, 40, 4096, "zzzzzzzzzzzzzzzs");
+    row(&current);
+    deck(&current, "FV, 1 to 8 bytes, TR", "TR,FV,A=(4096),B=(4096)", NULL);
+    variable_reel(&current, REEL, 1, 8, 4096, NULL);
+    row(&current);
+}
+
+static void copied_workloads(void)
+{
+    deck(&current, "FF, 80 bytes, TC", "TC,FF,A=(80,3200),B=(80,3200)", NULL);
+    fixed_reel(&current, REEL, 80, 3200, NULL);
+    row(&current);
+    deck(&current, "FV, 20 to 120 bytes, TC", "TC,FV,A=(4096),B=(4096)", NULL);
+    variable_reel(&current, REEL, 20, 120, 4096, NULL);
+    row(&current);
+    deck(&current, "FU, TC", "TC,FU,A=(3200),B=(3200)", NULL);
+    fixed_reel(&current, REEL, 80, 3200, NULL);
+    row(&current);
+}
+
+static void plan_workloads(void)
+{
+    many_fields(&current, "plan: 64 cards, 64 copies of 4,096 bytes", 4096, 64, 4096, false);
+    row(&current);
+    many_fields(&current, "plan: 64 cards, 64 copies of 64 bytes", 4096, 64, 64, true);
+    row(&current);
+    deck(&current, "plan: 3 cards, 80 bytes, five fields", "TF,FF,A=(80,3200),B=(60,2400)", mixed);
+    row(&current);
+}
+
 static void workloads(void)
 {
-    static struct work w;
     puts("| workload | records | fields | ours, microseconds | plain C, microseconds | ratio | 10 to 90 percent |");
     puts("|---|---|---|---|---|---|---|");
-    deck(&w, "FF, 80 bytes, TRF, one copy field", "TRF,FF,A=(80,3200),B=(80,3200)", "1,80,1");
-    fixed_reel(&w, REEL, 80, 3200, NULL);
-    row(&w);
-    deck(&w, "FF, 80 bytes, TR", "TR,FF,A=(80,3200),B=(80,1600)", NULL);
-    fixed_reel(&w, REEL - 200, 80, 3200, NULL);
-    row(&w);
-    deck(&w, "FF, 80 bytes, TF, three packs and two unpacks", "TF,FF,A=(80,3200),B=(60,2400)", mixed);
-    fixed_reel(&w, REEL, 80, 3200, mixed_shape);
-    row(&w);
-    deck(&w, "FF, one byte, TR", "TR,FF,A=(1,32760),B=(1,32760)", NULL);
-    fixed_reel(&w, REEL, 1, 32760, NULL);
-    row(&w);
-    deck(&w, "FF, one byte, TRF, one copy field", "TRF,FF,A=(1,32760),B=(1,32760)", "1,1,1");
-    fixed_reel(&w, REEL, 1, 32760, NULL);
-    row(&w);
-    deck(&w, "FF, one byte, TRF, one pack field", "TRF,FF,A=(1,32760),B=(1,32760)", "1,(P,1,1),1");
-    fixed_reel(&w, REEL, 1, 32760, "s");
-    row(&w);
-    deck(&w, "FV, 20 to 120 bytes, TRF, one copy field and CV", "TRF,FV,A=(20,4096),B=(20,4096)", "1,20,1/CV");
-    variable_reel(&w, REEL, 20, 120, 4096, NULL);
-    row(&w);
-    deck(&w, "FV, 16 to 40 bytes, TF, one pack field and CV", "TF,FV,A=(16,4096),B=(9,4096)", "1,(P,16,9),1/CV");
-    variable_reel(&w, REEL, 16, 40, 4096, "zzzzzzzzzzzzzzzs");
-    row(&w);
-    deck(&w, "FV, 1 to 8 bytes, TR", "TR,FV,A=(4096),B=(4096)", NULL);
-    variable_reel(&w, REEL, 1, 8, 4096, NULL);
-    row(&w);
-    many_fields(&w, "FF, 4,096 bytes, TRF, 64 copies of 64 bytes", 4096, 64, 64, true);
-    fixed_reel(&w, REEL, 4096, 4096, NULL);
-    row(&w);
-    many_fields(&w, "FF, 4,096 bytes, TRF, 64 copies of 4,096 bytes", 4096, 64, 4096, false);
-    fixed_reel(&w, REEL, 4096, 4096, NULL);
-    row(&w);
-    deck(&w, "FF, 80 bytes, TC", "TC,FF,A=(80,3200),B=(80,3200)", NULL);
-    fixed_reel(&w, REEL, 80, 3200, NULL);
-    row(&w);
-    deck(&w, "FV, 20 to 120 bytes, TC", "TC,FV,A=(4096),B=(4096)", NULL);
-    variable_reel(&w, REEL, 20, 120, 4096, NULL);
-    row(&w);
-    deck(&w, "FU, TC", "TC,FU,A=(3200),B=(3200)", NULL);
-    fixed_reel(&w, REEL, 80, 3200, NULL);
-    row(&w);
-    many_fields(&w, "plan: 64 cards, 64 copies of 4,096 bytes", 4096, 64, 4096, false);
-    row(&w);
-    many_fields(&w, "plan: 64 cards, 64 copies of 64 bytes", 4096, 64, 64, true);
-    row(&w);
-    deck(&w, "plan: 3 cards, 80 bytes, five fields", "TF,FF,A=(80,3200),B=(60,2400)", mixed);
-    row(&w);
+    fixed_workloads();
+    variable_workloads();
+    copied_workloads();
+    plan_workloads();
 }
 
 /* The times at n, 2n and 4n, of ours and of the plain one, and how they grow. */
@@ -377,57 +396,68 @@ static void growth_row(const char *what, const struct times t[3])
     fflush(stdout);
 }
 
+/* n doubles twice: what `make` fills in for step 0, 1 and 2. */
+static void grow(const char *what, void (*make)(int step))
+{
+    struct times t[3];
+    for (int step = 0; step < 3; step++) {
+        make(step);
+        t[step] = measure(&current);
+    }
+    growth_row(what, t);
+}
+
+static size_t doubled(size_t n, int step) { return n << step; }
+
+static void more_fixed(int step)
+{
+    deck(&current, "records", "TRF,FF,A=(80,3200),B=(80,3200)", "1,80,1");
+    fixed_reel(&current, doubled(REEL / 4, step), 80, 3200, NULL);
+}
+
+static void more_bytes(int step)
+{
+    deck(&current, "records", "TR,FF,A=(1,32760),B=(1,32760)", NULL);
+    fixed_reel(&current, doubled(REEL / 4, step), 1, 32760, NULL);
+}
+
+static void more_variable(int step)
+{
+    deck(&current, "records", "TRF,FV,A=(20,4096),B=(20,4096)", "1,20,1/CV");
+    variable_reel(&current, doubled(REEL / 4, step), 20, 120, 4096, NULL);
+}
+
+static void more_planned_fields(int step) { many_fields(&current, "fields", 4096, doubled(16, step), 4096, false); }
+
+static void more_fields(int step)
+{
+    more_planned_fields(step);
+    fixed_reel(&current, REEL, 4096, 4096, NULL);
+}
+
+static void longer_planned(int step) { many_fields(&current, "length", doubled(1024, step), 64, doubled(1024, step), false); }
+
+static void longer(int step)
+{
+    size_t n = doubled(1024, step);
+    many_fields(&current, "length", n, 4, n, false);
+    fixed_reel(&current, 14 * n + 64, n, n, NULL);
+}
+
+static void more_cards(int step) { many_fields(&current, "cards", 64, doubled(15, step), 1, true); }
+
 static void growth(void)
 {
-    static struct work w;
-    struct times t[3];
     puts("| what grows | ours at n | at 2n | at 4n | 2n to n | 4n to 2n | plain C, 2n to n | 4n to 2n |");
     puts("|---|---|---|---|---|---|---|---|");
-    for (int i = 0; i < 3; i++) {
-        deck(&w, "records", "TRF,FF,A=(80,3200),B=(80,3200)", "1,80,1");
-        fixed_reel(&w, (size_t)REEL / 4 << i, 80, 3200, NULL);
-        t[i] = measure(&w);
-    }
-    growth_row("records: 16, 32, 64 KiB of 80-byte records, TRF, one copy field", t);
-    for (int i = 0; i < 3; i++) {
-        deck(&w, "records", "TR,FF,A=(1,32760),B=(1,32760)", NULL);
-        fixed_reel(&w, (size_t)REEL / 4 << i, 1, 32760, NULL);
-        t[i] = measure(&w);
-    }
-    growth_row("records: 16, 32, 64 KiB of one-byte records, TR", t);
-    for (int i = 0; i < 3; i++) {
-        deck(&w, "records", "TRF,FV,A=(20,4096),B=(20,4096)", "1,20,1/CV");
-        variable_reel(&w, (size_t)REEL / 4 << i, 20, 120, 4096, NULL);
-        t[i] = measure(&w);
-    }
-    growth_row("records: 16, 32, 64 KiB of variable records, TRF with CV", t);
-    for (int i = 0; i < 3; i++) {
-        many_fields(&w, "fields", 4096, (size_t)16 << i, 4096, false);
-        fixed_reel(&w, REEL, 4096, 4096, NULL);
-        t[i] = measure(&w);
-    }
-    growth_row("fields: 16, 32, 64 copies of 4,096 bytes, 15 records", t);
-    for (int i = 0; i < 3; i++) {
-        many_fields(&w, "fields", 4096, (size_t)16 << i, 4096, false);
-        t[i] = measure(&w);
-    }
-    growth_row("plan, fields: 16, 32, 64 copies of 4,096 bytes", t);
-    for (int i = 0; i < 3; i++) {
-        many_fields(&w, "length", (size_t)1024 << i, 64, (size_t)1024 << i, false);
-        t[i] = measure(&w);
-    }
-    growth_row("plan, record length: 64 copies of 1,024, 2,048, 4,096 bytes", t);
-    for (int i = 0; i < 3; i++) {
-        many_fields(&w, "length", (size_t)1024 << i, 4, (size_t)1024 << i, false);
-        fixed_reel(&w, 14 * ((size_t)1024 << i) + 8 + 56, (size_t)1024 << i, (size_t)1024 << i, NULL);
-        t[i] = measure(&w);
-    }
-    growth_row("record length: 14 records of 1,024, 2,048, 4,096 bytes, 4 copies", t);
-    for (int i = 0; i < 3; i++) {
-        many_fields(&w, "cards", 64, (size_t)15 << i, 1, true);
-        t[i] = measure(&w);
-    }
-    growth_row("plan, cards: 17, 32, 62 cards of 80 bytes, one short field each", t);
+    grow("records: 16, 32, 64 KiB of 80-byte records, TRF, one copy field", more_fixed);
+    grow("records: 16, 32, 64 KiB of one-byte records, TR", more_bytes);
+    grow("records: 16, 32, 64 KiB of variable records, TRF with CV", more_variable);
+    grow("fields: 16, 32, 64 copies of 4,096 bytes, 15 records", more_fields);
+    grow("plan, fields: 16, 32, 64 copies of 4,096 bytes", more_planned_fields);
+    grow("record length: 14 records of 1,024, 2,048, 4,096 bytes, 4 copies", longer);
+    grow("plan, record length: 64 copies of 1,024, 2,048, 4,096 bytes", longer_planned);
+    grow("plan, cards: 17, 32, 62 cards of 80 bytes, one short field each", more_cards);
 }
 
 int main(int argc, char **argv)
