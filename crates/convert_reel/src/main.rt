@@ -1,6 +1,6 @@
 // Converts a reel as a deck asks: convert_reel DECK REEL OUT. Prints one line: refusal, place, length, records, blocks. OUT is written only
-// where the run is finished. What is refused, and a file that cannot be read or written, is said in plain words on standard error; such a
-// file gives no line.
+// where the run is finished. What is refused, what the plan of a finished run loses, and a file that cannot be read or written, is said in
+// plain words on standard error; such a file gives no line.
 mod given;
 mod output;
 
@@ -30,6 +30,7 @@ fn convert(deck: &[u8], reel: &[u8], out: &[u8]) {
     let n = ran.length;
     if output::write(out, &room[..n]) {
         notices::line(&[0, 0, n, ran.records, ran.blocks]);
+        notices::loss(plans::plan_deck(deck));
     }
 }
 

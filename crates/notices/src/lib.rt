@@ -5,6 +5,7 @@ mod reel;
 
 use libc::STDERR_FILENO;
 use libc::STDOUT_FILENO;
+use plans::Planned;
 
 // Words on standard error.
 pub fn say(text: &[u8]) {
@@ -55,8 +56,8 @@ pub fn refused(refusal: usize, place: usize) {
     say(b"\n");
 }
 
-// What a plan loses: a half byte of the first n bytes, or the tail, whose place is 2n.
-pub fn lost(n: usize, place: usize) {
+// A half byte of the first n bytes is lost, or the tail, whose place is 2n.
+fn lost(n: usize, place: usize) {
     say(b"the plan loses: ");
     if place / 2 == n {
         say(b"the tail, all data past the first ");
@@ -66,4 +67,13 @@ pub fn lost(n: usize, place: usize) {
     }
     half(place);
     say(b", is not in the output; records that differ only there become alike\n");
+}
+
+// What an accepted plan loses, if it loses anything.
+pub fn loss(plan: Planned) {
+    if plan.keeping == 0 {
+        let asked = plan.asked;
+        let input = asked.input;
+        lost(combinations::record_length(input), plan.lost);
+    }
 }

@@ -15,11 +15,7 @@ fn whole(deck: &[u8]) {
         return;
     }
     notices::line(&[0, 0, p.keeping, p.lost]);
-    if p.keeping == 0 {
-        let asked = p.asked;
-        let input = asked.input;
-        notices::lost(combinations::record_length(input), p.lost);
-    }
+    notices::loss(p);
 }
 
 fn main() {

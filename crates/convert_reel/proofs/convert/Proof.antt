@@ -35,6 +35,12 @@ slice-aggregate-line c = search needs
 line-requires : tie.Need-line-requires
 line-requires c κs = search needs
 
+plan-deck-requires : tie.Need-plan-deck-requires
+plan-deck-requires c κs = search needs
+
+loss-requires : tie.Need-loss-requires
+loss-requires c κs = search needs
+
 returns-2 : tie.Need-returns-2
 returns-2 c = search needs
 
@@ -55,5 +61,7 @@ convert-spec =
     write-requires
     slice-aggregate-line
     line-requires
+    plan-deck-requires
+    loss-requires
     returns-2
     returns-3)
