@@ -1,18 +1,20 @@
 -- What a field does to the marks and to the sources of the halves that it reads and writes, and that it leaves all others as they are.
 use mathlib.Core.Path.{_≡_, refl, ap, sym, subst, _∙_}
-use mathlib.Core.Bool.{Bool, _&&_}
+use mathlib.Core.Bool.{Bool, true, false, cond, _&&_}
 use Prim.Native.Nat.{ℕ, _+_, _-_, _*_, _≤_, _<_}
 use native.Mathlib.Omega.{arith}
 use Rattle.rules.specs.Halves.{readsFrom, writesFrom}
-use Rattle.rules.specs.Permitted.{kindAllows, allows}
+use Rattle.rules.specs.Permitted.{any, kindAllows, reads, allows}
 use Rattle.rules.specs.Lent.{zoneF}
 use Rattle.rules.proofs.PermittedLaws.{any-of, allows-before, allows-inside, allows-after}
 use Rattle.terms.specs.Meaning.{fieldOf}
 use Rattle.terms.specs.declared.Field.{Field}
-use Rattle.keeping.specs.Marks.{markAllows, meetOf, Says, Gives}
+use Rattle.terms.specs.declared.Kind.{Kind}
+use Rattle.terms.specs.declared.Kind.the-variants.{Copy, Pack, Unpack}
+use Rattle.keeping.specs.Marks.{markAllows, meetOf, Says, askingOf, Gives}
 use Rattle.keeping.specs.Promise.{FairField}
 use Rattle.keeping.specs.declared.Mark.{Mark}
-use Rattle.keeping.proofs.Fields.{input-is}
+use Rattle.keeping.proofs.Fields.{kind-of, input-is}
 use Rattle.keeping.proofs.Meets.{meet-allows}
 
 -- half h has mark b after a field, where it had mark a: it permits what both permit
@@ -25,6 +27,13 @@ pub record Put (f : Field) (g a b : ℕ) : Type 0 where
   pub inside : (j : ℕ) → g ≡ writesFrom (fieldOf f) + j → j < 2 * f .output → Gives f j b
   pub after : writesFrom (fieldOf f) + 2 * f .output ≤ g → b ≡ a
 
+-- a field asks nothing of halves that it does not read
+pub asking-most : (c : Kind) (input many : ℕ) → many ≡ askingOf c input → many ≤ 2 * input
+unfolding askingOf
+asking-most Copy input many e = omega arith
+asking-most Pack input many e = omega arith
+asking-most Unpack input many e = omega arith
+
 module _ (n m : ℕ) (f : Field) (ok : FairField n m f) (h : ℕ) where
   -- ---- marks
 
@@ -36,7 +45,7 @@ module _ (n m : ℕ) (f : Field) (ok : FairField n m f) (h : ℕ) where
   unfolding Met
   met-below a b v l = rw (allows-before zoneF (fieldOf f) v h (omega (arith, from-is)), any-of v l)
 
-  pub met-above : (a : Mark) → 2 * f .r - 2 + 2 * f .input ≤ h → Met f h a a
+  met-above : (a : Mark) → 2 * f .r - 2 + 2 * f .input ≤ h → Met f h a a
   unfolding Met
   met-above a b v l = rw (allows-after zoneF (fieldOf f) v h (omega (arith, from-is, input-is f)), any-of v l)
 
@@ -45,6 +54,29 @@ module _ (n m : ℕ) (f : Field) (ok : FairField n m f) (h : ℕ) where
   met-inside j a b e l says v s =
       meet-allows b a v s
       ∙ ap (λ (t : Bool). t && markAllows a v) (says v s ∙ sym (allows-inside zoneF (fieldOf f) v h j (omega (arith, from-is)) (omega (arith, input-is f))))
+
+  -- a copy takes any value
+  copy-allows : f .kind ≡ Copy → (v : ℕ) → v < 16 → allows zoneF (fieldOf f) h v ≡ true
+  unfolding allows
+  copy-allows q v l = go (reads (fieldOf f) h)
+    where
+      go : (t : Bool) → cond t (kindAllows zoneF (fieldOf f .kind) (h - readsFrom (fieldOf f)) v) (any v) ≡ true
+      go true = rw (kind-of f Copy q) (any-of v l)
+      go false = any-of v l
+
+  met-copy : (a : Mark) → f .kind ≡ Copy → Met f h a a
+  unfolding Met
+  met-copy a q v l = rw (copy-allows q v l)
+
+  -- past the halves of which a field asks something
+  pub met-past : (a : Mark) → 2 * f .r - 2 + askingOf (f .kind) (f .input) ≤ h → Met f h a a
+  unfolding askingOf
+  met-past a b = go (f .kind) refl b
+    where
+      go : (c : Kind) → f .kind ≡ c → 2 * f .r - 2 + askingOf c (f .input) ≤ h → Met f h a a
+      go Copy q l = met-copy a q
+      go Pack q l = met-above a l
+      go Unpack q l = met-above a l
 
   -- ---- sources
 

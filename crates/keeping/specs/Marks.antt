@@ -3,7 +3,7 @@
 use mathlib.Core.Path.{_≡_}
 use mathlib.Core.Bool.{Bool, true, false}
 use mathlib.Core.List.{List}
-use Prim.Native.Nat.{ℕ, _+_, _≤_, _<_}
+use Prim.Native.Nat.{ℕ, _+_, _*_, _≤_, _<_}
 use lib.Dec.{eqb}
 use lib.ListN.{length, getD}
 use Rattle.rules.specs.Halves.{readsFrom, readsMany, blank, fieldHalves, Source, from, constant, froms}
@@ -11,6 +11,8 @@ use Rattle.rules.specs.Permitted.{digit, sign, any, count}
 use Rattle.rules.specs.Lent.{zoneF}
 use Rattle.terms.specs.Meaning.{fieldOf}
 use Rattle.terms.specs.declared.Field.{Field}
+use Rattle.terms.specs.declared.Kind.{Kind}
+use Rattle.terms.specs.declared.Kind.the-variants.{Copy, Pack, Unpack}
 use Rattle.keeping.specs.declared.Mark.{Mark}
 use Rattle.keeping.specs.declared.Mark.the-variants.{Any, Digit, Sign, Only, Nothing}
 
@@ -52,6 +54,12 @@ choicesOf a = count (markAllows a) 16
 -- a mark permits just the halves that pass a test
 abbrev pub Says : Mark → (ℕ → Bool) → Type 0
 Says a p = (v : ℕ) → v < 16 → markAllows a v ≡ p v
+
+-- of how many halves of its input a field asks something: a copy takes any value
+unfoldable pub askingOf : Kind → ℕ → ℕ
+askingOf Copy input = 0
+askingOf Pack input = 2 * input
+askingOf Unpack input = 2 * input
 
 -- which values an array of marks permits in half i
 unfoldable pub permitsIn : List Mark → ℕ → ℕ → Bool

@@ -8,7 +8,7 @@ ghost use Rattle.rules.specs.Permitted.{kindAllows, permitted as permittedBy};
 ghost use Rattle.rules.specs.Keeping.{lostHalf};
 ghost use Rattle.rules.specs.Lent.{zoneF};
 ghost use Rattle.terms.specs.Meaning.{fieldOf};
-ghost use Rattle.keeping.specs.Marks.{markAllows, onlyIf, meetOf, choicesOf, Says, permitsIn, Gives, Stand};
+ghost use Rattle.keeping.specs.Marks.{markAllows, onlyIf, meetOf, choicesOf, Says, askingOf, permitsIn, Gives, Stand};
 ghost use Rattle.keeping.specs.Promise.{FairField, Fair, barrenOf, weighedOf};
 use terms::Field;
 use terms::Kind;
@@ -124,8 +124,21 @@ fn mark_of(f: Field, j: usize) -> Mark
     }
 }
 
-// The marks of all fields: a half read by several must satisfy them all. A field asks nothing of the halves that it does not read, so each goes
-// through its own halves alone, in place: a function for each field would copy the array each time.
+// Of how many halves of its input a field asks something: a copy takes any value, so its halves need no walk.
+fn asking(f: Field) -> usize
+    requires { ⌜ FairField 4096 4096 f ⌝ }
+    ensures { λ r. ⌜ r ≡ askingOf (f .kind) (f .input) ⌝ }
+{
+    let kind = f.kind;
+    match kind {
+        Kind::Copy => 0,
+        Kind::Pack => 2 * f.input,
+        Kind::Unpack => 2 * f.input,
+    }
+}
+
+// The marks of all fields: a half read by several must satisfy them all. Each goes through those halves alone of which it asks something, in
+// place: a function for each field would copy the array each time.
 fn permitted(fields: [Field; 64], count: usize) -> [Mark; 8192]
     requires { ⌜ Fair fields count 4096 4096 ⌝ }
     ensures { λ r. ⌜ ((h : ℕ) → h < 8192 → Says (getD r h Mark.Any) (permittedBy zoneF (map fieldOf (take count fields)) h)) ⌝ }
@@ -135,7 +148,7 @@ fn permitted(fields: [Field; 64], count: usize) -> [Mark; 8192]
     while k < count {
         let f = fields[k];
         let from = 2 * f.r - 2;
-        let many = 2 * f.input;
+        let many = asking(f);
         let mut j = 0;
         while j < many {
             let at = from + j;

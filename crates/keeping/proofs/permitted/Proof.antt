@@ -2,7 +2,7 @@
 -- below `from + j` have met the field, and the others are as they were.
 use mathlib.Core.Path.{_∙_, _≡_, refl, subst}
 use mathlib.Core.List.{List}
-use Prim.Native.Nat.{ℕ, _+_, _-_, _≤_, _<_}
+use Prim.Native.Nat.{ℕ, _+_, _-_, _*_, _≤_, _<_}
 use native.Mathlib.Omega.{arith}
 use lib.ListN.{length, take, getD, getD-replicate, length-replicate}
 use borrow.Author.Needs.{needs}
@@ -14,13 +14,13 @@ use Rattle.keeping.specs.declared.Mark.{Mark}
 use Rattle.keeping.specs.Marks.{Says}
 use Rattle.keeping.specs.Promise.{FairField}
 use Rattle.keeping.proofs.AllFields.{planned, planned-all, says-none, says-more}
-use Rattle.keeping.proofs.Arrays.{Met, met-below, met-inside, met-above}
+use Rattle.keeping.proofs.Arrays.{Met, met-below, met-inside, met-past, asking-most}
 use Rattle.keeping.proofs.Walk.{Upto, upto-none, upto-more, upto-all}
 use Rattle.keeping.proofs.permitted.Statement.{statement}
 use Rattle.keeping.proofs.permitted.Tie as tie
 
 abbrev Inv-loop2 : tie.InvT-loop2
-Inv-loop2 count fields out₀ k f from many j₀ out j = FairField 4096 4096 f × (length out₀ ≡ 8192) × (j ≤ many) × Upto Any (Met f) out₀ out (from + j)
+Inv-loop2 count fields out₀ k f from many j₀ out j = FairField 4096 4096 f × (length out₀ ≡ 8192) × (many ≤ 2 * f .input) × (j ≤ many) × Upto Any (Met f) out₀ out (from + j)
 
 abbrev μ-loop2 : tie.MeasureT-loop2
 μ-loop2 count fields out₀ k f from many j₀ out j = many - j
@@ -48,13 +48,13 @@ mul-from c = let ok = (c .before .before .before .before .pre .each _ (c .before
 sub-from : tie.Need-sub-from Inv-loop2 μ-loop2 Inv-loop μ-loop
 sub-from c = let ok = (c .before .before .before .before .pre .each _ (c .before .before .loop-test .taken)) in omega (arith, ok .r-low)
 
-mul-many : tie.Need-mul-many Inv-loop2 μ-loop2 Inv-loop μ-loop
-mul-many c = let ok = (c .before .before .before .before .before .pre .each _ (c .before .before .before .loop-test .taken)) in omega (arith, ok .r-high)
+asking-requires : tie.Need-asking-requires Inv-loop2 μ-loop2 Inv-loop μ-loop
+asking-requires c κs = c .before .before .before .before .pre .each _ (c .before .before .loop-test .taken)
 
 loop2-holds : tie.Need-loop2-holds Inv-loop2 μ-loop2 Inv-loop μ-loop
 loop2-holds c =
     let ok = (c .before .before .before .before .before .pre .each _ (c .before .before .before .loop-test .taken)) in
-    (ok, c .before .before .before .before .loop .inv .1, omega arith, upto-none _ _ _ _ (λ k a l. met-below _ _ _ ok k a (omega arith)))
+    (ok, c .before .before .before .before .loop .inv .1, asking-most _ _ _ (c .asking .ensures), omega arith, upto-none _ _ _ _ (λ k a l. met-below _ _ _ ok k a (omega arith)))
 
 add-at : tie.Need-add-at Inv-loop2 μ-loop2 Inv-loop μ-loop
 add-at c = search needs
@@ -88,10 +88,11 @@ loop2-again c =
     let i = c .before .before .before .before .loop2 .inv in (
       i .0,
       i .1,
+      i .2,
       omega arith,
       upto-more _ _ _ _ _ _ _ (omega arith) (rw (i .1) (omega arith))
-          (rw (c .meet .ensures) (met-inside _ _ _ (i .0) _ _ _ (c .before .mark-of .result) refl (c .before .before .before .loop2-test .taken) (c .before .mark-of .ensures)))
-          (i .3),
+          (rw (c .meet .ensures) (met-inside _ _ _ (i .0) _ _ _ (c .before .mark-of .result) refl (omega (arith, i .2, c .before .before .before .loop2-test .taken)) (c .before .mark-of .ensures)))
+          (i .4),
     )
 
 add-k : tie.Need-add-k Inv-loop2 μ-loop2 Inv-loop μ-loop
@@ -106,10 +107,10 @@ loop-again c =
     let o = l .loop .inv in
     let i = c .before .loop2 .inv in (
       o .0,
-      i .3 .len ∙ i .1,
+      i .4 .len ∙ i .1,
       omega arith,
       λ h t. says-more _ _ (omega (arith, o .0, l .before .pre .few)) _ (c .before .before .before .before .before .loop-test .taken) h _ _
-          (upto-all _ _ _ _ _ (λ j a e. met-above _ _ _ (i .0) j a (omega arith)) (i .3) h (rw (i .1) t)) (o .3 h t),
+          (upto-all _ _ _ _ _ (λ j a e. met-past _ _ _ (i .0) j a (omega (arith, c .before .before .asking .ensures))) (i .4) h (rw (i .1) t)) (o .3 h t),
     )
 
 returns : tie.Need-returns Inv-loop2 μ-loop2 Inv-loop μ-loop
@@ -134,7 +135,7 @@ permitted-spec =
     array-copy-out-f
     mul-from
     sub-from
-    mul-many
+    asking-requires
     loop2-holds
     add-at
     mul-old
