@@ -18,11 +18,11 @@ use Rattle.rules.proofs.PermittedLaws.{at-all, permitted-step}
 use Rattle.rules.proofs.SourceSteps.{no-sources, length-sources, source-inside, source-before, source-after, reads-room}
 use Rattle.terms.specs.Meaning.{fieldOf, noField}
 use Rattle.terms.specs.declared.Field.{Field}
-use Rattle.keeping.specs.Marks.{Says, numbered, nowhere, Gives, Stand}
+use Rattle.keeping.specs.Marks.{Says, numbered, nowhere, Gives, Put, Stand}
 use Rattle.keeping.specs.Promise.{Fair}
 use Rattle.keeping.specs.declared.Mark.{Mark}
 use Rattle.keeping.specs.declared.Mark.the-variants.{Any}
-use Rattle.keeping.proofs.Arrays.{Met, Put}
+use Rattle.keeping.proofs.Arrays.{Met}
 use Rattle.keeping.proofs.Fields.{output-is, fair-fits}
 
 module _ (fields : List Field) (count : ℕ) where

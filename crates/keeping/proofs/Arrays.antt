@@ -3,7 +3,7 @@ use mathlib.Core.Path.{_≡_, refl, ap, sym, subst, _∙_}
 use mathlib.Core.Bool.{Bool, true, false, cond, _&&_}
 use Prim.Native.Nat.{ℕ, _+_, _-_, _*_, _≤_, _<_}
 use native.Mathlib.Omega.{arith}
-use Rattle.rules.specs.Halves.{readsFrom, writesFrom}
+use Rattle.rules.specs.Halves.{readsFrom}
 use Rattle.rules.specs.Permitted.{any, kindAllows, reads, allows}
 use Rattle.rules.specs.Lent.{zoneF}
 use Rattle.rules.proofs.PermittedLaws.{any-of, allows-before, allows-inside, allows-after}
@@ -11,7 +11,7 @@ use Rattle.terms.specs.Meaning.{fieldOf}
 use Rattle.terms.specs.declared.Field.{Field}
 use Rattle.terms.specs.declared.Kind.{Kind}
 use Rattle.terms.specs.declared.Kind.the-variants.{Copy, Pack, Unpack}
-use Rattle.keeping.specs.Marks.{markAllows, meetOf, Says, askingOf, Gives}
+use Rattle.keeping.specs.Marks.{markAllows, meetOf, Says, askingOf, Gives, Put}
 use Rattle.keeping.specs.Promise.{FairField}
 use Rattle.keeping.specs.declared.Mark.{Mark}
 use Rattle.keeping.proofs.Fields.{kind-of, input-is}
@@ -20,12 +20,6 @@ use Rattle.keeping.proofs.Meets.{meet-allows}
 -- half h has mark b after a field, where it had mark a: it permits what both permit
 unfoldable pub Met : Field → ℕ → Mark → Mark → Type 0
 Met f h a b = Says b (λ v. allows zoneF (fieldOf f) h v && markAllows a v)
-
--- half g of the output has a source of number b after a field, where it had one of number a
-pub record Put (f : Field) (g a b : ℕ) : Type 0 where
-  pub before : g < writesFrom (fieldOf f) → b ≡ a
-  pub inside : (j : ℕ) → g ≡ writesFrom (fieldOf f) + j → j < 2 * f .output → Gives f j b
-  pub after : writesFrom (fieldOf f) + 2 * f .output ≤ g → b ≡ a
 
 -- a field asks nothing of halves that it does not read
 pub asking-most : (c : Kind) (input many : ℕ) → many ≡ askingOf c input → many ≤ 2 * input

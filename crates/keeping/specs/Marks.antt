@@ -6,7 +6,7 @@ use mathlib.Core.List.{List}
 use Prim.Native.Nat.{ℕ, _+_, _*_, _≤_, _<_}
 use lib.Dec.{eqb}
 use lib.ListN.{length, getD}
-use Rattle.rules.specs.Halves.{readsFrom, readsMany, blank, fieldHalves, Source, from, constant, froms}
+use Rattle.rules.specs.Halves.{readsFrom, readsMany, writesFrom, blank, fieldHalves, Source, from, constant, froms}
 use Rattle.rules.specs.Permitted.{digit, sign, any, count}
 use Rattle.rules.specs.Lent.{zoneF}
 use Rattle.terms.specs.Meaning.{fieldOf}
@@ -81,6 +81,17 @@ unfoldable pub Gives : Field → ℕ → ℕ → Type 0
 Gives f j s =
     (many : ℕ) → readsFrom (fieldOf f) + readsMany (fieldOf f) ≤ many
     → s ≡ numbered (getD (fieldHalves zoneF constant (fieldOf f) (froms 0 many)) j nowhere)
+
+-- half g of the output has a source of number b after a field, where it had one of number a
+pub record Put (f : Field) (g a b : ℕ) : Type 0 where
+  pub before : g < writesFrom (fieldOf f) → b ≡ a
+  pub inside : (j : ℕ) → g ≡ writesFrom (fieldOf f) + j → j < 2 * f .output → Gives f j b
+  pub after : writesFrom (fieldOf f) + 2 * f .output ≤ g → b ≡ a
+
+-- the numbers of all halves after a field, where they were s
+pub record Covers (f : Field) (s r : List ℕ) : Type 0 where
+  pub long : length r ≡ 8192
+  pub each : (g : ℕ) → g < 8192 → Put f g (getD s g 0) (getD r g 0)
 
 -- the numbers stand for these sources, place by place
 unfoldable pub Stand : List ℕ → List Source → Type 0

@@ -8,7 +8,7 @@ ghost use Rattle.rules.specs.Permitted.{kindAllows, permitted as permittedBy};
 ghost use Rattle.rules.specs.Keeping.{lostHalf};
 ghost use Rattle.rules.specs.Lent.{zoneF};
 ghost use Rattle.terms.specs.Meaning.{fieldOf};
-ghost use Rattle.keeping.specs.Marks.{markAllows, onlyIf, meetOf, choicesOf, Says, askingOf, permitsIn, Gives, Stand};
+ghost use Rattle.keeping.specs.Marks.{markAllows, onlyIf, meetOf, choicesOf, Says, askingOf, permitsIn, Gives, Covers, Stand};
 ghost use Rattle.keeping.specs.Promise.{FairField, Fair, barrenOf, weighedOf};
 use terms::Field;
 use terms::Kind;
@@ -222,21 +222,67 @@ fn unpack_source(f: Field, j: usize) -> u16
     NOWHERE
 }
 
-// The source of half j of what a field writes.
-fn source(f: Field, j: usize) -> u16
+// The sources of what a copy writes, in their places. Each kind has a walk of its own, so that nothing is asked at each half.
+fn copy_sources(f: Field, out: &mut [u16; 8192])
     requires { ⌜ FairField 4096 4096 f ⌝ }
-    requires { ⌜ j < 2 * f .output ⌝ }
-    ensures { λ r. ⌜ Gives f j r ⌝ }
+    requires { ⌜ (length (now out) ≡ 8192) × (f .kind ≡ Kind.Copy) ⌝ }
+    ensures { λ _. ⌜ Covers f (now (out .entry)) (now (out .exit)) ⌝ }
 {
-    let kind = f.kind;
-    match kind {
-        Kind::Copy => (2 * f.r - 2 + j) as u16,
-        Kind::Pack => pack_source(f, j),
-        Kind::Unpack => unpack_source(f, j),
+    let from = 2 * f.r - 2;
+    let to = 2 * f.t - 2;
+    let many = 2 * f.output;
+    let mut j = 0;
+    while j < many {
+        out[to + j] = (from + j) as u16;
+        j += 1;
     }
 }
 
-// The source of each half of the output record after all fields, a later one over an earlier one, in place as the marks.
+// The sources of what a pack writes, in their places.
+fn pack_sources(f: Field, out: &mut [u16; 8192])
+    requires { ⌜ FairField 4096 4096 f ⌝ }
+    requires { ⌜ (length (now out) ≡ 8192) × (f .kind ≡ Kind.Pack) ⌝ }
+    ensures { λ _. ⌜ Covers f (now (out .entry)) (now (out .exit)) ⌝ }
+{
+    let to = 2 * f.t - 2;
+    let many = 2 * f.output;
+    let mut j = 0;
+    while j < many {
+        out[to + j] = pack_source(f, j);
+        j += 1;
+    }
+}
+
+// The sources of what an unpack writes, in their places.
+fn unpack_sources(f: Field, out: &mut [u16; 8192])
+    requires { ⌜ FairField 4096 4096 f ⌝ }
+    requires { ⌜ (length (now out) ≡ 8192) × (f .kind ≡ Kind.Unpack) ⌝ }
+    ensures { λ _. ⌜ Covers f (now (out .entry)) (now (out .exit)) ⌝ }
+{
+    let to = 2 * f.t - 2;
+    let many = 2 * f.output;
+    let mut j = 0;
+    while j < many {
+        out[to + j] = unpack_source(f, j);
+        j += 1;
+    }
+}
+
+// The sources of what a field writes, in their places.
+fn field_sources(f: Field, out: &mut [u16; 8192])
+    requires { ⌜ FairField 4096 4096 f ⌝ }
+    requires { ⌜ length (now out) ≡ 8192 ⌝ }
+    ensures { λ _. ⌜ Covers f (now (out .entry)) (now (out .exit)) ⌝ }
+{
+    let kind = f.kind;
+    match kind {
+        Kind::Copy => copy_sources(f, out),
+        Kind::Pack => pack_sources(f, out),
+        Kind::Unpack => unpack_sources(f, out),
+    }
+}
+
+// The source of each half of the output record after all fields, a later one over an earlier one.
 fn sources(fields: [Field; 64], count: usize) -> [u16; 8192]
     requires { ⌜ Fair fields count 4096 4096 ⌝ }
     ensures { λ r. ⌜ ((n m : ℕ) → Fair fields count n m → Stand r (sourcesBy zoneF m (map fieldOf (take count fields)) (2 * n))) ⌝ }
@@ -245,14 +291,7 @@ fn sources(fields: [Field; 64], count: usize) -> [u16; 8192]
     let mut k = 0;
     while k < count {
         let f = fields[k];
-        let from = 2 * f.t - 2;
-        let many = 2 * f.output;
-        let mut j = 0;
-        while j < many {
-            let at = from + j;
-            out[at] = source(f, j);
-            j += 1;
-        }
+        field_sources(f, &mut out);
         k += 1;
     }
     out
