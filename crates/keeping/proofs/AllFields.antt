@@ -18,12 +18,12 @@ use Rattle.rules.proofs.PermittedLaws.{at-all, permitted-step}
 use Rattle.rules.proofs.SourceSteps.{no-sources, length-sources, source-inside, source-before, source-after, reads-room}
 use Rattle.terms.specs.Meaning.{fieldOf, noField}
 use Rattle.terms.specs.declared.Field.{Field}
-use Rattle.keeping.specs.Marks.{Says, numbered, nowhere, Gives, Put, Stand}
+use Rattle.keeping.specs.Marks.{codedOf, decodedOf, Says, numbered, nowhere, Gives, Put, Stand}
 use Rattle.keeping.specs.Promise.{Fair}
-use Rattle.keeping.specs.declared.Mark.{Mark}
 use Rattle.keeping.specs.declared.Mark.the-variants.{Any}
 use Rattle.keeping.proofs.Arrays.{Met}
 use Rattle.keeping.proofs.Fields.{output-is, fair-fits}
+use Rattle.keeping.proofs.Meets.{code-says}
 
 module _ (fields : List Field) (count : ℕ) where
   -- the fields of the plan
@@ -48,15 +48,15 @@ module _ (fields : List Field) (count : ℕ) where
 
   -- ---- marks
 
-  pub says-none : (h : ℕ) → Says Any (permitted zoneF (take 0 planned) h)
-  says-none h v s = refl
+  pub says-none : (a h : ℕ) → a ≡ codedOf Any → Says (decodedOf a) (permitted zoneF (take 0 planned) h)
+  says-none a h e v s = rw e (code-says Any v s)
 
   module _ (many : count ≤ length fields) (k : ℕ) (l : k < count) where
     here : k < length planned
     here = subst (λ (x : ℕ). k < x) (sym (length-planned many)) l
 
-    pub says-more : (h : ℕ) (a b : Mark) → Met (getD fields k noField) h a b → Says a (permitted zoneF (take k planned) h)
-        → Says b (permitted zoneF (take (k + 1) planned) h)
+    pub says-more : (h a b : ℕ) → Met (getD fields k noField) h a b → Says (decodedOf a) (permitted zoneF (take k planned) h)
+        → Says (decodedOf b) (permitted zoneF (take (k + 1) planned) h)
     unfolding Met
     says-more h a b met says v s =
         met v s

@@ -11,15 +11,15 @@ use Rattle.terms.specs.Meaning.{fieldOf}
 use Rattle.terms.specs.declared.Field.{Field}
 use Rattle.terms.specs.declared.Kind.{Kind}
 use Rattle.terms.specs.declared.Kind.the-variants.{Copy, Pack, Unpack}
-use Rattle.keeping.specs.Marks.{markAllows, meetOf, Says, askingOf, Gives, Put}
+use Rattle.keeping.specs.Marks.{markAllows, meetOf, codedOf, decodedOf, Says, askingOf, Gives, Put}
 use Rattle.keeping.specs.Promise.{FairField}
 use Rattle.keeping.specs.declared.Mark.{Mark}
 use Rattle.keeping.proofs.Fields.{kind-of, input-is}
-use Rattle.keeping.proofs.Meets.{meet-allows}
+use Rattle.keeping.proofs.Meets.{code-says, meet-allows}
 
--- half h has mark b after a field, where it had mark a: it permits what both permit
-unfoldable pub Met : Field → ℕ → Mark → Mark → Type 0
-Met f h a b = Says b (λ v. allows zoneF (fieldOf f) h v && markAllows a v)
+-- half h has a mark of code b after a field, where it had one of code a: it permits what both permit
+unfoldable pub Met : Field → ℕ → ℕ → ℕ → Type 0
+Met f h a b = Says (decodedOf b) (λ v. allows zoneF (fieldOf f) h v && markAllows (decodedOf a) v)
 
 -- a field asks nothing of halves that it does not read
 pub asking-most : (c : Kind) (input many : ℕ) → many ≡ askingOf c input → many ≤ 2 * input
@@ -35,19 +35,21 @@ module _ (n m : ℕ) (f : Field) (ok : FairField n m f) (h : ℕ) where
   unfolding fieldOf
   from-is = omega (arith, ok .r-low)
 
-  pub met-below : (a : Mark) → h < 2 * f .r - 2 → Met f h a a
+  pub met-below : (a : ℕ) → h < 2 * f .r - 2 → Met f h a a
   unfolding Met
   met-below a b v l = rw (allows-before zoneF (fieldOf f) v h (omega (arith, from-is)), any-of v l)
 
-  met-above : (a : Mark) → 2 * f .r - 2 + 2 * f .input ≤ h → Met f h a a
+  met-above : (a : ℕ) → 2 * f .r - 2 + 2 * f .input ≤ h → Met f h a a
   unfolding Met
   met-above a b v l = rw (allows-after zoneF (fieldOf f) v h (omega (arith, from-is, input-is f)), any-of v l)
 
-  pub met-inside : (j : ℕ) (a b : Mark) → h ≡ 2 * f .r - 2 + j → j < 2 * f .input → Says b (kindAllows zoneF (fieldOf f .kind) j) → Met f h a (meetOf b a)
+  pub met-inside : (j a : ℕ) (b : Mark) → h ≡ 2 * f .r - 2 + j → j < 2 * f .input → Says b (kindAllows zoneF (fieldOf f .kind) j)
+      → Met f h a (codedOf (meetOf b (decodedOf a)))
   unfolding Met
   met-inside j a b e l says v s =
-      meet-allows b a v s
-      ∙ ap (λ (t : Bool). t && markAllows a v) (says v s ∙ sym (allows-inside zoneF (fieldOf f) v h j (omega (arith, from-is)) (omega (arith, input-is f))))
+      code-says (meetOf b (decodedOf a)) v s
+      ∙ meet-allows b (decodedOf a) v s
+      ∙ ap (λ (t : Bool). t && markAllows (decodedOf a) v) (says v s ∙ sym (allows-inside zoneF (fieldOf f) v h j (omega (arith, from-is)) (omega (arith, input-is f))))
 
   -- a copy takes any value
   copy-allows : f .kind ≡ Copy → (v : ℕ) → v < 16 → allows zoneF (fieldOf f) h v ≡ true
@@ -58,12 +60,12 @@ module _ (n m : ℕ) (f : Field) (ok : FairField n m f) (h : ℕ) where
       go true = rw (kind-of f Copy q) (any-of v l)
       go false = any-of v l
 
-  met-copy : (a : Mark) → f .kind ≡ Copy → Met f h a a
+  met-copy : (a : ℕ) → f .kind ≡ Copy → Met f h a a
   unfolding Met
   met-copy a q v l = rw (copy-allows q v l)
 
   -- past the halves of which a field asks something
-  pub met-past : (a : Mark) → 2 * f .r - 2 + askingOf (f .kind) (f .input) ≤ h → Met f h a a
+  pub met-past : (a : ℕ) → 2 * f .r - 2 + askingOf (f .kind) (f .input) ≤ h → Met f h a a
   unfolding askingOf
   met-past a b = go (f .kind) refl b
     where

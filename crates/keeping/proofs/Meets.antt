@@ -1,15 +1,17 @@
--- What marks permit: two that meet permit what both do, and a mark of one value permits one. By cases on the marks.
-use mathlib.Core.Path.{_≡_, refl, _∙_}
+-- What marks permit: two that meet permit what both do, a mark of one value permits one, and a mark comes back from its code. By cases on the
+-- marks.
+use mathlib.Core.Path.{_≡_, refl, ap, _∙_}
 use mathlib.Core.Bool.{Bool, true, false, _&&_}
-use Prim.Native.Nat.{ℕ, _≤_, _<_}
+use Prim.Native.Nat.{ℕ, _+_, _-_, _≤_, _<_}
+use native.Mathlib.Decide.{decLt}
 use native.Mathlib.Omega.{arith}
 use lib.Dec.{eqb}
-use borrow.Author.Tests.{eqb-true}
+use borrow.Author.Tests.{le-leb, lt-leb, ne-eqb, eqb-true}
 use Rattle.rules.specs.Permitted.{digit, sign}
 use Rattle.rules.proofs.Tests.{within-low, within-high}
 use Rattle.rules.proofs.PermittedLaws.{any-of}
 use Rattle.rules.proofs.MarkLaws.{count-only, count-past}
-use Rattle.keeping.specs.Marks.{markAllows, onlyIf, meetOf, choicesOf}
+use Rattle.keeping.specs.Marks.{markAllows, onlyIf, meetOf, choicesOf, codedOf, decodedOf, Says}
 use Rattle.keeping.specs.declared.Mark.{Mark}
 use Rattle.keeping.specs.declared.Mark.the-variants.{Any, Digit, Sign, Only, Nothing}
 
@@ -22,6 +24,27 @@ choices-one w l = count-only w 16 (omega arith)
 pub choices-none : (w : ℕ) → 15 < w → choicesOf (Only w) ≡ 0
 unfolding choicesOf
 choices-none w l = count-past w 16 l
+
+-- ---- codes
+
+-- a value alone comes back, where a half has it
+undone : (w : ℕ) → w ≤ 15 → decodedOf (codedOf (Only w)) ≡ Only w
+unfolding codedOf decodedOf
+undone w l =
+    rw (le-leb w 15 l, ne-eqb (w + 4) 0 (λ e. omega arith), ne-eqb (w + 4) 1 (λ e. omega arith), ne-eqb (w + 4) 2 (λ e. omega arith), ne-eqb (w + 4) 3 (λ e. omega arith))
+    (ap Only (let z : w + 4 - 4 ≡ w = omega arith in z))
+
+-- the mark of a mark's code permits the same halves
+pub code-says : (a : Mark) → Says (decodedOf (codedOf a)) (markAllows a)
+unfolding codedOf decodedOf
+code-says Any v l = refl
+code-says Digit v l = refl
+code-says Sign v l = refl
+code-says (Only w) v l = elim (decLt 15 w) [
+  | yes past ↦ rw (lt-leb w 15 past, ne-eqb v w (λ e. omega arith))
+  | no half ↦ ap (λ (a : Mark). markAllows a v) (undone w (omega arith))
+]
+code-says Nothing v l = refl
 
 -- ---- meeting
 

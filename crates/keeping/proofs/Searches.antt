@@ -13,42 +13,40 @@ use Rattle.rules.specs.Halves.{Source, from, constant}
 use Rattle.rules.specs.Permitted.{choices}
 use Rattle.rules.specs.Keeping.{occurs, missing, lostHalf}
 use Rattle.rules.proofs.KeepingSteps.{first-here, first-nowhere, occurs-at, occurs-nowhere, missing-seen, missing-few, missing-unseen, lost-here, lost-nowhere}
-use Rattle.keeping.specs.Marks.{choicesOf, permitsIn, numbered, nowhere, Stand}
+use Rattle.keeping.specs.Marks.{choicesOf, decodedOf, permitsIn, numbered, nowhere, Stand}
 use Rattle.keeping.specs.Promise.{barrenOf}
-use Rattle.keeping.specs.declared.Mark.{Mark}
-use Rattle.keeping.specs.declared.Mark.the-variants.{Any}
 use Rattle.keeping.proofs.Seen.{Seen}
 
-module _ (marks : List Mark) (h : ℕ) where
-  choices-of : choices (permitsIn marks) h ≡ choicesOf (getD marks h Any)
+module _ (marks : List ℕ) (h : ℕ) where
+  choices-of : choices (permitsIn marks) h ≡ choicesOf (decodedOf (getD marks h 0))
   unfolding choices choicesOf permitsIn
   choices-of = refl
 
   -- ---- a half with no permitted value
 
-  pub not-barren : (choicesOf (getD marks h Any) ≡ 0 → ⊥) → eqb (choices (permitsIn marks) h) 0 ≡ false
+  pub not-barren : (choicesOf (decodedOf (getD marks h 0)) ≡ 0 → ⊥) → eqb (choices (permitsIn marks) h) 0 ≡ false
   not-barren some = ne-eqb (choices (permitsIn marks) h) 0 (λ e. some (sym choices-of ∙ e))
 
-  pub barren-here : (n : ℕ) → h < 2 * n → ((j : ℕ) → j < h → eqb (choices (permitsIn marks) j) 0 ≡ false) → choicesOf (getD marks h Any) ≡ 0
+  pub barren-here : (n : ℕ) → h < 2 * n → ((j : ℕ) → j < h → eqb (choices (permitsIn marks) j) 0 ≡ false) → choicesOf (decodedOf (getD marks h 0)) ≡ 0
       → h ≡ barrenOf (permitsIn marks) n
   unfolding barrenOf
   barren-here n l before none =
       sym (first-here (λ i. eqb (choices (permitsIn marks) i) 0) h (2 * n) l before (eq-eqb (choices (permitsIn marks) h) 0 (choices-of ∙ none)))
 
-pub barren-nowhere : (marks : List Mark) (n : ℕ) → ((j : ℕ) → j < 2 * n → eqb (choices (permitsIn marks) j) 0 ≡ false) → 2 * n ≡ barrenOf (permitsIn marks) n
+pub barren-nowhere : (marks : List ℕ) (n : ℕ) → ((j : ℕ) → j < 2 * n → eqb (choices (permitsIn marks) j) 0 ≡ false) → 2 * n ≡ barrenOf (permitsIn marks) n
 unfolding barrenOf
 barren-nowhere marks n before = sym (first-nowhere (λ i. eqb (choices (permitsIn marks) i) 0) (2 * n) before)
 
 -- ---- a half that is missing from the output
 
 -- half j has fewer than two permitted values, or one of so many output halves is taken from it
-abbrev pub Kept : List Mark → List ℕ → ℕ → ℕ → Type 0
-Kept marks sources outputs j = 2 ≤ choicesOf (getD marks j Any) → (i : ℕ) × (i < outputs) × (getD sources i 0 ≡ j)
+abbrev pub Kept : List ℕ → List ℕ → ℕ → ℕ → Type 0
+Kept marks sources outputs j = 2 ≤ choicesOf (decodedOf (getD marks j 0)) → (i : ℕ) × (i < outputs) × (getD sources i 0 ≡ j)
 
-pub kept-few : (marks : List Mark) (sources : List ℕ) (outputs j : ℕ) → choicesOf (getD marks j Any) < 2 → Kept marks sources outputs j
+pub kept-few : (marks : List ℕ) (sources : List ℕ) (outputs j : ℕ) → choicesOf (decodedOf (getD marks j 0)) < 2 → Kept marks sources outputs j
 kept-few marks sources outputs j l t = absurd (omega arith)
 
-pub kept-seen : (marks : List Mark) (sources : List ℕ) (outputs g j : ℕ) (seen : List Bool) → j < 8192 → g ≤ outputs → Seen sources g seen → getD seen j false ≡ true
+pub kept-seen : (marks : List ℕ) (sources : List ℕ) (outputs g j : ℕ) (seen : List Bool) → j < 8192 → g ≤ outputs → Seen sources g seen → getD seen j false ≡ true
     → Kept marks sources outputs j
 kept-seen marks sources outputs g j seen l h u e t = let w = u .some j l e in (w .0, omega (arith, w .1), w .2)
 
@@ -56,7 +54,7 @@ numbered-from : (x : Source) (j : ℕ) → j < 8192 → numbered x ≡ j → x �
 numbered-from (from i) j l e = ap from e
 numbered-from (constant c) j l e = absurd (omega arith)
 
-module _ (marks : List Mark) (sources : List ℕ) (n m : ℕ) (small : n ≤ 4096) (ss : List Source) (long : length ss ≡ 2 * m) (stand : Stand sources ss) (outputs : ℕ) (within : outputs ≤ 2 * m) where
+module _ (marks : List ℕ) (sources : List ℕ) (n m : ℕ) (small : n ≤ 4096) (ss : List Source) (long : length ss ≡ 2 * m) (stand : Stand sources ss) (outputs : ℕ) (within : outputs ≤ 2 * m) where
   not-missing : (j : ℕ) → j < 2 * n → Kept marks sources outputs j → missing (permitsIn marks) ss j ≡ false
   unfolding Stand
   not-missing j l kept = elim (decLt (choices (permitsIn marks) j) 2) [
@@ -82,7 +80,7 @@ module _ (marks : List Mark) (sources : List ℕ) (n m : ℕ) (small : n ≤ 409
             let t : getD seen (getD sources i 0) false ≡ true = u .all i (omega arith) (omega arith) in
             false≢true (sym e ∙ subst (λ (x : ℕ). getD seen x false ≡ true) s t)
 
-    pub lost-here-of : ((j : ℕ) → j < h → Kept marks sources outputs j) → 2 ≤ choicesOf (getD marks h Any)
+    pub lost-here-of : ((j : ℕ) → j < h → Kept marks sources outputs j) → 2 ≤ choicesOf (decodedOf (getD marks h 0))
         → (g : ℕ) (seen : List Bool) → 2 * m ≤ g → Seen sources g seen → getD seen h false ≡ false → h ≡ lostHalf (permitsIn marks) ss (2 * n)
     lost-here-of kept several g seen over u e =
         sym (lost-here (permitsIn marks) ss (2 * n) h l (λ j k. not-missing j (omega arith) (kept j k))

@@ -15,10 +15,8 @@ use Rattle.rules.proofs.Search.{first-most}
 use Rattle.rules.proofs.MarkLaws.{choices-alike, first-alike, lost-alike}
 use Rattle.terms.specs.Meaning.{noField}
 use Rattle.terms.specs.declared.Field.{Field}
-use Rattle.keeping.specs.Marks.{Says, permitsIn}
+use Rattle.keeping.specs.Marks.{decodedOf, Says, permitsIn}
 use Rattle.keeping.specs.Promise.{Fair, barrenOf, lostOf, weighedOf}
-use Rattle.keeping.specs.declared.Mark.{Mark}
-use Rattle.keeping.specs.declared.Mark.the-variants.{Any}
 use Rattle.keeping.specs.declared.Weighed.{Weighed}
 use Rattle.keeping.specs.declared.Weighed.the-variants.{Barren, Kept, Lost}
 use Rattle.keeping.proofs.Fields.{fair-longer}
@@ -34,7 +32,7 @@ fair-longest fields count n m fair = record {
 
 -- ---- from the arrays to the rules
 
-module _ (marks : List Mark) (fs : List RuleField) (n : ℕ) (small : n ≤ 4096) (says : (h : ℕ) → h < 8192 → Says (getD marks h Any) (permitted zoneF fs h)) where
+module _ (marks : List ℕ) (fs : List RuleField) (n : ℕ) (small : n ≤ 4096) (says : (h : ℕ) → h < 8192 → Says (decodedOf (getD marks h 0)) (permitted zoneF fs h)) where
   alike : (h v : ℕ) → h < 2 * n → v < 16 → permitsIn marks h v ≡ permitted zoneF fs h v
   unfolding permitsIn
   alike h v l s = says h (omega arith) v s

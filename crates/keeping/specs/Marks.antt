@@ -1,10 +1,10 @@
 -- What the marks and the numbers of the code mean in the rules: which values a mark permits, and which source a number stands for.
 --
 use mathlib.Core.Path.{_≡_}
-use mathlib.Core.Bool.{Bool, true, false}
+use mathlib.Core.Bool.{Bool, true, false, cond}
 use mathlib.Core.List.{List}
-use Prim.Native.Nat.{ℕ, _+_, _*_, _≤_, _<_}
-use lib.Dec.{eqb}
+use Prim.Native.Nat.{ℕ, _+_, _-_, _*_, _≤_, _<_}
+use lib.Dec.{leb, eqb}
 use lib.ListN.{length, getD}
 use Rattle.rules.specs.Halves.{readsFrom, readsMany, writesFrom, blank, fieldHalves, Source, from, constant, froms}
 use Rattle.rules.specs.Permitted.{digit, sign, any, count}
@@ -51,6 +51,18 @@ meetOf Nothing b = Nothing
 unfoldable pub choicesOf : Mark → ℕ
 choicesOf a = count (markAllows a) 16
 
+-- a mark as a number of one byte; a value that no half has is not told from no value
+unfoldable pub codedOf : Mark → ℕ
+codedOf Any = 0
+codedOf Digit = 1
+codedOf Sign = 2
+codedOf (Only w) = cond (leb w 15) (w + 4) 3
+codedOf Nothing = 3
+
+-- the mark of a code
+unfoldable pub decodedOf : ℕ → Mark
+decodedOf c = cond (eqb c 0) Any (cond (eqb c 1) Digit (cond (eqb c 2) Sign (cond (eqb c 3) Nothing (Only (c - 4)))))
+
 -- a mark permits just the halves that pass a test
 abbrev pub Says : Mark → (ℕ → Bool) → Type 0
 Says a p = (v : ℕ) → v < 16 → markAllows a v ≡ p v
@@ -61,9 +73,9 @@ askingOf Copy input = 0
 askingOf Pack input = 2 * input
 askingOf Unpack input = 2 * input
 
--- which values an array of marks permits in half i
-unfoldable pub permitsIn : List Mark → ℕ → ℕ → Bool
-permitsIn marks i v = markAllows (getD marks i Any) v
+-- which values an array of marks, each by its code, permits in half i
+unfoldable pub permitsIn : List ℕ → ℕ → ℕ → Bool
+permitsIn marks i v = markAllows (decodedOf (getD marks i 0)) v
 
 -- ---- sources
 

@@ -8,7 +8,7 @@ ghost use Rattle.rules.specs.Permitted.{kindAllows, permitted as permittedBy};
 ghost use Rattle.rules.specs.Keeping.{lostHalf};
 ghost use Rattle.rules.specs.Lent.{zoneF};
 ghost use Rattle.terms.specs.Meaning.{fieldOf};
-ghost use Rattle.keeping.specs.Marks.{markAllows, onlyIf, meetOf, choicesOf, Says, askingOf, permitsIn, Gives, Covers, Stand};
+ghost use Rattle.keeping.specs.Marks.{markAllows, onlyIf, meetOf, choicesOf, codedOf, decodedOf, Says, askingOf, permitsIn, Gives, Covers, Stand};
 ghost use Rattle.keeping.specs.Promise.{FairField, Fair, barrenOf, weighedOf};
 use terms::Field;
 use terms::Kind;
@@ -97,6 +97,33 @@ fn choices(a: Mark) -> usize
     }
 }
 
+// The code of a mark, a number of one byte. An array holds its marks by their codes, since numbers are filled in at once and can be lent. A value
+// that no half has is not told from no value.
+fn coded(a: Mark) -> u8
+    ensures { λ r. ⌜ r ≡ codedOf a ⌝ }
+{
+    match a {
+        Mark::Any => 0,
+        Mark::Digit => 1,
+        Mark::Sign => 2,
+        Mark::Only(v) => { if v <= 15 { v + 4 } else { 3 } }
+        Mark::Nothing => 3,
+    }
+}
+
+// The mark of a code.
+fn decoded(code: u8) -> Mark
+    ensures { λ r. ⌜ r ≡ decodedOf code ⌝ }
+{
+    match code {
+        0 => Mark::Any,
+        1 => Mark::Digit,
+        2 => Mark::Sign,
+        3 => Mark::Nothing,
+        _ => Mark::Only(code - 4),
+    }
+}
+
 // What a field permits in half j of its own input.
 fn mark_of(f: Field, j: usize) -> Mark
     requires { ⌜ FairField 4096 4096 f ⌝ }
@@ -137,13 +164,14 @@ fn asking(f: Field) -> usize
     }
 }
 
-// The marks of all fields: a half read by several must satisfy them all. Each goes through those halves alone of which it asks something, in
-// place: a function for each field would copy the array each time.
-fn permitted(fields: [Field; 64], count: usize) -> [Mark; 8192]
+// The marks of all fields, each by its code: a half read by several must satisfy them all. Each goes through those halves alone of which it asks
+// something, in place: a function for each field would copy the array each time.
+fn permitted(fields: [Field; 64], count: usize) -> [u8; 8192]
     requires { ⌜ Fair fields count 4096 4096 ⌝ }
-    ensures { λ r. ⌜ ((h : ℕ) → h < 8192 → Says (getD r h Mark.Any) (permittedBy zoneF (map fieldOf (take count fields)) h)) ⌝ }
+    ensures { λ r. ⌜ ((h : ℕ) → h < 8192 → Says (decodedOf (getD r h 0)) (permittedBy zoneF (map fieldOf (take count fields)) h)) ⌝ }
 {
-    let mut out = [Mark::Any; 8192];
+    let any = coded(Mark::Any);
+    let mut out = [any; 8192];
     let mut k = 0;
     while k < count {
         let f = fields[k];
@@ -152,8 +180,8 @@ fn permitted(fields: [Field; 64], count: usize) -> [Mark; 8192]
         let mut j = 0;
         while j < many {
             let at = from + j;
-            let old = out[at];
-            out[at] = meet(mark_of(f, j), old);
+            let old = decoded(out[at]);
+            out[at] = coded(meet(mark_of(f, j), old));
             j += 1;
         }
         k += 1;
@@ -162,14 +190,14 @@ fn permitted(fields: [Field; 64], count: usize) -> [Mark; 8192]
 }
 
 // The lowest of the 2n halves with no permitted value, or 2n.
-fn barren_half(marks: [Mark; 8192], n: usize) -> usize
+fn barren_half(marks: &[u8; 8192], n: usize) -> usize
     requires { ⌜ n ≤ 4096 ⌝ }
-    ensures { λ r. ⌜ r ≡ barrenOf (permitsIn marks) n ⌝ }
+    ensures { λ r. ⌜ r ≡ barrenOf (permitsIn (now (marks .entry))) n ⌝ }
 {
     let many = 2 * n;
     let mut h = 0;
     while h < many {
-        let mark = marks[h];
+        let mark = decoded(marks[h]);
         if choices(mark) == 0 {
             return h;
         }
@@ -299,9 +327,9 @@ fn sources(fields: [Field; 64], count: usize) -> [u16; 8192]
 
 // The lowest of the 2n input halves with two or more permitted values from which none of the 2m output halves is taken, or 2n. The inner walk
 // goes on where it last stood, so each output half is looked at once in all.
-fn lost_half(marks: [Mark; 8192], sources: &[u16; 8192], n: usize, m: usize) -> usize
+fn lost_half(marks: &[u8; 8192], sources: &[u16; 8192], n: usize, m: usize) -> usize
     requires { ⌜ (n ≤ 4096) × (m ≤ 4096) ⌝ }
-    ensures { λ r. ⌜ ((ss : List Source) → length ss ≡ 2 * m → Stand (now (sources .entry)) ss → r ≡ lostHalf (permitsIn marks) ss (2 * n)) ⌝ }
+    ensures { λ r. ⌜ ((ss : List Source) → length ss ≡ 2 * m → Stand (now (sources .entry)) ss → r ≡ lostHalf (permitsIn (now (marks .entry))) ss (2 * n)) ⌝ }
 {
     let inputs = 2 * n;
     let outputs = 2 * m;
@@ -312,7 +340,7 @@ fn lost_half(marks: [Mark; 8192], sources: &[u16; 8192], n: usize, m: usize) -> 
         if inputs <= h {
             break 'walk inputs;
         }
-        let mark = marks[h];
+        let mark = decoded(marks[h]);
         if choices(mark) < 2 {
             h += 1;
             continue 'walk;
@@ -339,12 +367,12 @@ pub fn weigh(fields: [Field; 64], count: usize, n: usize, m: usize) -> Weighed
     ensures { λ r. ⌜ r ≡ weighedOf zoneF (map fieldOf (take count fields)) n m ⌝ }
 {
     let marks = permitted(fields, count);
-    let barren = barren_half(marks, n);
+    let barren = barren_half(&marks, n);
     if barren < 2 * n {
         return Weighed::Barren { half: barren };
     }
     let taken = sources(fields, count);
-    let lost = lost_half(marks, &taken, n, m);
+    let lost = lost_half(&marks, &taken, n, m);
     if lost < 2 * n {
         return Weighed::Lost { half: lost };
     }

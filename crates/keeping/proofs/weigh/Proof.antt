@@ -16,23 +16,24 @@ use Rattle.keeping.proofs.weigh.Tie as tie
 
 -- the half with no permitted value is the rules'
 barren : (c : tie.After-barren-half)
-    → let a = c .before .before .args in c .barren-half .result ≡ barrenOf (permitted zoneF (planned (a .fields) (a .count))) (a .n)
+    → let a = c .before .before .before .args in c .barren-half .result ≡ barrenOf (permitted zoneF (planned (a .fields) (a .count))) (a .n)
 barren c =
-    let a = c .before .before .args in
-    c .barren-half .ensures ∙ barren-alike _ (planned (a .fields) (a .count)) (a .n) (c .before .before .pre .n-high) (c .before .permitted .ensures)
+    let start = c .before .before .before in
+    let a = start .args in
+    c .barren-half .ensures ∙ barren-alike _ (planned (a .fields) (a .count)) (a .n) (start .pre .n-high) (c .before .before .permitted .ensures)
 
 -- and so is the lost half
 lost : (c : tie.After-lost-half)
-    → let a = c .before .before .before .before .before .before .args in c .lost-half .result ≡ lostOf zoneF (planned (a .fields) (a .count)) (a .n) (a .m)
+    → let a = c .before .before .before .before .before .before .before .before .args in c .lost-half .result ≡ lostOf zoneF (planned (a .fields) (a .count)) (a .n) (a .m)
 lost c =
-    let start = c .before .before .before .before .before .before in
+    let start = c .before .before .before .before .before .before .before .before in
     let a = start .args in
     let fs = planned (a .fields) (a .count) in
     let many : length (a .fields) ≡ 64 = start .good .0 .1 .0 .1 in
     c .lost-half .ensures (sources zoneF (a .m) fs (2 * a .n))
     (length-sources zoneF (a .n) (a .m) fs (fits-all (a .fields) (a .count) (a .n) (a .m) (omega (arith, start .pre .few)) (start .pre)))
-    (c .before .before .sources .ensures (a .n) (a .m) (start .pre))
-    ∙ lost-of _ fs (a .n) (start .pre .n-high) (c .before .before .before .before .before .permitted .ensures) (a .m)
+    (c .before .before .before .sources .ensures (a .n) (a .m) (start .pre))
+    ∙ lost-of _ fs (a .n) (start .pre .n-high) (c .before .before .before .before .before .before .before .permitted .ensures) (a .m)
 
 permitted-requires : tie.Need-permitted-requires
 permitted-requires c κs = fair-longest _ _ _ _ (c .pre)
@@ -47,7 +48,7 @@ returns : tie.Need-returns
 returns c = weighed-barren zoneF _ _ _ _ (barren (c .before)) (c .if1 .taken)
 
 sources-requires : tie.Need-sources-requires
-sources-requires c κs = fair-longest _ _ _ _ (c .before .before .before .pre)
+sources-requires c κs = fair-longest _ _ _ _ (c .before .before .before .before .pre)
 
 lost-half-requires : tie.Need-lost-half-requires
 lost-half-requires c κs = search needs
@@ -56,10 +57,10 @@ mul-if2 : tie.Need-mul-if2
 mul-if2 c = search needs
 
 returns-2 : tie.Need-returns-2
-returns-2 c = weighed-lost zoneF _ _ _ _ (barren (c .before .before .before .before .before)) (c .before .before .before .before .if1 .left) _ (lost (c .before)) (c .if2 .taken)
+returns-2 c = weighed-lost zoneF _ _ _ _ (barren (c .before .before .before .before .before .before)) (c .before .before .before .before .before .if1 .left) _ (lost (c .before)) (c .if2 .taken)
 
 returns-3 : tie.Need-returns-3
-returns-3 c = weighed-kept zoneF _ _ _ _ (barren (c .before .before .before .before .before)) (c .before .before .before .before .if1 .left) _ (lost (c .before)) (c .if2 .left)
+returns-3 c = weighed-kept zoneF _ _ _ _ (barren (c .before .before .before .before .before .before)) (c .before .before .before .before .before .if1 .left) _ (lost (c .before)) (c .if2 .left)
 
 pub weigh-spec : {M : Type 1} → statement M
 weigh-spec =
