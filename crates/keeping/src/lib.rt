@@ -250,18 +250,20 @@ fn unpack_source(f: Field, j: usize) -> u16
     NOWHERE
 }
 
-// The sources of what a copy writes, in their places. Each kind has a walk of its own, so that nothing is asked at each half.
+// The sources of what a copy writes, in their places. Each kind has a walk of its own, so that nothing is asked at each half; here the source is
+// counted as wide as it is stored, which lets the compiler store many at a time.
 fn copy_sources(f: Field, out: &mut [u16; 8192])
     requires { ⌜ FairField 4096 4096 f ⌝ }
     requires { ⌜ (length (now out) ≡ 8192) × (f .kind ≡ Kind.Copy) ⌝ }
     ensures { λ _. ⌜ Covers f (now (out .entry)) (now (out .exit)) ⌝ }
 {
-    let from = 2 * f.r - 2;
     let to = 2 * f.t - 2;
     let many = 2 * f.output;
+    let mut from = (2 * f.r - 2) as u16;
     let mut j = 0;
     while j < many {
-        out[to + j] = (from + j) as u16;
+        out[to + j] = from;
+        from += 1;
         j += 1;
     }
 }

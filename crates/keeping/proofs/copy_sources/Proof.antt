@@ -24,17 +24,11 @@ record Copies (from to many : ℕ) (f : Field) : Type 0 where
   size : many ≡ 2 * f .output
 
 abbrev Inv-loop : tie.InvT-loop
-Inv-loop out₀ from to many j₀ out j =
-    (length out₀ ≡ 8192) × (length out ≡ 8192) × (j ≤ many) × ((f : Field) → Copies from to many f → Upto 0 (Put f) out₀ out (to + j))
+Inv-loop out₀ to many from₀ j₀ out from j =
+    (length out₀ ≡ 8192) × (length out ≡ 8192) × (j ≤ many) × (from ≡ from₀ + j) × ((f : Field) → Copies from₀ to many f → Upto 0 (Put f) out₀ out (to + j))
 
 abbrev μ-loop : tie.MeasureT-loop
-μ-loop out₀ from to many j₀ out j = many - j
-
-mul-from : tie.Need-mul-from Inv-loop μ-loop
-mul-from c = search needs
-
-sub-from : tie.Need-sub-from Inv-loop μ-loop
-sub-from c = search needs
+μ-loop out₀ to many from₀ j₀ out from j = many - j
 
 mul-to : tie.Need-mul-to Inv-loop μ-loop
 mul-to c = search needs
@@ -45,25 +39,31 @@ sub-to c = search needs
 mul-many : tie.Need-mul-many Inv-loop μ-loop
 mul-many c = search needs
 
+mul-from : tie.Need-mul-from Inv-loop μ-loop
+mul-from c = search needs
+
+sub-from : tie.Need-sub-from Inv-loop μ-loop
+sub-from c = search needs
+
+cast-from : tie.Need-cast-from Inv-loop μ-loop
+cast-from c = search needs
+
 loop-holds : tie.Need-loop-holds Inv-loop μ-loop
 loop-holds c =
     let p = c .before .before .before .pre in
-    (p .1 .0, p .1 .0, omega arith, λ f w. upto-none 0 (Put f) _ _ (λ k a l. put-below _ _ f (w .fair) k a (omega (arith, w .writes))))
+    (p .1 .0, p .1 .0, omega arith, omega arith, λ f w. upto-none 0 (Put f) _ _ (λ k a l. put-below _ _ f (w .fair) k a (omega (arith, w .writes))))
 
 add-out : tie.Need-add-out Inv-loop μ-loop
 add-out c = search needs
-
-cast-out : tie.Need-cast-out Inv-loop μ-loop
-cast-out c = search needs
-
-add-out-2 : tie.Need-add-out-2 Inv-loop μ-loop
-add-out-2 c = search needs
 
 mul-out : tie.Need-mul-out Inv-loop μ-loop
 mul-out c = search needs
 
 element-write-out : tie.Need-element-write-out Inv-loop μ-loop
 element-write-out c = search needs
+
+add-from : tie.Need-add-from Inv-loop μ-loop
+add-from c = search needs
 
 add-j : tie.Need-add-j Inv-loop μ-loop
 add-j c = search needs
@@ -77,12 +77,13 @@ loop-again c =
     let f = c .before .before .before .before .before .args .f in
     let j = c .before .loop .j in (
       i .0,
-      length-set (c .before .loop .out) (2 * f .t - 2 + j) (2 * f .r - 2 + j) ∙ i .1,
+      length-set (c .before .loop .out) (2 * f .t - 2 + j) (c .before .loop .from) ∙ i .1,
+      omega arith,
       omega arith,
       λ f w. upto-more 0 (Put f) _ _ _ _ _ (omega arith) (rw (i .0) (omega arith))
           (put-inside _ _ f (w .fair) _ j _ _ (omega (arith, w .writes)) (omega (arith, w .size, c .loop-test .taken))
-          (copy-gives _ _ f (w .fair) _ (2 * f .output - 1 - j) _ (omega (arith, w .size, c .loop-test .taken)) (w .kind) (omega (arith, w .reads))))
-          (i .3 f w),
+          (copy-gives _ _ f (w .fair) _ (2 * f .output - 1 - j) _ (omega (arith, w .size, c .loop-test .taken)) (w .kind) (omega (arith, i .3, w .reads))))
+          (i .4 f w),
     )
 
 returns : tie.Need-returns Inv-loop μ-loop
@@ -90,7 +91,7 @@ returns c =
     let start = c .before .before .before .before .before in
     let i = c .before .loop .inv in
     let w : Copies _ _ _ (start .args .f) = record { fair = start .pre .0; kind = start .pre .1 .1; reads = refl; writes = refl; size = refl } in
-    record { long = i .1; each = λ g l. upto-all _ _ _ _ _ (λ k a e. put-above _ _ _ (w .fair) k a (omega arith)) (i .3 _ w) g (rw (i .0) l) }
+    record { long = i .1; each = λ g l. upto-all _ _ _ _ _ (λ k a e. put-above _ _ _ (w .fair) k a (omega arith)) (i .4 _ w) g (rw (i .0) l) }
 
 pub copy-sources-spec : {M : Type 1} → statement M
 copy-sources-spec =
@@ -98,17 +99,17 @@ copy-sources-spec =
     (tie.spec
     Inv-loop
     μ-loop
-    mul-from
-    sub-from
     mul-to
     sub-to
     mul-many
+    mul-from
+    sub-from
+    cast-from
     loop-holds
     add-out
-    cast-out
-    add-out-2
     mul-out
     element-write-out
+    add-from
     add-j
     loop-less
     loop-again
