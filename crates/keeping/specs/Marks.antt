@@ -1,5 +1,5 @@
--- What the marks and the numbers of the code mean in the rules: which values a mark permits, and which source a number stands for.
---
+-- What the marks and the numbers of the code mean in the rules: which values a mark permits, which mark a code stands for, and which source a
+-- number stands for.
 use mathlib.Core.Path.{_≡_}
 use mathlib.Core.Bool.{Bool, true, false, cond}
 use mathlib.Core.List.{List}
