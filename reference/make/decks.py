@@ -1,3 +1,4 @@
+"""Decks by subject: lines, order, operands, limits, each with its outcome worked by hand."""
 from common import *
 
 FIRST = '// UTT TRF,FF,A=(8,16),B=(7,7)\n// FS 1,4,1/5,(P,4,3),5\n// END\n'

@@ -1,3 +1,4 @@
+"""Pack and unpack: the paper's cases, outside vectors, sizes at their limits."""
 from common import *
 
 def make():

@@ -1,3 +1,4 @@
+"""The decks of document 001, and decks drawn by chance."""
 from common import *
 from decks import HEAD
 

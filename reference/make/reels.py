@@ -1,3 +1,4 @@
+"""Reels: headers, blocks and records of each format, good and damaged."""
 from common import *
 from decks import FIRST
 

@@ -101,7 +101,7 @@ fn is_special(path: &[u8]) -> bool {
 }
 
 // Whether the file now holds these bytes. Otherwise what had its name still has it.
-pub fn write(path: &[u8], bytes: &[u8]) -> bool {
+pub(crate) fn write(path: &[u8], bytes: &[u8]) -> bool {
     if is_special(path) {
         notices::say(path);
         notices::say(b": is a device or a pipe, and no file takes its place\n");

@@ -66,7 +66,7 @@ fn where_it_is(refusal: usize, place: usize) {
     number(place);
 }
 
-pub fn explain(refusal: usize, place: usize) {
+pub(crate) fn explain(refusal: usize, place: usize) {
     where_it_is(refusal, place);
     say(b": ");
     if refusal < 6 {

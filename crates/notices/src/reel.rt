@@ -45,7 +45,7 @@ fn too_long(length: usize) {
 }
 
 // The place is a block or a record. Refusal 11 has none, and that of 15 is a length.
-pub fn explain(refusal: usize, place: usize) {
+pub(crate) fn explain(refusal: usize, place: usize) {
     match refusal {
         11 => not_a_reel(),
         12 => bad_block(place),

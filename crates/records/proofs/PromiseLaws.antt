@@ -77,9 +77,6 @@ pub permitted-only-one : (xs r : List ℕ) → Readable xs (length r) → (x y :
 unfolding Permits
 permitted-only-one xs r k x y h g = let f = k .fielded in h (f .fields) _ _ (f .fair) (k .long) ∙ sym (g (f .fields) _ _ (f .fair) (k .long))
 
-pub length-only-one : (n m len : ℕ) (carries : Bool) (x y : ℕ) → x ≡ m + cond carries (len - n) 0 → y ≡ m + cond carries (len - n) 0 → x ≡ y
-length-only-one n m len carries x y e g = e ∙ sym g
-
 pub put-only-one : (xs : List ℕ) (n m : ℕ) (carries : Bool) (r old : List ℕ) → Fielded xs n m → (x y : List ℕ) → Puts xs n m carries r old x → Puts xs n m carries r old y → x ≡ y
 unfolding Puts
 put-only-one xs n m carries r old k x y h g = h (k .fields) (k .fair) ∙ sym (g (k .fields) (k .fair))

@@ -1,4 +1,4 @@
-// One record: whether its halves are permitted (refusal 13), how long its output is, and writing its output. Document 01, "Blocks and
+// One record: whether its halves are permitted (refusal 13), and writing its output. Document 01, "Blocks and
 // records" and "Half bytes". The fields of a plan are flattened once, five numbers to a field, and lent for every record, so that no record
 // copies the plan.
 ghost use mathlib.Core.Path.{_≡_};

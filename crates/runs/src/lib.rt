@@ -5,39 +5,18 @@ ghost use mathlib.Core.Bool.{cond, not};
 ghost use Prim.Native.Nat.{ℕ};
 ghost use lib.Dec.{eqb};
 ghost use lib.ListN.{length};
-ghost use Rattle.rules.specs.Plan.{recordLength, blockLength, selects};
+ghost use Rattle.rules.specs.Plan.{selects};
 ghost use Rattle.rules.specs.Output.{cost as costOf};
 ghost use Rattle.rules.specs.Run.{convert};
 ghost use Rattle.rules.specs.Lent.{zoneF, runAnswer, outputAfter};
-ghost use Rattle.terms.specs.Meaning.{modeOf, formatOf, sizeOf, planIn, TaskIs};
+ghost use Rattle.terms.specs.Meaning.{modeOf, formatOf, planIn, TaskIs};
 ghost use Rattle.checks.specs.Promise.{ranStruct, GivenPlan};
 ghost use Rattle.runs.specs.Promise.{Finishing, Written, RanInto, Runnable};
 use checks::Ran;
 use terms::Asked;
 use terms::Format;
 use terms::Mode;
-use terms::Size;
 use terms::Task;
-
-// n, or 0 for a single number, which says none.
-fn record_length(size: Size) -> usize
-    ensures { λ r. ⌜ r ≡ recordLength (sizeOf size) ⌝ }
-{
-    match size {
-        Size::Two { n, m: _ } => n,
-        Size::One { g: _ } => 0,
-    }
-}
-
-// m, or the single number.
-fn block_length(size: Size) -> usize
-    ensures { λ r. ⌜ r ≡ blockLength (sizeOf size) ⌝ }
-{
-    match size {
-        Size::Two { n: _, m } => m,
-        Size::One { g } => g,
-    }
-}
 
 // The least data of a record: with TF or TRF A's n, else 1 byte.
 fn least(mode: Mode, n: usize) -> usize
@@ -77,15 +56,15 @@ fn task_of(asked: Asked) -> Task
     let format = asked.format;
     let input = asked.input;
     let output = asked.output;
-    let n = record_length(input);
+    let n = combinations::record_length(input);
     Task {
         mode,
         format,
         n,
-        m: block_length(input),
+        m: combinations::block_length(input),
         least: least(mode, n),
-        width: record_length(output),
-        limit: block_length(output),
+        width: combinations::record_length(output),
+        limit: combinations::block_length(output),
         cost: cost(format),
         first: asked.first,
         carries: carries(asked.cv),
