@@ -11,13 +11,14 @@ use lib.Seq.{take-suc-set}
 use borrow.Author.Tests.{eqb-true, eqb-false, leb-true, leb-false}
 use Rattle.rules.specs.Deck.{lines, cardOf}
 use Rattle.rules.specs.Order.{operandsOf}
-use Rattle.rules.proofs.LineLaws.{Passed, passed-none, passed-byte, passed-end, passed-all, passed-last, lines-most}
+use Rattle.rules.proofs.LineLaws.{Passed, passed-none, passed-byte, passed-end, passed-all, passed-last}
 use Rattle.rules.proofs.CardPlaces.{tidy-long, card-untidy}
-use Rattle.lines.specs.Scanning.{most, kindOf, begunKind, judgedOf, withByte, stepOf, start, scanFrom, verdictOf, scannedOf, orderOf}
+use Rattle.lines.specs.Scanning.{most, kindOf, begunKind, withLine, tallyOf, judgedOf, withByte, stepOf, start, scanFrom, verdictOf, scannedOf, orderOf}
 use Rattle.lines.specs.declared.CardKind.{CardKind}
 use Rattle.lines.specs.declared.Scanner.{Scanner}
+use Rattle.lines.specs.declared.Tally.{Tally}
 use Rattle.lines.proofs.StepLaws.{begun-long, begun-short, byte-kept, byte-past, step-end, step-byte, scanned-between, scanned-inside}
-use Rattle.lines.proofs.TallyLaws.{judge, tallied, tallied-more, kinds, Clear, lines-tallied}
+use Rattle.lines.proofs.TallyLaws.{noLine, tallied, tallied-more, kinds, deck-tallied}
 
 -- ---- pieces
 
@@ -28,24 +29,16 @@ scan-pieces st (b ∷ x) y = scan-pieces (stepOf st b) x y
 
 -- ---- what a state holds
 
--- a state without the begun line
-abbrev tallyOf : Scanner → Scanner
-tallyOf st = record { lines = st .lines; begun = []; size = 0; bad = st .bad; fault = st .fault; ended = st .ended }
-
-tally-judged : (st : Scanner) → tallyOf (judgedOf st) ≡ judge (tallyOf st) (begunKind st)
+tally-judged : (st : Scanner) → tallyOf (judgedOf st) ≡ withLine (tallyOf st) (begunKind st)
 unfolding judgedOf
 tally-judged st = refl
-
-tally-verdict : (st : Scanner) → verdictOf st ≡ verdictOf (tallyOf st)
-unfolding verdictOf
-tally-verdict st = refl
 
 -- after the bytes x
 pub record Held (x : List ℕ) (st : Scanner) : Type 0 where
   pub done : List (List ℕ)
   pub line : List ℕ
   pub passed : Passed x done line
-  pub tally : tallyOf st ≡ tallied (tallyOf start) (kinds done)
+  pub tally : tallyOf st ≡ tallied noLine (kinds done)
   pub room : length (st .begun) ≡ 80
   pub long : st .size ≡ min (length line) 81
   pub kept : length line ≤ 80 → take (length line) (st .begun) ≡ line
@@ -68,14 +61,14 @@ held-kind {x} {st} h = go (leb (length (h .line)) 80) refl
         let m : 80 < length (h .line) = leb-false (length (h .line)) 80 t in
         begun-long st (omega (arith, h .long)) ∙ sym (ap kindOf (card-untidy (h .line) (tidy-long (h .line) m)))
 
-held-tally : {x : List ℕ} {st : Scanner} (h : Held x st) → tallyOf (judgedOf st) ≡ tallied (tallyOf start) (kinds (h .done ++ (h .line ∷ [])))
+held-tally : {x : List ℕ} {st : Scanner} (h : Held x st) → tallyOf (judgedOf st) ≡ tallied noLine (kinds (h .done ++ (h .line ∷ [])))
 held-tally {x} {st} h =
     let k : CardKind = kindOf (cardOf (h .line)) in
     tally-judged st
-    ∙ ap (judge (tallyOf st)) (held-kind h)
-    ∙ ap (λ (t : Scanner). judge t k) (h .tally)
-    ∙ sym (tallied-more (tallyOf start) (kinds (h .done)) k)
-    ∙ ap (tallied (tallyOf start)) (sym (map-append (λ l. kindOf (cardOf l)) (h .done) (h .line ∷ [])))
+    ∙ ap (withLine (tallyOf st)) (held-kind h)
+    ∙ ap (λ (t : Tally). withLine t k) (h .tally)
+    ∙ sym (tallied-more noLine (kinds (h .done)) k)
+    ∙ ap (tallied noLine) (sym (map-append (λ l. kindOf (cardOf l)) (h .done) (h .line ∷ [])))
 
 -- a line ends
 held-end : {x : List ℕ} {st : Scanner} → Held x st → Held (x ++ (0x0A ∷ [])) (judgedOf st)
@@ -145,29 +138,20 @@ held-piece {x} {st} (b ∷ y) h =
 
 -- ---- what a scan comes to
 
-clear-start : Clear (tallyOf start) 0 false
-unfolding start
-clear-start = record { count = refl; good = refl; right = refl; end = refl }
-
 -- a state that holds a deck answers for it
 pub held-deck : (x : List ℕ) (st : Scanner) → Held x st → length x < most → scannedOf st ≡ orderOf (operandsOf x)
-unfolding operandsOf
 held-deck x st h few = go (h .line) refl
   where
-    told : (ls : List (List ℕ)) (q : Scanner) → lines x ≡ ls → tallyOf q ≡ tallied (tallyOf start) (kinds ls) → verdictOf q ≡ orderOf (operandsOf x)
-    told ls q e t =
-        tally-verdict q
-        ∙ ap verdictOf t
-        ∙ lines-tallied (tallyOf start) ls clear-start (omega (arith, lines-most x, ap length e))
-        ∙ rw e refl
+    told : (ls : List (List ℕ)) (t : Tally) → lines x ≡ ls → t ≡ tallied noLine (kinds ls) → verdictOf t ≡ orderOf (operandsOf x)
+    told ls t e f = ap verdictOf (f ∙ ap (λ (ms : List (List ℕ)). tallied noLine (kinds ms)) (sym e)) ∙ deck-tallied x few
 
     go : (line : List ℕ) → h .line ≡ line → scannedOf st ≡ orderOf (operandsOf x)
     go [] e =
         scanned-between st (omega (arith, h .long, ap length e))
-        ∙ told (h .done) st (passed-all (subst (Passed x (h .done)) e (h .passed))) (h .tally)
+        ∙ told (h .done) (tallyOf st) (passed-all (subst (Passed x (h .done)) e (h .passed))) (h .tally)
     go (b ∷ l) e =
         scanned-inside st (λ z. omega (arith, h .long, ap length e))
-        ∙ told (h .done ++ (h .line ∷ [])) (judgedOf st) (passed-last (h .passed) (omega (arith, ap length e))) (held-tally h)
+        ∙ told (h .done ++ (h .line ∷ [])) (tallyOf (judgedOf st)) (passed-last (h .passed) (omega (arith, ap length e))) (held-tally h)
 
 -- the scan of a deck
 pub scanned-deck : (x : List ℕ) → length x < most → scannedOf (scanFrom start x) ≡ orderOf (operandsOf x)

@@ -10,11 +10,12 @@ use lib.Seq.{drop-cons}
 use borrow.Author.Tests.{eq-eqb, ne-eqb, lt-ltb, le-ltb, le-leb, lt-leb}
 use Rattle.rules.specs.Deck.{cardOf}
 use Rattle.lines.specs.Meaning.{CardSays}
-use Rattle.lines.specs.Scanning.{most, counted, firstOf, kindOf, isOther, closed, faulty, misplaced, begunKind, judgedOf, withByte, stepOf, scanFrom, verdictOf, scannedOf}
+use Rattle.lines.specs.Scanning.{most, counted, firstOf, kindOf, isOther, closed, faulty, misplaced, withLine, tallyOf, begunKind, judgedOf, withByte, stepOf, scanFrom, verdictOf, scannedOf}
 use Rattle.lines.specs.declared.CardRead.{CardRead}
 use Rattle.lines.specs.declared.CardRead.the-variants.{UCard, FsCard, EndCard, NoCard}
 use Rattle.lines.specs.declared.CardKind.{CardKind}
 use Rattle.lines.specs.declared.CardKind.the-variants.{Utility, Select, End, Other}
+use Rattle.lines.specs.declared.Tally.{Tally}
 use Rattle.lines.specs.declared.Scanner.{Scanner}
 use Rattle.lines.specs.declared.OrderRead.the-variants.{Refused, Ordered}
 
@@ -78,6 +79,12 @@ kind-is l r q x e = ap readKind (sym e) ∙ kind-read l r x
 
 -- ---- lines
 
+-- a line more, judged in five answers
+pub with-line-is : (t : Tally) (k : CardKind) {place bad fault : ℕ} {other apart ended : Bool} → place ≡ counted (t .lines) → other ≡ isOther k
+    → bad ≡ firstOf (t .bad) other place → apart ≡ misplaced k place (t .ended) → fault ≡ firstOf (t .fault) apart place → ended ≡ closed k (t .ended)
+    → _≡_ {A = Tally} (record { lines = place; bad = bad; fault = fault; ended = ended }) (withLine t k)
+with-line-is t k a b c d e f = rw (f, e, d, c, b, a)
+
 module _ (st : Scanner) where
   pub begun-long : 80 < st .size → begunKind st ≡ Other
   unfolding begunKind
@@ -87,12 +94,11 @@ module _ (st : Scanner) where
   unfolding begunKind
   begun-short h = rw (le-leb (st .size) 80 h)
 
-  -- the begun line, judged in five answers
-  pub judged-is : {place bad fault : ℕ} {kind : CardKind} {other apart ended : Bool} → place ≡ counted (st .lines) → kind ≡ begunKind st → other ≡ isOther kind
-      → bad ≡ firstOf (st .bad) other place → apart ≡ misplaced kind place (st .ended) → fault ≡ firstOf (st .fault) apart place → ended ≡ closed kind (st .ended)
-      → _≡_ {A = Scanner} (record { lines = place; begun = st .begun; size = 0; bad = bad; fault = fault; ended = ended }) (judgedOf st)
+  -- the begun line, judged in two answers
+  pub judged-is : {kind : CardKind} {t next : Tally} → kind ≡ begunKind st → t ≡ tallyOf st → next ≡ withLine t kind
+      → _≡_ {A = Scanner} (record { lines = next .lines; begun = st .begun; size = 0; bad = next .bad; fault = next .fault; ended = next .ended }) (judgedOf st)
   unfolding judgedOf
-  judged-is a b c d e f g = rw (g, f, e, d, c, b, a)
+  judged-is a b c = rw (c, b, a)
 
   module _ (b : ℕ) where
     pub byte-kept : st .size < 80
@@ -122,28 +128,28 @@ module _ (st : Scanner) where
   pub scan-end : (s : List ℕ) (i : ℕ) → length s ≤ i → scanFrom st (drop i s) ≡ st
   scan-end s i h = rw (drop-of-length-le s {i = i} h)
 
-  module _ (other : (st .bad ≡ 0) → ⊥) where
-    pub verdict-bad : verdictOf st ≡ Refused 1 (st .bad)
-    unfolding verdictOf
-    verdict-bad = rw (ne-eqb (st .bad) 0 other)
-
-  module _ (good : st .bad ≡ 0) where
-    pub verdict-fault : (st .fault ≡ 0 → ⊥) → verdictOf st ≡ Refused 2 (st .fault)
-    unfolding verdictOf
-    verdict-fault n = rw (eq-eqb (st .bad) 0 good, ne-eqb (st .fault) 0 n)
-
-    pub verdict-ordered : st .fault ≡ 0 → st .ended ≡ true → verdictOf st ≡ Ordered (st .lines)
-    unfolding verdictOf
-    verdict-ordered e t = rw (eq-eqb (st .bad) 0 good, eq-eqb (st .fault) 0 e, t)
-
-    pub verdict-open : st .fault ≡ 0 → st .ended ≡ false → verdictOf st ≡ Refused 2 (counted (st .lines))
-    unfolding verdictOf
-    verdict-open e t = rw (eq-eqb (st .bad) 0 good, eq-eqb (st .fault) 0 e, t)
-
-  pub scanned-between : st .size ≡ 0 → scannedOf st ≡ verdictOf st
+  pub scanned-between : st .size ≡ 0 → scannedOf st ≡ verdictOf (tallyOf st)
   unfolding scannedOf
   scanned-between e = rw (eq-eqb (st .size) 0 e)
 
-  pub scanned-inside : (st .size ≡ 0 → ⊥) → scannedOf st ≡ verdictOf (judgedOf st)
+  pub scanned-inside : (st .size ≡ 0 → ⊥) → scannedOf st ≡ verdictOf (tallyOf (judgedOf st))
   unfolding scannedOf
   scanned-inside n = rw (ne-eqb (st .size) 0 n)
+
+module _ (t : Tally) where
+  pub verdict-bad : (t .bad ≡ 0 → ⊥) → verdictOf t ≡ Refused 1 (t .bad)
+  unfolding verdictOf
+  verdict-bad n = rw (ne-eqb (t .bad) 0 n)
+
+  module _ (good : t .bad ≡ 0) where
+    pub verdict-fault : (t .fault ≡ 0 → ⊥) → verdictOf t ≡ Refused 2 (t .fault)
+    unfolding verdictOf
+    verdict-fault n = rw (eq-eqb (t .bad) 0 good, ne-eqb (t .fault) 0 n)
+
+    pub verdict-ordered : t .fault ≡ 0 → t .ended ≡ true → verdictOf t ≡ Ordered (t .lines)
+    unfolding verdictOf
+    verdict-ordered e f = rw (eq-eqb (t .bad) 0 good, eq-eqb (t .fault) 0 e, f)
+
+    pub verdict-open : t .fault ≡ 0 → t .ended ≡ false → verdictOf t ≡ Refused 2 (counted (t .lines))
+    unfolding verdictOf
+    verdict-open e f = rw (eq-eqb (t .bad) 0 good, eq-eqb (t .fault) 0 e, f)

@@ -7,41 +7,37 @@ use mathlib.Core.Option.{Option, none, some}
 use Prim.Native.Nat.{ℕ, suc, _+_, _≤_, _<_}
 use native.Mathlib.Omega.{arith}
 use lib.Dec.{ltb, leb}
-use lib.ListN.{length, length-map}
+use lib.ListN.{length, drop, length-map}
+use lib.Seq.{slice}
 use borrow.Author.Tests.{lt-ltb, le-ltb, leb-true, leb-false}
 use Rattle.rules.specs.Answer.{Answer, fine, refuse, Refusal, _>>=_}
-use Rattle.rules.specs.Deck.{Card, uCard, fsCard, endCard, cardOf}
-use Rattle.rules.specs.Order.{cardsFrom, nothingFrom, fsFrom, ordered}
+use Rattle.rules.specs.Deck.{lines, Card, uCard, fsCard, endCard, cardOf}
+use Rattle.rules.specs.Order.{cardsFrom, nothingFrom, fsFrom, ordered, operandsOf}
 use Rattle.rules.proofs.AnswerLaws.{not-fine}
+use Rattle.rules.proofs.LineLaws.{lines-most}
 use Rattle.rules.proofs.ScanLaws.{cards-each, made-refused}
-use Rattle.lines.specs.Scanning.{most, counted, firstOf, kindOf, isOther, closed, misplaced, verdictOf, orderOf}
+use Rattle.lines.specs.Meaning.{LineSays}
+use Rattle.lines.specs.Scanning.{most, counted, firstOf, kindOf, isOther, closed, misplaced, withLine, verdictOf, orderOf}
 use Rattle.lines.specs.declared.CardKind.{CardKind}
 use Rattle.lines.specs.declared.CardKind.the-variants.{Utility, Select, End, Other}
-use Rattle.lines.specs.declared.Scanner.{Scanner}
+use Rattle.lines.specs.declared.Tally.{Tally}
+use Rattle.lines.specs.declared.LineRead.the-variants.{Line, NoLine}
 use Rattle.lines.specs.declared.OrderRead.{OrderRead}
 use Rattle.lines.specs.declared.OrderRead.the-variants.{Refused, Ordered}
 use Rattle.lines.proofs.StepLaws.{counted-more, first-stays, first-place, first-unmarked, faulty-first, faulty-ended, faulty-past, verdict-bad, verdict-fault, verdict-ordered, verdict-open}
 
--- a line is judged
-abbrev pub judge : Scanner → CardKind → Scanner
-judge t k =
-    record {
-      lines = counted (t .lines);
-      begun = t .begun;
-      size = 0;
-      bad = firstOf (t .bad) (isOther k) (counted (t .lines));
-      fault = firstOf (t .fault) (misplaced k (counted (t .lines)) (t .ended)) (counted (t .lines));
-      ended = closed k (t .ended);
-    }
+-- no line has been judged
+abbrev pub noLine : Tally
+noLine = record { lines = 0; bad = 0; fault = 0; ended = false }
 
--- one after another
-abbrev pub tallied : Scanner → List CardKind → Scanner
+-- lines are judged one after another
+abbrev pub tallied : Tally → List CardKind → Tally
 tallied t [] = t
-tallied t (k ∷ ks) = tallied (judge t k) ks
+tallied t (k ∷ ks) = tallied (withLine t k) ks
 
-pub tallied-more : (t : Scanner) (ks : List CardKind) (k : CardKind) → tallied t (ks ++ (k ∷ [])) ≡ judge (tallied t ks) k
+pub tallied-more : (t : Tally) (ks : List CardKind) (k : CardKind) → tallied t (ks ++ (k ∷ [])) ≡ withLine (tallied t ks) k
 tallied-more t [] k = refl
-tallied-more t (j ∷ ks) k = tallied-more (judge t j) ks k
+tallied-more t (j ∷ ks) k = tallied-more (withLine t j) ks k
 
 abbrev pub kinds : List (List ℕ) → List CardKind
 kinds ls = map (λ l. kindOf (cardOf l)) ls
@@ -50,7 +46,7 @@ abbrev faces : List Card → List CardKind
 faces cs = map (λ c. kindOf (some c)) cs
 
 -- n lines have been judged, and nothing is marked
-pub record Clear (t : Scanner) (n : ℕ) (ended : Bool) : Type 0 where
+record Clear (t : Tally) (n : ℕ) (ended : Bool) : Type 0 where
   pub count : t .lines ≡ n
   pub good : t .bad ≡ 0
   pub right : t .fault ≡ 0
@@ -58,55 +54,55 @@ pub record Clear (t : Scanner) (n : ℕ) (ended : Bool) : Type 0 where
 
 -- ---- what is marked stays
 
-bad-stays : (t : Scanner) (ks : List CardKind) → (t .bad ≡ 0 → ⊥) → tallied t ks .bad ≡ t .bad
+bad-stays : (t : Tally) (ks : List CardKind) → (t .bad ≡ 0 → ⊥) → tallied t ks .bad ≡ t .bad
 bad-stays t [] h = refl
 bad-stays t (k ∷ ks) h =
-    let e : judge t k .bad ≡ t .bad = first-stays (t .bad) (isOther k) (counted (t .lines)) h in
-    bad-stays (judge t k) ks (λ z. h (sym e ∙ z)) ∙ e
+    let e : withLine t k .bad ≡ t .bad = first-stays (t .bad) (isOther k) (counted (t .lines)) h in
+    bad-stays (withLine t k) ks (λ z. h (sym e ∙ z)) ∙ e
 
-fault-stays : (t : Scanner) (ks : List CardKind) → (t .fault ≡ 0 → ⊥) → tallied t ks .fault ≡ t .fault
+fault-stays : (t : Tally) (ks : List CardKind) → (t .fault ≡ 0 → ⊥) → tallied t ks .fault ≡ t .fault
 fault-stays t [] h = refl
 fault-stays t (k ∷ ks) h =
-    let e : judge t k .fault ≡ t .fault = first-stays (t .fault) (misplaced k (counted (t .lines)) (t .ended)) (counted (t .lines)) h in
-    fault-stays (judge t k) ks (λ z. h (sym e ∙ z)) ∙ e
+    let e : withLine t k .fault ≡ t .fault = first-stays (t .fault) (misplaced k (counted (t .lines)) (t .ended)) (counted (t .lines)) h in
+    fault-stays (withLine t k) ks (λ z. h (sym e ∙ z)) ∙ e
 
 is-card : (c : Card) → isOther (kindOf (some c)) ≡ false
 is-card (uCard o) = refl
 is-card (fsCard o) = refl
 is-card endCard = refl
 
-card-good : (t : Scanner) (c : Card) → judge t (kindOf (some c)) .bad ≡ t .bad
+card-good : (t : Tally) (c : Card) → withLine t (kindOf (some c)) .bad ≡ t .bad
 card-good t c = first-unmarked (t .bad) (isOther (kindOf (some c))) (counted (t .lines)) (is-card c)
 
-cards-good : (t : Scanner) (cs : List Card) → tallied t (faces cs) .bad ≡ t .bad
+cards-good : (t : Tally) (cs : List Card) → tallied t (faces cs) .bad ≡ t .bad
 cards-good t [] = refl
-cards-good t (c ∷ cs) = cards-good (judge t (kindOf (some c))) cs ∙ card-good t c
+cards-good t (c ∷ cs) = cards-good (withLine t (kindOf (some c))) cs ∙ card-good t c
 
 -- ---- refusal 1
 
-next-place : (t : Scanner) (n : ℕ) → t .lines ≡ n → n < most → counted (t .lines) ≡ suc n
+next-place : (t : Tally) (n : ℕ) → t .lines ≡ n → n < most → counted (t .lines) ≡ suc n
 next-place t n e h = let l : t .lines < most = omega arith in omega (arith, counted-more (t .lines) l)
 
 -- the first line that is no card is marked
-bad-first : (n : ℕ) (ls : List (List ℕ)) (r : Refusal) (t : Scanner) → t .lines ≡ n → t .bad ≡ 0 → n + length ls ≤ most → cardsFrom (suc n) ls ≡ refuse r
+bad-first : (n : ℕ) (ls : List (List ℕ)) (r : Refusal) (t : Tally) → t .lines ≡ n → t .bad ≡ 0 → n + length ls ≤ most → cardsFrom (suc n) ls ≡ refuse r
     → (r .number ≡ 1) × (r .place ≡ tallied t (kinds ls) .bad) × (1 ≤ r .place)
 bad-first n [] r t e g h f = absurd (not-fine r [] (sym f))
 bad-first n (l ∷ ls) r t e g h f =
-    go (λ k p q u. bad-first (suc n) ls r (judge t k) p q (omega arith) u) (cardOf l) refl
+    go (λ k p q u. bad-first (suc n) ls r (withLine t k) p q (omega arith) u) (cardOf l) refl
   where
     place : counted (t .lines) ≡ suc n
     place = next-place t n e (omega arith)
 
-    go : ((k : CardKind) → judge t k .lines ≡ suc n → judge t k .bad ≡ 0 → cardsFrom (suc (suc n)) ls ≡ refuse r
-        → (r .number ≡ 1) × (r .place ≡ tallied (judge t k) (kinds ls) .bad) × (1 ≤ r .place))
+    go : ((k : CardKind) → withLine t k .lines ≡ suc n → withLine t k .bad ≡ 0 → cardsFrom (suc (suc n)) ls ≡ refuse r
+        → (r .number ≡ 1) × (r .place ≡ tallied (withLine t k) (kinds ls) .bad) × (1 ≤ r .place))
         → (o : Option Card) → cardOf l ≡ o → (r .number ≡ 1) × (r .place ≡ tallied t (kinds (l ∷ ls)) .bad) × (1 ≤ r .place)
     go ih none d =
         let v : refuse (record { number = 1; place = suc n }) ≡ refuse r = rw d at f in
         let w : record { number = 1; place = suc n } ≡ r = cc in
         let p : suc n ≡ r .place = ap (λ (z : Refusal). z .place) w in
-        let b : judge t Other .bad ≡ suc n = first-place (t .bad) true (counted (t .lines)) g refl ∙ place in (
+        let b : withLine t Other .bad ≡ suc n = first-place (t .bad) true (counted (t .lines)) g refl ∙ place in (
           sym (ap (λ (z : Refusal). z .number) w),
-          rw d (sym p ∙ sym b ∙ sym (bad-stays (judge t Other) (kinds ls) (λ z. omega arith))),
+          rw d (sym p ∙ sym b ∙ sym (bad-stays (withLine t Other) (kinds ls) (λ z. omega arith))),
           omega arith,
         )
     go ih (some c) d =
@@ -116,19 +112,19 @@ bad-first n (l ∷ ls) r t e g h f =
 -- ---- refusal 2
 
 -- the card is at fault, and is the first
-module _ {t : Scanner} {n : ℕ} {e : Bool} (clear : Clear t n e) (less : n < most) where
+module _ {t : Tally} {n : ℕ} {e : Bool} (clear : Clear t n e) (less : n < most) where
   at-fault : (c : Card) (cs : List Card) → misplaced (kindOf (some c)) (suc n) e ≡ true → verdictOf (tallied t (faces (c ∷ cs))) ≡ Refused 2 (suc n)
   at-fault c cs m =
       let k : CardKind = kindOf (some c) in
       let place : counted (t .lines) ≡ suc n = next-place t n (clear .count) less in
       let marked : misplaced k (counted (t .lines)) (t .ended) ≡ true = rw (place, clear .end) m in
-      let f : judge t k .fault ≡ suc n = first-place (t .fault) (misplaced k (counted (t .lines)) (t .ended)) (counted (t .lines)) (clear .right) marked ∙ place in
-      let g : tallied (judge t k) (faces cs) .fault ≡ suc n = fault-stays (judge t k) (faces cs) (λ z. omega arith) ∙ f in
-      let b : tallied (judge t k) (faces cs) .bad ≡ 0 = cards-good (judge t k) cs ∙ card-good t c ∙ clear .good in
-      verdict-fault (tallied (judge t k) (faces cs)) b (λ z. omega arith) ∙ ap (λ (p : ℕ). Refused 2 p) g
+      let f : withLine t k .fault ≡ suc n = first-place (t .fault) (misplaced k (counted (t .lines)) (t .ended)) (counted (t .lines)) (clear .right) marked ∙ place in
+      let g : tallied (withLine t k) (faces cs) .fault ≡ suc n = fault-stays (withLine t k) (faces cs) (λ z. omega arith) ∙ f in
+      let b : tallied (withLine t k) (faces cs) .bad ≡ 0 = cards-good (withLine t k) cs ∙ card-good t c ∙ clear .good in
+      verdict-fault (tallied (withLine t k) (faces cs)) b (λ z. omega arith) ∙ ap (λ (p : ℕ). Refused 2 p) g
 
   -- the card is in its place
-  in-place : (c : Card) → misplaced (kindOf (some c)) (suc n) e ≡ false → Clear (judge t (kindOf (some c))) (suc n) (closed (kindOf (some c)) e)
+  in-place : (c : Card) → misplaced (kindOf (some c)) (suc n) e ≡ false → Clear (withLine t (kindOf (some c))) (suc n) (closed (kindOf (some c)) e)
   in-place c m =
       let k : CardKind = kindOf (some c) in
       let place : counted (t .lines) ≡ suc n = next-place t n (clear .count) less in
@@ -149,7 +145,7 @@ answerFrom n (refuse r) = Refused (r .number) (r .place)
 answerFrom n (fine os) = Ordered (suc n + length os)
 
 -- after an END card nothing may stand
-end-tallied : (t : Scanner) (n : ℕ) (cs : List Card) → Clear t (suc n) true → suc n + length cs < most
+end-tallied : (t : Tally) (n : ℕ) (cs : List Card) → Clear t (suc n) true → suc n + length cs < most
     → verdictOf (tallied t (faces cs)) ≡ answerFrom n (nothingFrom (suc (suc n)) cs)
 end-tallied t n [] k h = verdict-ordered t (k .good) (k .right) (k .end) ∙ ap Ordered (let z : t .lines ≡ suc n + 0 = omega (arith, k .count) in z)
 end-tallied t n (c ∷ cs) k h = at-fault k (omega arith) c cs (wrong c)
@@ -168,16 +164,16 @@ fs-more n o (refuse r) = refl
 fs-more n o (fine os) = ap Ordered (let z : suc (suc n) + length os ≡ suc n + suc (length os) = omega arith in z)
 
 -- after a U card
-fs-tallied : (t : Scanner) (n : ℕ) (cs : List Card) → 1 ≤ n → Clear t n false → n + length cs < most
+fs-tallied : (t : Tally) (n : ℕ) (cs : List Card) → 1 ≤ n → Clear t n false → n + length cs < most
     → verdictOf (tallied t (faces cs)) ≡ answerFrom n (fsFrom (suc n) cs)
 fs-tallied t n [] one k h = none-left k (omega arith) refl
 fs-tallied t n (uCard o ∷ cs) one k h = at-fault k (omega arith) (uCard o) cs (lt-ltb 1 (suc n) (omega arith))
-fs-tallied t n (fsCard o ∷ cs) one k h = go (λ j. fs-tallied (judge t Select) (suc n) cs (omega arith) j (omega arith)) (leb (suc n) 64) refl
+fs-tallied t n (fsCard o ∷ cs) one k h = go (λ j. fs-tallied (withLine t Select) (suc n) cs (omega arith) j (omega arith)) (leb (suc n) 64) refl
   where
     wrong : misplaced Select (suc n) false ≡ ltb 64 (suc n)
     wrong = faulty-past (suc n) false (λ z. omega arith) refl
 
-    go : (Clear (judge t Select) (suc n) false → verdictOf (tallied (judge t Select) (faces cs)) ≡ answerFrom (suc n) (fsFrom (suc (suc n)) cs))
+    go : (Clear (withLine t Select) (suc n) false → verdictOf (tallied (withLine t Select) (faces cs)) ≡ answerFrom (suc n) (fsFrom (suc (suc n)) cs))
         → (b : Bool) → leb (suc n) 64 ≡ b
         → verdictOf (tallied t (faces (fsCard o ∷ cs))) ≡ answerFrom n (fsFrom (suc n) (fsCard o ∷ cs))
     go ih true b =
@@ -193,7 +189,7 @@ fs-tallied t n (endCard ∷ cs) one k h = go (leb (suc n) 64) refl
     go : (b : Bool) → leb (suc n) 64 ≡ b → verdictOf (tallied t (faces (endCard ∷ cs))) ≡ answerFrom n (fsFrom (suc n) (endCard ∷ cs))
     go true b =
         rw b
-        (end-tallied (judge t End) n cs (in-place k (omega arith) endCard (wrong ∙ le-ltb 64 (suc n) (leb-true (suc n) 64 b))) (omega arith))
+        (end-tallied (withLine t End) n cs (in-place k (omega arith) endCard (wrong ∙ le-ltb 64 (suc n) (leb-true (suc n) 64 b))) (omega arith))
     go false b = rw b (at-fault k (omega arith) endCard cs (wrong ∙ lt-ltb 64 (suc n) (leb-false (suc n) 64 b)))
 
 u-first : (o : List ℕ) (x : Answer (List (List ℕ))) → answerFrom 1 x ≡ orderOf (x >>= λ os. fine (record { u = o; fs = os }))
@@ -202,10 +198,10 @@ u-first o (refuse r) = refl
 u-first o (fine os) = refl
 
 -- the cards
-ordered-tallied : (t : Scanner) (cs : List Card) → Clear t 0 false → length cs < most → verdictOf (tallied t (faces cs)) ≡ orderOf (ordered cs)
+ordered-tallied : (t : Tally) (cs : List Card) → Clear t 0 false → length cs < most → verdictOf (tallied t (faces cs)) ≡ orderOf (ordered cs)
 ordered-tallied t [] k h = none-left k (omega arith) refl
 ordered-tallied t (uCard o ∷ cs) k h =
-    fs-tallied (judge t Utility) 1 cs (omega arith) (in-place k (omega arith) (uCard o) (le-ltb 1 1 (omega arith))) (omega arith)
+    fs-tallied (withLine t Utility) 1 cs (omega arith) (in-place k (omega arith) (uCard o) (le-ltb 1 1 (omega arith))) (omega arith)
     ∙ u-first o (fsFrom 2 cs)
 ordered-tallied t (fsCard o ∷ cs) k h = at-fault k (omega arith) (fsCard o) cs (faulty-first 1 false refl)
 ordered-tallied t (endCard ∷ cs) k h = at-fault k (omega arith) endCard cs (faulty-first 1 false refl)
@@ -220,7 +216,7 @@ map-faces : (cs : List Card) → map kindOf (map some cs) ≡ faces cs
 map-faces [] = refl
 map-faces (c ∷ cs) = ap (kindOf (some c) ∷_) (map-faces cs)
 
-pub lines-tallied : (t : Scanner) (ls : List (List ℕ)) → Clear t 0 false → length ls < most
+lines-tallied : (t : Tally) (ls : List (List ℕ)) → Clear t 0 false → length ls < most
     → verdictOf (tallied t (kinds ls)) ≡ orderOf (cardsFrom 1 ls >>= ordered)
 unfolding _>>=_
 lines-tallied t ls k h = go (cardsFrom 1 ls) refl
@@ -234,3 +230,24 @@ lines-tallied t ls k h = go (cardsFrom 1 ls) refl
         let f : kinds ls ≡ faces cs = rw (← map-kinds ls, m) (map-faces cs) in
         let s : length cs ≡ length ls = sym (length-map cs some) ∙ sym (ap length m) ∙ length-map ls cardOf in
         ap (λ (ks : List CardKind). verdictOf (tallied t ks)) f ∙ ordered-tallied t cs k (omega arith)
+
+-- all lines of a deck
+pub deck-tallied : (x : List ℕ) → length x < most → verdictOf (tallied noLine (kinds (lines x))) ≡ orderOf (operandsOf x)
+unfolding operandsOf
+deck-tallied x few =
+    lines-tallied noLine (lines x) (record { count = refl; good = refl; right = refl; end = refl }) (omega (arith, lines-most x))
+
+-- ---- a deck whose lines from a place on are left
+
+-- judging what is left comes to what judging all comes to
+abbrev pub Left : List ℕ → ℕ → Tally → Type 0
+Left x at t = tallied noLine (kinds (lines x)) ≡ tallied t (kinds (lines (drop at x)))
+
+-- one more is judged
+pub left-line : (x : List ℕ) (at end next : ℕ) (t : Tally) → LineSays x at (Line end next) → Left x at t
+    → Left x next (withLine t (kindOf (cardOf (slice at end x))))
+left-line x at end next t l e = e ∙ ap (λ (ls : List (List ℕ)). tallied t (kinds ls)) (l .4)
+
+-- none is left
+pub left-none : (x : List ℕ) (at : ℕ) (t : Tally) → LineSays x at NoLine → Left x at t → tallied noLine (kinds (lines x)) ≡ t
+left-none x at t l e = e ∙ ap (λ (ls : List (List ℕ)). tallied t (kinds ls)) (l .1)

@@ -10,6 +10,7 @@ use Rattle.rules.specs.Answer.{Answer, fine, refuse}
 use Rattle.rules.specs.Deck.{Card, uCard, fsCard, endCard, cardOf}
 use Rattle.rules.specs.Order.{Operands}
 use Rattle.lines.specs.declared.Scanner.{Scanner}
+use Rattle.lines.specs.declared.Tally.{Tally}
 use Rattle.lines.specs.declared.CardKind.{CardKind}
 use Rattle.lines.specs.declared.CardKind.the-variants.{Utility, Select, End, Other}
 use Rattle.lines.specs.declared.OrderRead.{OrderRead}
@@ -67,17 +68,25 @@ misplaced Other place ended = false
 unfoldable pub begunKind : Scanner → CardKind
 begunKind st = cond (leb (st .size) 80) (kindOf (cardOf (take (st .size) (st .begun)))) Other
 
+-- a line more is judged
+abbrev pub withLine : Tally → CardKind → Tally
+withLine t k =
+    record {
+      lines = counted (t .lines);
+      bad = firstOf (t .bad) (isOther k) (counted (t .lines));
+      fault = firstOf (t .fault) (misplaced k (counted (t .lines)) (t .ended)) (counted (t .lines));
+      ended = closed k (t .ended);
+    }
+
+-- what the lines that have ended come to
+abbrev pub tallyOf : Scanner → Tally
+tallyOf st = record { lines = st .lines; bad = st .bad; fault = st .fault; ended = st .ended }
+
 -- the begun line has ended
 unfoldable pub judgedOf : Scanner → Scanner
 judgedOf st =
-    record {
-      lines = counted (st .lines);
-      begun = st .begun;
-      size = 0;
-      bad = firstOf (st .bad) (isOther (begunKind st)) (counted (st .lines));
-      fault = firstOf (st .fault) (misplaced (begunKind st) (counted (st .lines)) (st .ended)) (counted (st .lines));
-      ended = closed (begunKind st) (st .ended);
-    }
+    let t = withLine (tallyOf st) (begunKind st) in
+    record { lines = t .lines; begun = st .begun; size = 0; bad = t .bad; fault = t .fault; ended = t .ended }
 
 -- it has a byte more
 unfoldable pub withByte : Scanner → ℕ → Scanner
@@ -107,17 +116,17 @@ scanFrom st [] = st
 scanFrom st (b ∷ bs) = scanFrom (stepOf st b) bs
 
 -- the lowest refusal, or the cards
-unfoldable pub verdictOf : Scanner → OrderRead
-verdictOf st =
-    cond (eqb (st .bad) 0)
-    (cond (eqb (st .fault) 0)
-    (cond (st .ended) (Ordered (st .lines)) (Refused 2 (counted (st .lines))))
-    (Refused 2 (st .fault)))
-    (Refused 1 (st .bad))
+unfoldable pub verdictOf : Tally → OrderRead
+verdictOf t =
+    cond (eqb (t .bad) 0)
+    (cond (eqb (t .fault) 0)
+    (cond (t .ended) (Ordered (t .lines)) (Refused 2 (counted (t .lines))))
+    (Refused 2 (t .fault)))
+    (Refused 1 (t .bad))
 
 -- a line that is begun where the deck ends is the last
 unfoldable pub scannedOf : Scanner → OrderRead
-scannedOf st = verdictOf (cond (eqb (st .size) 0) st (judgedOf st))
+scannedOf st = verdictOf (tallyOf (cond (eqb (st .size) 0) st (judgedOf st)))
 
 -- what the rules answer of the cards' order: a refusal, or one U card, the FS cards and one END card
 abbrev pub orderOf : Answer Operands → OrderRead

@@ -7,7 +7,7 @@ ghost use Rattle.rules.specs.Base.{ascii, within, every};
 ghost use Rattle.rules.specs.Deck.{tidy, cardOf};
 ghost use Rattle.rules.specs.Order.{operandsOf};
 ghost use Rattle.lines.specs.Meaning.{BeginsSays, OperandEnds, CardSays, LineSays};
-ghost use Rattle.lines.specs.Scanning.{counted, kindOf, begunKind, firstOf, isOther, faulty, misplaced, closed, judgedOf, withByte, stepOf, start, scanFrom, verdictOf, scannedOf, orderOf};
+ghost use Rattle.lines.specs.Scanning.{counted, kindOf, begunKind, firstOf, isOther, faulty, misplaced, closed, withLine, tallyOf, judgedOf, withByte, stepOf, start, scanFrom, verdictOf, scannedOf, orderOf};
 
 // The most bytes of a card.
 const LONGEST: usize = 80;
@@ -184,6 +184,18 @@ pub struct Scanner {
     pub ended: bool,
 }
 
+// What the lines that have ended come to.
+struct Tally {
+    // How many there are.
+    lines: usize,
+    // The first that is no card, or 0.
+    bad: usize,
+    // The first card at fault, or 0.
+    fault: usize,
+    // Whether an END card has stood.
+    ended: bool,
+}
+
 // What a scan comes to: a refusal, or cards in order.
 pub enum OrderRead {
     Refused { number: usize, place: usize },
@@ -293,23 +305,47 @@ fn begun_kind(state: Scanner) -> CardKind
     kind(&begun[..size])
 }
 
+// A line more is judged.
+fn with_line(tally: Tally, kind: CardKind) -> Tally
+    ensures { λ r. ⌜ r ≡ withLine tally kind ⌝ }
+{
+    let place = count(tally.lines);
+    let bad = first(tally.bad, is_other(kind), place);
+    let fault = first(tally.fault, is_misplaced(kind, place, tally.ended), place);
+    let ended = closes(kind, tally.ended);
+    Tally {
+        lines: place,
+        bad,
+        fault,
+        ended,
+    }
+}
+
+fn tally_of(state: Scanner) -> Tally
+    ensures { λ r. ⌜ r ≡ tallyOf state ⌝ }
+{
+    Tally {
+        lines: state.lines,
+        bad: state.bad,
+        fault: state.fault,
+        ended: state.ended,
+    }
+}
+
 // The begun line has ended and is judged; the next has no bytes yet.
 fn judged(state: Scanner) -> Scanner
     ensures { λ r. ⌜ r ≡ judgedOf state ⌝ }
 {
-    let place = count(state.lines);
     let kind = begun_kind(state);
-    let bad = first(state.bad, is_other(kind), place);
-    let fault = first(state.fault, is_misplaced(kind, place, state.ended), place);
-    let ended = closes(kind, state.ended);
+    let next = with_line(tally_of(state), kind);
     let begun = state.begun;
     Scanner {
-        lines: place,
+        lines: next.lines,
         begun,
         size: 0,
-        bad,
-        fault,
-        ended,
+        bad: next.bad,
+        fault: next.fault,
+        ended: next.ended,
     }
 }
 
@@ -365,29 +401,29 @@ pub fn scan(state: Scanner, piece: &[u8]) -> Scanner
 }
 
 // The lowest refusal: a line that is no card, before a card at fault, before an END card that is missing.
-fn verdict(state: Scanner) -> OrderRead
-    ensures { λ r. ⌜ r ≡ verdictOf state ⌝ }
+fn verdict(tally: Tally) -> OrderRead
+    ensures { λ r. ⌜ r ≡ verdictOf tally ⌝ }
 {
-    let bad = state.bad;
+    let bad = tally.bad;
     if bad != 0 {
         return OrderRead::Refused {
             number: 1,
             place: bad,
         };
     }
-    let fault = state.fault;
+    let fault = tally.fault;
     if fault != 0 {
         return OrderRead::Refused {
             number: 2,
             place: fault,
         };
     }
-    if state.ended {
-        return OrderRead::Ordered { cards: state.lines };
+    if tally.ended {
+        return OrderRead::Ordered { cards: tally.lines };
     }
     OrderRead::Refused {
         number: 2,
-        place: count(state.lines),
+        place: count(tally.lines),
     }
 }
 
@@ -396,16 +432,28 @@ pub fn scanned(state: Scanner) -> OrderRead
     ensures { λ r. ⌜ r ≡ scannedOf state ⌝ }
 {
     if state.size == 0 {
-        return verdict(state);
+        return verdict(tally_of(state));
     }
-    verdict(judged(state))
+    verdict(tally_of(judged(state)))
 }
 
-// The order of a whole deck's cards.
+// The order of a whole deck's cards. All of a line is here, so no byte is copied.
 pub fn order(deck: &[u8]) -> OrderRead
     ensures { λ r. ⌜ r ≡ orderOf (operandsOf (now (deck .entry))) ⌝ }
 {
-    let none = begin();
-    let state = scan(none, deck);
-    scanned(state)
+    let mut tally = Tally {
+        lines: 0,
+        bad: 0,
+        fault: 0,
+        ended: false,
+    };
+    let mut at = 0;
+    loop {
+        let read = line(deck, at);
+        let LineRead::Line { end, next } = read else {
+            return verdict(tally);
+        };
+        tally = with_line(tally, kind(&deck[at..end]));
+        at = next;
+    }
 }

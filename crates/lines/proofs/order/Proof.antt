@@ -1,29 +1,102 @@
--- `lines::order` meets its contract: it is the scan of the whole deck, which is shorter than the highest number.
-use mathlib.Core.Path.{ap, _∙_}
+-- `lines::order` meets its contract. The loop's invariant: judging the lines from `at` on comes to what judging all of the deck's lines comes to.
+-- The measure is what is left of the deck.
+use mathlib.Core.Path.{refl, sym, ap, _∙_, subst}
+use mathlib.Core.List.{List}
+use Prim.Native.Nat.{ℕ, _-_}
 use native.Mathlib.Omega.{arith}
+use denote.Ref.{now}
+use lib.ListN.{length}
 use borrow.Author.Needs.{needs}
-use Rattle.lines.specs.Scanning.{scanFrom, scannedOf}
-use Rattle.lines.specs.declared.Scanner.{Scanner}
-use Rattle.lines.proofs.DeckLaws.{scanned-deck}
+use Rattle.rules.specs.Deck.{cardOf}
+use Rattle.rules.proofs.LineLaws.{slice-part}
+use Rattle.lines.specs.Meaning.{LineSays}
+use Rattle.lines.specs.Scanning.{kindOf, withLine, verdictOf}
+use Rattle.lines.specs.declared.LineRead.the-variants.{Line}
+use Rattle.lines.proofs.TallyLaws.{Left, left-line, left-none, deck-tallied}
 use Rattle.lines.proofs.order.Statement.{statement}
 use Rattle.lines.proofs.order.Tie as tie
 
-begin-requires : tie.Need-begin-requires
-begin-requires c κs = search needs
+abbrev Inv-loop : tie.InvT-loop
+Inv-loop deck tally₀ at₀ tally at = Left deck at tally
 
-scan-requires : tie.Need-scan-requires
-scan-requires c κs = search needs
+abbrev μ-loop : tie.MeasureT-loop
+μ-loop deck tally₀ at₀ tally at = length deck - at
 
-scanned-requires : tie.Need-scanned-requires
-scanned-requires c κs = search needs
+loop-holds : tie.Need-loop-holds Inv-loop μ-loop
+loop-holds c = refl
 
-returns : tie.Need-returns
+line-requires : tie.Need-line-requires Inv-loop μ-loop
+line-requires c κs = search needs
+
+enum-known-read : tie.Need-enum-known-read Inv-loop μ-loop
+enum-known-read c = search needs
+
+-- the line that begins here
+is-line : (c : tie.After-read Inv-loop μ-loop)
+    → LineSays (now (c .before .before .before .before .before .args .deck)) (c .before .before .before .loop .at) (Line (c .read .given .0 .0) (c .read .given .0 .1 .0))
+is-line c =
+    subst (LineSays (now (c .before .before .before .before .before .args .deck)) (c .before .before .before .loop .at)) (c .read .given .1) (c .before .before .line .ensures)
+
+enum-told : tie.Need-enum-told Inv-loop μ-loop
+enum-told c = search needs
+
+verdict-requires : tie.Need-verdict-requires Inv-loop μ-loop
+verdict-requires c κs = search needs
+
+returns : tie.Need-returns Inv-loop μ-loop
 returns c =
-    let s = c .before .before .before .before in
-    let d = s .args .deck .now in
-    c .scanned .ensures
-    ∙ ap scannedOf (c .before .scan .ensures ∙ ap (λ (st : Scanner). scanFrom st d) (c .before .before .begin .ensures))
-    ∙ scanned-deck d (omega (arith, s .good .0 .1))
+    let d = c .before .before .before .before .before .before .args .deck in
+    let l = c .before .before .before .before .loop in
+    let n = subst (LineSays (now d) (l .at)) (c .before .enum-told .given .1) (c .before .before .before .line .ensures) in
+    c .verdict .ensures ∙ ap verdictOf (sym (left-none (now d) (l .at) (l .tally) n (l .inv))) ∙ deck-tallied (now d) (omega arith)
+
+sub-kind : tie.Need-sub-kind Inv-loop μ-loop
+sub-kind c = is-line (c .before) .1
+
+part-kind-start : tie.Need-part-kind-start Inv-loop μ-loop
+part-kind-start c = is-line (c .before) .1
+
+part-kind-end : tie.Need-part-kind-end Inv-loop μ-loop
+part-kind-end c = is-line (c .before) .2
+
+kind-requires : tie.Need-kind-requires Inv-loop μ-loop
+kind-requires c κs = search needs
+
+with-line-requires : tie.Need-with-line-requires Inv-loop μ-loop
+with-line-requires c κs = search needs
+
+loop-less : tie.Need-loop-less Inv-loop μ-loop
+loop-less c = let k = is-line (c .before .before .before .before) in omega arith
+
+loop-again : tie.Need-loop-again Inv-loop μ-loop
+loop-again c =
+    let r = c .before .before .before .before in
+    let d = r .before .before .before .before .before .args .deck in
+    let l = r .before .before .before .loop in
+    let k = is-line r in
+    subst (Left (now d) (r .read .given .0 .1 .0))
+    (sym
+    (c .with-line .ensures
+    ∙ ap (withLine (l .tally))
+    (c .before .kind .ensures ∙ ap (λ (x : List ℕ). kindOf (cardOf x)) (sym (slice-part (l .at) (r .read .given .0 .0) (now d) (k .1))))))
+    (left-line (now d) (l .at) (r .read .given .0 .0) (r .read .given .0 .1 .0) (l .tally) k (l .inv))
 
 pub order-spec : {M : Type 1} → statement M
-order-spec = tie.close (tie.spec begin-requires scan-requires scanned-requires returns)
+order-spec =
+    tie.close
+    (tie.spec
+    Inv-loop
+    μ-loop
+    loop-holds
+    line-requires
+    enum-known-read
+    enum-told
+    verdict-requires
+    returns
+    sub-kind
+    part-kind-start
+    part-kind-end
+    kind-requires
+    with-line-requires
+    loop-less
+    loop-again)
