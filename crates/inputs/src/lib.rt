@@ -92,7 +92,7 @@ pub struct DeckRead {
 }
 
 // The deck whose first 65,536 bytes are in the room. A right deck has at most 5,184 bytes, so a longer one is refused by 1 or 2, which the
-// scanner finds whatever its length; that its cards are in order does not arise.
+// scanner finds whatever its length; that its cards are in order does not arise (`judged-refused`).
 fn longer(fd: i32, room: &[u8; 65536]) -> DeckRead
     ensures { λ r. ⌜ Counts (r .length) (now (room .entry)) ⌝ }
     ensures { λ r. ⌜ Judged (now (room .entry)) r ⌝ }

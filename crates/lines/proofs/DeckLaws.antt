@@ -138,20 +138,21 @@ held-piece {x} {st} (b ∷ y) h =
 
 -- ---- what a scan comes to
 
--- a state that holds a deck answers for it
-pub held-deck : (x : List ℕ) (st : Scanner) → Held x st → length x < most → scannedOf st ≡ orderOf (operandsOf x)
-held-deck x st h few = go (h .line) refl
+-- it is what judging the lines of the deck comes to
+pub held-lines : (x : List ℕ) (st : Scanner) → Held x st → scannedOf st ≡ verdictOf (tallied noLine (kinds (lines x)))
+held-lines x st h = go (h .line) refl
   where
-    told : (ls : List (List ℕ)) (t : Tally) → lines x ≡ ls → t ≡ tallied noLine (kinds ls) → verdictOf t ≡ orderOf (operandsOf x)
-    told ls t e f = ap verdictOf (f ∙ ap (λ (ms : List (List ℕ)). tallied noLine (kinds ms)) (sym e)) ∙ deck-tallied x few
-
-    go : (line : List ℕ) → h .line ≡ line → scannedOf st ≡ orderOf (operandsOf x)
+    go : (line : List ℕ) → h .line ≡ line → scannedOf st ≡ verdictOf (tallied noLine (kinds (lines x)))
     go [] e =
         scanned-between st (omega (arith, h .long, ap length e))
-        ∙ told (h .done) (tallyOf st) (passed-all (subst (Passed x (h .done)) e (h .passed))) (h .tally)
+        ∙ rw (passed-all (subst (Passed x (h .done)) e (h .passed))) (ap verdictOf (h .tally))
     go (b ∷ l) e =
         scanned-inside st (λ z. omega (arith, h .long, ap length e))
-        ∙ told (h .done ++ (h .line ∷ [])) (tallyOf (judgedOf st)) (passed-last (h .passed) (omega (arith, ap length e))) (held-tally h)
+        ∙ rw (passed-last (h .passed) (omega (arith, ap length e))) (ap verdictOf (held-tally h))
+
+-- a state that holds a deck answers for it
+pub held-deck : (x : List ℕ) (st : Scanner) → Held x st → length x < most → scannedOf st ≡ orderOf (operandsOf x)
+held-deck x st h few = held-lines x st h ∙ deck-tallied x few
 
 -- the scan of a deck
 pub scanned-deck : (x : List ℕ) → length x < most → scannedOf (scanFrom start x) ≡ orderOf (operandsOf x)

@@ -3,3 +3,4 @@ pub mod PromiseLaws
 pub mod StepLaws
 pub mod TallyLaws
 pub mod DeckLaws
+pub mod LongLaws

@@ -17,7 +17,7 @@ use Rattle.rules.proofs.AnswerLaws.{not-fine}
 use Rattle.rules.proofs.LineLaws.{lines-most}
 use Rattle.rules.proofs.ScanLaws.{cards-each, made-refused}
 use Rattle.lines.specs.Meaning.{LineSays}
-use Rattle.lines.specs.Scanning.{most, counted, firstOf, kindOf, isOther, closed, misplaced, withLine, verdictOf, orderOf}
+use Rattle.lines.specs.Scanning.{most, counted, kindOf, isOther, closed, misplaced, withLine, verdictOf, orderOf}
 use Rattle.lines.specs.declared.CardKind.{CardKind}
 use Rattle.lines.specs.declared.CardKind.the-variants.{Utility, Select, End, Other}
 use Rattle.lines.specs.declared.Tally.{Tally}
@@ -54,13 +54,13 @@ record Clear (t : Tally) (n : ℕ) (ended : Bool) : Type 0 where
 
 -- ---- what is marked stays
 
-bad-stays : (t : Tally) (ks : List CardKind) → (t .bad ≡ 0 → ⊥) → tallied t ks .bad ≡ t .bad
+pub bad-stays : (t : Tally) (ks : List CardKind) → (t .bad ≡ 0 → ⊥) → tallied t ks .bad ≡ t .bad
 bad-stays t [] h = refl
 bad-stays t (k ∷ ks) h =
     let e : withLine t k .bad ≡ t .bad = first-stays (t .bad) (isOther k) (counted (t .lines)) h in
     bad-stays (withLine t k) ks (λ z. h (sym e ∙ z)) ∙ e
 
-fault-stays : (t : Tally) (ks : List CardKind) → (t .fault ≡ 0 → ⊥) → tallied t ks .fault ≡ t .fault
+pub fault-stays : (t : Tally) (ks : List CardKind) → (t .fault ≡ 0 → ⊥) → tallied t ks .fault ≡ t .fault
 fault-stays t [] h = refl
 fault-stays t (k ∷ ks) h =
     let e : withLine t k .fault ≡ t .fault = first-stays (t .fault) (misplaced k (counted (t .lines)) (t .ended)) (counted (t .lines)) h in
@@ -80,7 +80,7 @@ cards-good t (c ∷ cs) = cards-good (withLine t (kindOf (some c))) cs ∙ card-
 
 -- ---- refusal 1
 
-next-place : (t : Tally) (n : ℕ) → t .lines ≡ n → n < most → counted (t .lines) ≡ suc n
+pub next-place : (t : Tally) (n : ℕ) → t .lines ≡ n → n < most → counted (t .lines) ≡ suc n
 next-place t n e h = let l : t .lines < most = omega arith in omega (arith, counted-more (t .lines) l)
 
 -- the first line that is no card is marked
