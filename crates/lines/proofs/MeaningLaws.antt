@@ -1,24 +1,53 @@
 -- What a loop along a line finds at its end is what the answers about the line say: one step of a definition at each way out of the loop.
-use mathlib.Core.Path.{_≡_, refl, ap, _∙_, subst}
+use mathlib.Core.Path.{_≡_, refl, ap, sym, _∙_, subst}
 use mathlib.Core.Logic.{inl, inr}
-use mathlib.Core.Bool.{true, false}
+use mathlib.Core.Bool.{Bool, true, false, _&&_}
 use mathlib.Core.List.{List, [], _∷_}
 use mathlib.Core.Option.{some}
 use Prim.Native.Nat.{ℕ, _+_, _≤_, _<_}
 use Prim.Native.String.{String}
 use native.Mathlib.Omega.{arith}
+use lib.Dec.{eqb}
 use lib.ListN.{length, getD, take, drop, drop-of-length-le}
 use lib.Seq.{slice, take-at, take-length, drop-cons}
-use Rattle.rules.specs.Base.{ascii}
-use Rattle.rules.specs.Places.{All}
+use borrow.Author.Tests.{eqb-false}
+use Rattle.rules.specs.Base.{ascii, every}
+use Rattle.rules.specs.Places.{All, noMore, also}
 use Rattle.rules.specs.Reader.{read, after, text}
 use Rattle.rules.specs.Deck.{tidy, uCard, fsCard}
 use Rattle.rules.proofs.ReaderLaws.{stops, text-sound}
+use Rattle.rules.proofs.AllLaws.{all-append}
+use Rattle.rules.proofs.PartLaws.{slice-slice}
 use Rattle.rules.proofs.LineLaws.{Inner, next-line, last-line, no-line}
-use Rattle.rules.proofs.CardPlaces.{after-other, after-short, after-end, operand-slice, operand-blank, operand-end, card-untidy, card-U, card-UTT, card-FS, card-END, card-END-blank, card-END-other, card-none}
-use Rattle.lines.specs.Meaning.{BeginsSays, OperandEnds, CardSays, LineSays}
+use Rattle.rules.proofs.CardPlaces.{every-next, every-fails, every-end, after-other, after-short, after-end, operand-slice, operand-blank, operand-end, card-untidy, card-U, card-UTT, card-FS, card-END, card-END-blank, card-END-other, card-none}
+use Rattle.lines.specs.Meaning.{BeginsSays, OperandEnds, CardSays, inner, PassedSays, LineSays}
 use Rattle.lines.specs.declared.CardRead.the-variants.{UCard, FsCard, EndCard, NoCard}
 use Rattle.lines.specs.declared.LineRead.the-variants.{Line, NoLine}
+
+-- ---- whether every byte passes, where all are looked at
+
+module _ (q : ℕ → Bool) (l : List ℕ) where
+  -- those before i passed, as `good` says
+  abbrev pub Passing : Bool → ℕ → Type 0
+  Passing good i = every q l ≡ (good && every q (drop i l))
+
+  module _ (good : Bool) (i : ℕ) where
+    pub passing-fails : i < length l → q (getD l i 0) ≡ false → Passing good i → Passing false (i + 1)
+    passing-fails h e p = p ∙ go good (every-fails q l i h e)
+      where
+        go : (good : Bool) {rest : Bool} → rest ≡ false → (good && rest) ≡ false
+        go true e = e
+        go false e = refl
+
+    pub passing-next : i < length l → q (getD l i 0) ≡ true → Passing good i → Passing good (i + 1)
+    passing-next h e p = p ∙ ap (good &&_) (every-next q l i h e)
+
+    pub passing-end : length l ≤ i → Passing good i → good ≡ every q l
+    passing-end h p = sym (p ∙ go good (every-end q l i h))
+      where
+        go : (good : Bool) {rest : Bool} → rest ≡ true → (good && rest) ≡ good
+        go true e = e
+        go false e = refl
 
 -- ---- whether a line begins with a text
 
@@ -105,6 +134,24 @@ module _ (l : List ℕ) where
   card-says-none a b c d = card-none l a b c d
 
 -- ---- the line that begins at a place
+
+-- no line ends in a part whose bytes all pass
+inner-all : (l : List ℕ) → every inner l ≡ true → All Inner l
+inner-all [] e = noMore
+inner-all (b ∷ l) e = go (λ h. inner-all l h) (eqb b 0x0A) refl
+  where
+    go : (every inner l ≡ true → All Inner l) → (t : Bool) → eqb b 0x0A ≡ t → All Inner (b ∷ l)
+    go ih true t = let z : false ≡ true = rw t at e in let w : _≡_ {A = ℕ} 0 1 = cc in absurd (omega arith)
+    go ih false t = also (eqb-false b 0x0A t) (ih (rw t at e))
+
+-- a block further
+pub passed-block : (deck : List ℕ) (at end n : ℕ) → PassedSays deck at end → end + n ≤ length deck → every inner (slice end (end + n) deck) ≡ true
+    → PassedSays deck at (end + n)
+passed-block deck at end n p h e = (
+  omega arith,
+  h,
+  subst (All Inner) (slice-slice at end (end + n) deck (p .0) (omega arith) h) (all-append (p .2) (inner-all (slice end (end + n) deck) e)),
+)
 
 module _ (deck : List ℕ) (at : ℕ) where
   pub line-says-none : length deck ≤ at → LineSays deck at NoLine

@@ -1,16 +1,19 @@
 -- What the answers about a line say, in the words of document 01, "The deck".
 use mathlib.Core.Path.{_≡_}
 use mathlib.Core.Logic.{_⊎_}
-use mathlib.Core.Bool.{Bool, true, false}
+use mathlib.Core.Bool.{Bool, true, false, not}
 use mathlib.Core.List.{List, [], _∷_}
 use mathlib.Core.Option.{none, some}
 use Prim.Native.Nat.{ℕ, suc, min, _≤_, _<_}
+use lib.Dec.{eqb}
 use lib.ListN.{length, take, drop}
 use lib.Seq.{slice}
 use Rattle.rules.specs.Base.{ascii}
 use Rattle.rules.specs.Reader.{read, after}
 use Rattle.rules.specs.Deck.{uCard, fsCard, endCard, lines, operand, cardOf}
+use Rattle.rules.specs.Places.{All}
 use Rattle.rules.proofs.ReaderLaws.{Stopped}
+use Rattle.rules.proofs.LineLaws.{Inner}
 use Rattle.lines.specs.declared.CardRead.{CardRead}
 use Rattle.lines.specs.declared.CardRead.the-variants.{UCard, FsCard, EndCard, NoCard}
 use Rattle.lines.specs.declared.LineRead.{LineRead}
@@ -35,6 +38,14 @@ CardSays l (FsCard start end) =
     (take start l ≡ ascii "// FS ") × (start ≤ end) × (end ≤ length l) × (cardOf l ≡ some (fsCard (slice start end l)))
 CardSays l EndCard = cardOf l ≡ some endCard
 CardSays l NoCard = cardOf l ≡ none
+
+-- no line ends with this byte
+abbrev pub inner : ℕ → Bool
+inner b = not (eqb b 0x0A)
+
+-- no line ends from a place to before another
+abbrev pub PassedSays : List ℕ → ℕ → ℕ → Type 0
+PassedSays deck at end = (at ≤ end) × (end ≤ length deck) × All Inner (slice at end deck)
 
 -- the line that begins at a place: the lines from there on are this one and the lines from the next place on
 abbrev pub LineSays : List ℕ → ℕ → LineRead → Type 0

@@ -6,7 +6,7 @@ ghost use lib.ListN.{length};
 ghost use Rattle.rules.specs.Base.{ascii, within, every};
 ghost use Rattle.rules.specs.Deck.{tidy, cardOf};
 ghost use Rattle.rules.specs.Order.{operandsOf};
-ghost use Rattle.lines.specs.Meaning.{BeginsSays, OperandEnds, CardSays, LineSays};
+ghost use Rattle.lines.specs.Meaning.{BeginsSays, OperandEnds, CardSays, inner, PassedSays, LineSays};
 ghost use Rattle.lines.specs.Scanning.{counted, kindOf, begunKind, firstOf, isOther, faulty, misplaced, closed, withLine, tallyOf, judgedOf, withByte, stepOf, start, scanFrom, verdictOf, scannedOf, orderOf};
 
 // The most bytes of a card.
@@ -22,6 +22,9 @@ const BLANK: u8 = 0x20;
 
 const LINE_END: u8 = 0x0A;
 
+// How many bytes are looked at at once where a line's end is looked for.
+const BLOCK: usize = 8;
+
 // Whether a card may have this byte.
 fn allowed(byte: u8) -> bool
     ensures { λ r. ⌜ r ≡ within 0x20 0x7E byte ⌝ }
@@ -29,18 +32,19 @@ fn allowed(byte: u8) -> bool
     0x20 <= byte && byte <= 0x7E
 }
 
-// Whether a card may have each byte of the line.
+// Whether a card may have each byte of the line. A loop with one way out is compiled to look at many bytes at once.
 fn plain(line: &[u8]) -> bool
     ensures { λ r. ⌜ r ≡ every (within 0x20 0x7E) (now (line .entry)) ⌝ }
 {
+    let mut good = true;
     let mut i = 0;
     while i < line.len() {
         if !allowed(line[i]) {
-            return false;
+            good = false;
         }
         i += 1;
     }
-    true
+    good
 }
 
 // Whether a line has the length and the bytes of a card. A longer line's bytes are not looked at.
@@ -151,6 +155,36 @@ pub enum LineRead {
     NoLine,
 }
 
+// Whether no line ends in a part.
+fn is_inner(part: &[u8]) -> bool
+    ensures { λ r. ⌜ r ≡ every inner (now (part .entry)) ⌝ }
+{
+    let mut good = true;
+    let mut i = 0;
+    while i < part.len() {
+        if part[i] == LINE_END {
+            good = false;
+        }
+        i += 1;
+    }
+    good
+}
+
+// A place before which no line ends, from `at` on: block by block, which is faster than byte by byte.
+fn passed(deck: &[u8], at: usize) -> usize
+    requires { ⌜ at ≤ length (now deck) ⌝ }
+    ensures { λ r. ⌜ PassedSays (now (deck .entry)) at r ⌝ }
+{
+    let mut end = at;
+    while BLOCK <= deck.len() - end {
+        if !is_inner(&deck[end..end + BLOCK]) {
+            return end;
+        }
+        end += BLOCK;
+    }
+    end
+}
+
 // The line that begins at a place. The last one may lack its end.
 pub fn line(deck: &[u8], at: usize) -> LineRead
     ensures { λ r. ⌜ LineSays (now (deck .entry)) at r ⌝ }
@@ -158,7 +192,7 @@ pub fn line(deck: &[u8], at: usize) -> LineRead
     if deck.len() <= at {
         return LineRead::NoLine;
     }
-    let mut end = at;
+    let mut end = passed(deck, at);
     while end < deck.len() {
         if deck[end] == LINE_END {
             return LineRead::Line { end, next: end + 1 };
