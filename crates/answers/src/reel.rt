@@ -1,11 +1,13 @@
 // What a reel is read as, as words of a line.
 use crate::say;
+use reels::Cursor;
 use reels::Form;
+use reels::PieceRead;
 use reels::ReelRead;
+use reels::StartRead;
 use terms::Asked;
 use terms::Mode;
 use terms::Size;
-use walks::RecordRead;
 
 // The least data of a record: with TF or TRF A's n.
 fn least_data(mode: Mode, n: usize) -> usize {
@@ -38,30 +40,51 @@ pub(crate) fn form_of(asked: Asked) -> Form {
     }
 }
 
-// The length of each record, as the walk finds them.
-fn lengths(form: Form, reel: &[u8]) {
-    let mut w = walks::begin(form);
-    let mut left: usize = 65536;
-    while left > 0 {
-        let read = walks::record(form, reel, w);
+// The length of each record of a block from a place on, and a comma before each but the first of the reel.
+fn lengths_from(form: Form, block: &[u8], from: Cursor, first: bool) {
+    let mut at = from.at;
+    let mut comma = !first;
+    loop {
+        let read = reels::piece(form, block, Cursor { at });
         match read {
-            RecordRead::Record {
-                start: _,
+            PieceRead::Piece {
+                place: _,
                 length,
-                begins: _,
+                third: _,
                 next,
             } => {
-                if left < 65536 {
+                if comma {
                     say::words(b",");
                 }
                 say::number(length);
-                w = next;
-                left -= 1;
+                comma = true;
+                at = next.at;
             }
-            RecordRead::End => {
+            PieceRead::End => {
+                return;
+            }
+            PieceRead::Bad => {
                 return;
             }
         }
+    }
+}
+
+// The length of each record, block after block.
+fn lengths(form: Form, reel: &[u8], blocks: usize) {
+    let mut i = 0;
+    while i < blocks {
+        let block = reels::block(reel, i);
+        let start = reels::start(form, block);
+        match start {
+            StartRead::From { cursor } => {
+                lengths_from(form, block, cursor, i == 0);
+            }
+            StartRead::NoStart => {
+                return;
+            }
+        }
+        i += 1;
     }
 }
 
@@ -76,7 +99,7 @@ pub(crate) fn tell(form: Form, reel: &[u8]) {
             if records == 0 {
                 say::words(b"-");
             }
-            lengths(form, reel);
+            lengths(form, reel, blocks);
         }
         ReelRead::NotReel => say::refusal(11, 0),
         ReelRead::BadBlock { block } => say::refusal(12, block),

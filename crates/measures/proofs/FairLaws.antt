@@ -15,7 +15,7 @@ use Rattle.reels.specs.declared.Form.{Form}
 use Rattle.reels.specs.Form.{FormIs}
 use Rattle.walks.specs.declared.Walk.{Walk}
 use Rattle.walks.specs.Marks.{markedAll}
-use Rattle.walks.specs.Promise.{Good, Walks, bytesLeft, Taken}
+use Rattle.walks.specs.Promise.{Good, Walks, Sound, bytesLeft, Taken}
 use Rattle.tasks.specs.Promise.{formOf}
 use Rattle.measures.specs.Promise.{Fair, answerAt}
 
@@ -55,6 +55,10 @@ module _ {form : Form} {first : ℕ} {s : List ℕ} {p : Plan} {recs : List (Lis
 
   pub s-short : length s ≤ 65536
   s-short = reel-most s (x .good .reel)
+
+  -- the reel is good by what the form asks of blocks
+  pub sound : Sound form s
+  sound = record { p = p; recs = recs; form-is = x .form-is; good = x .good }
 
   -- before the first turn
   pub walks-first : {w : Walk} → Taken form s first w → Walks p s w (markedAll (takenFrom (p .first) recs))

@@ -20,7 +20,7 @@ use Rattle.reels.specs.declared.Form.{Form}
 use Rattle.walks.specs.declared.Walk.{Walk}
 use Rattle.walks.specs.declared.RecordRead.{RecordRead}
 use Rattle.walks.specs.declared.RecordRead.the-variants.{Record, End}
-use Rattle.walks.specs.Promise.{Walks, Passed, bytesLeft, Told, Taken}
+use Rattle.walks.specs.Promise.{Walks, Sound, Standing, Passed, bytesLeft, Told, Taken}
 use Rattle.walks.proofs.PromiseLaws.{inside, lent-length, passed, ended}
 use Rattle.measures.specs.declared.Tally.{Tally}
 use Rattle.measures.specs.declared.Measured.the-variants.{TooLong, Fits}
@@ -28,7 +28,7 @@ use Rattle.tasks.specs.Promise.{formOf, lengthOf}
 use Rattle.tasks.proofs.LengthLaws.{length-most, out-length}
 use Rattle.measures.specs.Tallying.{tallyOf, Small}
 use Rattle.measures.specs.Promise.{Measuring, Measurable, fitAnswer, FitsAs, Measures}
-use Rattle.measures.proofs.FairLaws.{left-few, asks, first-high, s-short, walks-first}
+use Rattle.measures.proofs.FairLaws.{left-few, asks, first-high, s-short, sound, walks-first}
 use Rattle.measures.proofs.TestLaws.{stepOf, testsFrom, lengths, takenMarked, all-count, all-tests, all-totals}
 use Rattle.measures.proofs.TallyLaws.{measureOf, empty, tally-is, bounded, Grown, tally-grown}
 
@@ -75,6 +75,15 @@ start-tests p recs x = ap₂ (each 14 (λ holds. holds)) (sym (x .fair .is .firs
 
 pub go-limit : {task : Task} {s : List ℕ} → Measurable task s → task .limit ≤ 32760
 go-limit y = bounded (y .given .fair .is) (y .given .fair .good .accepted) .limit
+
+-- the walk stands in the reel
+pub go-sound : {task : Task} {s : List ℕ} {form : Form} → form ≡ formOf task → Measurable task s → Sound form s
+go-sound f y = sound (asks f (y .given .fair))
+
+pub go-stands : {task : Task} {s : List ℕ} {form : Form} {w : Walk} {number : ℕ} {t : Tally} → form ≡ formOf task → Going task s w number t → Measurable task s → Standing form s w
+go-stands f k y =
+    let q = k .goes (y .p) (y .recs) (y .given) in
+    record { p = y .p; rest = q .rest; form-is = asks f (y .given .fair) .form-is; walks = q .walks }
 
 module _ (task : Task) {s : List ℕ} {form : Form} (f : form ≡ formOf task) {w : Walk} where
   pub go-start : Taken form s (task .first) w → Going task s w (task .first) empty

@@ -25,12 +25,12 @@ use Rattle.walks.specs.declared.Walk.{Walk}
 use Rattle.walks.specs.declared.RecordRead.{RecordRead}
 use Rattle.walks.specs.declared.RecordRead.the-variants.{Record, End}
 use Rattle.walks.specs.Marks.{markedAll, bytesOf}
-use Rattle.walks.specs.Promise.{Walks, Passed, bytesLeft, Told, Taken}
+use Rattle.walks.specs.Promise.{Walks, Sound, Standing, Passed, bytesLeft, Told, Taken}
 use Rattle.walks.proofs.MarksLaws.{all-records}
 use Rattle.walks.proofs.PromiseLaws.{inside, lent, lent-length, passed, ended}
 use Rattle.tasks.specs.Promise.{formOf}
 use Rattle.measures.specs.Promise.{Selecting, Selected, FirstUnpermitted}
-use Rattle.measures.proofs.FairLaws.{answer-at, left-few, Asks, asks, first-low, first-high, s-short, walks-first}
+use Rattle.measures.proofs.FairLaws.{answer-at, left-few, Asks, asks, first-low, first-high, s-short, sound, walks-first}
 
 -- ---- what is asked of a record
 
@@ -150,6 +150,16 @@ module _ (task : Task) {fields s : List ℕ} {form : Form} (f : form ≡ formOf 
 
   pub seek-few : Selected task fields s → number ≤ 131072
   seek-few y = let x = asks f (y .given .fair) in omega (arith, k .few, first-high x, s-short x)
+
+-- the walk stands in the reel
+pub seek-sound : {task : Task} {fields s : List ℕ} {form : Form} → form ≡ formOf task → Selected task fields s → Sound form s
+seek-sound f y = sound (asks f (y .given .fair))
+
+pub seek-stands : {task : Task} {fields s : List ℕ} {form : Form} {w : Walk} {number : ℕ} → form ≡ formOf task → Seeking form (task .first) fields s w number → Selected task fields s → Standing form s w
+seek-stands f k y =
+    let x = asks f (y .given .fair) in
+    let q = k .seeks (y .p) (y .recs) x (lent-of (y .given)) in
+    record { p = y .p; rest = q .rest; form-is = x .form-is; walks = q .walks }
 
 pub seek-short : {task : Task} {fields s : List ℕ} {form : Form} → form ≡ formOf task → Selected task fields s → length s ≤ 65536
 seek-short f y = s-short (asks f (y .given .fair))

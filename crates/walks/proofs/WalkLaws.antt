@@ -88,11 +88,11 @@ walks-all form p s recs f g = walks-block form p f (g .accepted) s (g .reel) 0 (
 -- ---- the record that a walk stands before
 
 -- what the pieces say, in the words of the plan
-piece-is : (form : Form) (p : Plan) → FormIs form p → (b : List ℕ) (i : ℕ) → pieceOf form b i ≡ pieceIn (p .format) (recordLength (p .input)) b i
+pub piece-is : (form : Form) (p : Plan) → FormIs form p → (b : List ℕ) (i : ℕ) → pieceOf form b i ≡ pieceIn (p .format) (recordLength (p .input)) b i
 piece-is form p f b i = ap₂ (λ x n. pieceIn x n b i) (f .format) (f .n)
 
 -- a good piece is found
-piece-found : (p : Plan) → Accepted p → (b : List ℕ) (i : ℕ) (rs : List (List ℕ)) → i < length b → Next p b i rs
+pub piece-found : (p : Plan) → Accepted p → (b : List ℕ) (i : ℕ) (rs : List (List ℕ)) → i < length b → Next p b i rs
     → pieceIn (p .format) (recordLength (p .input)) b i ≡ found (pieceIs p b i)
 unfolding pieceIn
 piece-found p ok b i rs l x =

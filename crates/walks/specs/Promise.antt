@@ -41,6 +41,20 @@ pub record Walks (p : Plan) (s : List ℕ) (w : Walk) (rest : List (Bool × List
   pub behind : recordsFrom p (suc (suc (w .block))) (drop (suc (w .block)) (blocksOf s)) ≡ fine later
   pub is : rest ≡ marked (w .begins) here ++ markedAll later
 
+-- the reel is good by a plan that asks this of blocks, as it is where it was read
+pub record Sound (form : Form) (s : List ℕ) : Type 0 where
+  pub p : Plan
+  pub recs : List (List (List ℕ))
+  pub form-is : FormIs form p
+  pub good : Good p s recs
+
+-- the walk stands before some records of such a reel, or behind the last
+pub record Standing (form : Form) (s : List ℕ) (w : Walk) : Type 0 where
+  pub p : Plan
+  pub rest : List (Bool × List ℕ)
+  pub form-is : FormIs form p
+  pub walks : Walks p s w rest
+
 -- the walk to the first record: before all of them
 pub record Begun (form : Form) (w : Walk) : Type 0 where
   pub is : w ≡ blockStart form 0

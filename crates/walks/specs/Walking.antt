@@ -1,9 +1,10 @@
 -- What a walk is answered, for every list of bytes and every walk.
 use mathlib.Core.Bool.{true, false, cond}
 use mathlib.Core.List.{List}
-use Prim.Native.Nat.{ℕ, zero, suc, _+_, _-_}
+use Prim.Native.Nat.{ℕ, zero, suc, _+_, _-_, _*_}
 use lib.Dec.{ltb}
-use lib.ListN.{length}
+use lib.ListN.{length, getD}
+use Rattle.rules.specs.Grammar.{Format, ff, fv, fu}
 use Rattle.rules.specs.Output.{cost}
 use Rattle.rules.proofs.HeaderSteps.{offsetAt}
 use Rattle.terms.specs.Meaning.{formatOf}
@@ -33,6 +34,12 @@ recordAs form s w Bad = End
 
 unfoldable pub recordOf : Form → List ℕ → Walk → RecordRead
 recordOf form s w = recordAs form s w (pieceOf form (partAt s (w .block)) (w .at))
+
+-- where the record at a place of the reel ends, in a block that ends at a place
+abbrev pub endIn : Format → ℕ → List ℕ → ℕ → ℕ → ℕ
+endIn ff n s at end = at + n
+endIn fv n s at end = at + (256 * getD s at 0 + getD s (at + 1) 0)
+endIn fu n s at end = end
 
 -- the same place, before a record that counts as the first of its block
 abbrev pub openedWalk : Walk → Walk

@@ -1,14 +1,13 @@
 // The records of a reel one after the other, through all its blocks: a walk that goes by value, so that a pass over the records is one loop.
 // Document 01, "Blocks and records".
 ghost use mathlib.Core.Path.{_≡_};
-ghost use Prim.Native.Nat.{_<_};
+ghost use Prim.Native.Nat.{_+_, _≤_, _<_};
+ghost use lib.ListN.{length};
 ghost use Rattle.rules.specs.Output.{cost};
 ghost use Rattle.terms.specs.Meaning.{formatOf};
-ghost use Rattle.walks.specs.Walking.{blockStart, behindOf, openedWalk};
-ghost use Rattle.walks.specs.Promise.{Begun, Told, Taken};
-use reels::Cursor;
+ghost use Rattle.walks.specs.Walking.{blockStart, behindOf, endIn, openedWalk};
+ghost use Rattle.walks.specs.Promise.{Begun, Sound, Standing, Told, Taken};
 use reels::Form;
-use reels::PieceRead;
 use terms::Format;
 
 // A place before a record: the block, from 0, the place in it, and whether the record is the first of its block (or the first that is taken).
@@ -74,31 +73,47 @@ fn behind(form: Form, block: usize, at: usize, size: usize) -> Walk
     block_start(form, block + 1)
 }
 
-// The record that a walk stands before, in constant time.
+// A byte as a number.
+fn wide(x: u8) -> usize
+    ensures { λ r. ⌜ (r ≡ x) × (r < 256) ⌝ }
+{
+    x as usize
+}
+
+// Where the record at a place of the reel ends, in a block that ends at a place: in FV its word says so, which counts its own 4 bytes.
+fn record_end(form: Form, s: &[u8], at: usize, end: usize) -> usize
+    requires { ⌜ at + cost (formatOf (form .format)) ≤ length (now s) ⌝ }
+    requires { ⌜ endIn (formatOf (form .format)) (form .n) (now s) at end ≤ length (now s) ⌝ }
+    ensures { λ r. ⌜ r ≡ endIn (formatOf (form .format)) (form .n) (now (s .entry)) at end ⌝ }
+{
+    let format = form.format;
+    match format {
+        Format::FF => at + form.n,
+        Format::FV => at + (256 * wide(s[at]) + wide(s[at + 1])),
+        Format::FU => end,
+    }
+}
+
+// The record that a walk stands before, in constant time. The header and the rule of each block were asked when the reel was read: nothing is asked again.
 pub fn record(form: Form, s: &[u8], w: Walk) -> RecordRead
+    requires { ⌜ Standing form (now s) w ⌝ }
     ensures { λ r. ⌜ Told form (now (s .entry)) w r ⌝ }
 {
     let block = w.block;
-    let at = w.at;
-    let b = reels::block(s, block);
-    let read = reels::piece(form, b, Cursor { at });
-    match read {
-        PieceRead::Piece {
-            place,
-            length,
-            third: _,
-            next,
-        } => {
-            let from = reels::word(s, 4 * block + 4);
-            RecordRead::Record {
-                start: from + place,
-                length,
-                begins: w.begins,
-                next: behind(form, block, next.at, b.len()),
-            }
-        }
-        PieceRead::End => RecordRead::End,
-        PieceRead::Bad => RecordRead::End,
+    if block >= reels::word(s, 0) {
+        return RecordRead::End;
+    }
+    let from = reels::word(s, 4 * block + 4);
+    let end = reels::word(s, 4 * block + 8);
+    let at = from + w.at;
+    let format = form.format;
+    let start = at + first_place(format);
+    let next = record_end(form, s, at, end);
+    RecordRead::Record {
+        start,
+        length: next - start,
+        begins: w.begins,
+        next: behind(form, block, next - from, end - from),
     }
 }
 
@@ -113,6 +128,7 @@ fn opened(w: Walk) -> Walk
 
 // Before record R, or behind the last record: R is the first that is taken of its block, so that it counts as the block's first.
 pub fn taken(form: Form, s: &[u8], first: usize) -> Walk
+    requires { ⌜ Sound form (now s) ⌝ }
     ensures { λ r. ⌜ Taken form (now (s .entry)) first r ⌝ }
 {
     let mut w = begin(form);

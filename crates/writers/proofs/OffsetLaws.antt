@@ -25,7 +25,7 @@ use Rattle.walks.specs.declared.Walk.{Walk}
 use Rattle.walks.specs.declared.RecordRead.{RecordRead}
 use Rattle.walks.specs.declared.RecordRead.the-variants.{Record}
 use Rattle.walks.specs.Marks.{markedAll}
-use Rattle.walks.specs.Promise.{Walks, Told, Taken}
+use Rattle.walks.specs.Promise.{Walks, Sound, Standing, Told, Taken}
 use Rattle.walks.proofs.PromiseLaws.{passed, inside, lent, lent-length}
 use Rattle.writers.specs.declared.Place.{Place}
 use Rattle.tasks.specs.Promise.{formOf, lengthOf}
@@ -57,6 +57,13 @@ module _ {task : Task} {s : List ℕ} {blocks room : ℕ} (x : Ready task s bloc
   -- the form that the walk goes by
   pub form-same : {form : Form} → form ≡ formOf task → FormIs form (x .p)
   form-same e = subst (λ (f : Form). FormIs f (x .p)) (sym e) (form-is x)
+
+  -- the walk stands in the reel
+  pub sound : {form : Form} → form ≡ formOf task → Sound form s
+  sound e = record { p = x .p; recs = x .recs; form-is = form-same e; good = x .good }
+
+  pub stands : {form : Form} → form ≡ formOf task → {w : Walk} {place : Place} {rest : List (Bool × List ℕ)} → Going w place rest → Standing form s w
+  stands e {rest = rest} g = record { p = x .p; rest = rest; form-is = form-same e; walks = g .walks }
 
   pub going-start : {form : Form} → form ≡ formOf task → {w : Walk} → Taken form s (task .first) w → Going w (firstPlace task blocks) (marksIn x)
   going-start e {w} t =

@@ -4,7 +4,7 @@ use borrow.Author.Needs.{needs}
 use borrow.Author.Tests.{not-true, not-false}
 use Rattle.walks.specs.Promise.{bytesLeft}
 use Rattle.walks.proofs.PromiseLaws.{inside}
-use Rattle.measures.proofs.SeekLaws.{Seeking, seek-start, seek-more, seek-readable, seek-stop, seek-end, seek-few, seek-short}
+use Rattle.measures.proofs.SeekLaws.{Seeking, seek-start, seek-more, seek-readable, seek-stop, seek-end, seek-few, seek-sound, seek-stands, seek-short}
 use Rattle.measures.proofs.first_unpermitted.Statement.{statement}
 use Rattle.measures.proofs.first_unpermitted.Tie as tie
 
@@ -18,13 +18,13 @@ form-of-requires : tie.Need-form-of-requires Inv-loop μ-loop
 form-of-requires c κs = search needs
 
 taken-requires : tie.Need-taken-requires Inv-loop μ-loop
-taken-requires c κs = search needs
+taken-requires c κs = seek-sound (c .form-of .ensures) (c .before .before .before .pre)
 
 loop-holds : tie.Need-loop-holds Inv-loop μ-loop
 loop-holds c = seek-start (c .before .form-of .ensures) (c .before .before .before .before .pre) (c .taken .ensures)
 
 record-requires : tie.Need-record-requires Inv-loop μ-loop
-record-requires c κs = search needs
+record-requires c κs = seek-stands (c .before .before .form-of .ensures) (c .loop .inv) (c .before .before .before .before .before .pre)
 
 enum-known-read : tie.Need-enum-known-read Inv-loop μ-loop
 enum-known-read c = search needs

@@ -3,7 +3,7 @@ use native.Mathlib.Omega.{arith}
 use borrow.Author.Needs.{needs}
 use Rattle.walks.specs.Promise.{bytesLeft}
 use Rattle.walks.proofs.PromiseLaws.{inside}
-use Rattle.measures.proofs.GoLaws.{Going, go-start, go-few, go-bytes, go-short, go-small, go-stop, go-more, go-end, go-limit}
+use Rattle.measures.proofs.GoLaws.{Going, go-start, go-few, go-bytes, go-short, go-small, go-stop, go-more, go-end, go-limit, go-sound, go-stands}
 use Rattle.measures.proofs.measure.Statement.{statement}
 use Rattle.measures.proofs.measure.Tie as tie
 
@@ -20,13 +20,13 @@ add-over : tie.Need-add-over Inv-loop μ-loop
 add-over c = let g = go-limit (c .before .before .before .pre) in omega arith
 
 taken-requires : tie.Need-taken-requires Inv-loop μ-loop
-taken-requires c κs = search needs
+taken-requires c κs = go-sound (c .before .form-of .ensures) (c .before .before .before .pre)
 
 loop-holds : tie.Need-loop-holds Inv-loop μ-loop
 loop-holds c = go-start (c .before .before .before .before .args .task) (c .before .before .form-of .ensures) (c .taken .ensures)
 
 record-requires : tie.Need-record-requires Inv-loop μ-loop
-record-requires c κs = search needs
+record-requires c κs = go-stands (c .before .before .before .form-of .ensures) (c .loop .inv) (c .before .before .before .before .before .pre)
 
 enum-known-read : tie.Need-enum-known-read Inv-loop μ-loop
 enum-known-read c = search needs

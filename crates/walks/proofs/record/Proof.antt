@@ -1,98 +1,108 @@
--- The piece at the walk's place, and where its block stands in the reel.
-use mathlib.Core.Path.{_≡_, ap, sym, _∙_}
-use Prim.Native.Nat.{ℕ, _+_, _*_, _≤_}
-use mathlib.Core.List.{List}
+-- What is read without a test lies in the reel, since the walk stands in one that is good, and it is the piece at the walk's place.
+use mathlib.Core.Path.{_≡_, sym, _∙_}
+use Prim.Native.Nat.{suc, _+_, _≤_}
 use native.Mathlib.Omega.{arith}
 use denote.Ref.{now}
-use lib.ListN.{length}
 use borrow.Author.Needs.{needs}
-use Rattle.rules.proofs.HeaderSteps.{offsetAt}
-use Rattle.reels.specs.Header.{partAt}
-use Rattle.reels.specs.Pieces.{pieceOf}
-use Rattle.reels.specs.declared.PieceRead.the-variants.{Piece}
-use Rattle.walks.specs.Walking.{behindOf}
-use Rattle.walks.proofs.AnswerLaws.{found-inside, told, record-found, record-none, record-bad}
+use Rattle.rules.proofs.HeaderSteps.{offsetAt, next-at}
+use Rattle.walks.proofs.AnswerLaws.{told}
+use Rattle.walks.proofs.StandingLaws.{counted, count-there, Reads, reads, no-record, may-read, read-order, read-is}
 use Rattle.walks.proofs.record.Statement.{statement}
 use Rattle.walks.proofs.record.Tie as tie
 
--- the piece that was read
-a-piece : (c : tie.After-read)
-    → pieceOf (c .before .before .before .before .before .args .form) (partAt (now (c .before .before .before .before .before .args .s)) (c .before .before .before .before .before .args .w .block)) (c .before .before .before .before .before .args .w .at)
-    ≡ Piece (c .read .given .0 .0) (c .read .given .0 .1 .0) (c .read .given .0 .1 .1 .0) (c .read .given .0 .1 .1 .1 .0)
-a-piece c =
-    let a = c .before .before .before .before .before .args in
-    ap (λ (b : List ℕ). pieceOf (a .form) b (a .w .at)) (sym (c .before .before .before .block .ensures)) ∙ sym (c .before .before .piece .ensures) ∙ c .read .given .1
+-- the walk is in a block of the reel
+here : (c : tie.Else1) → Reads (c .before .before .before .pre)
+here c = let x = c .before .before .before .pre in reads x (omega (arith, c .if1 .left, c .before .word .ensures .0, counted x))
 
--- it lies in the reel
-inside : (c : tie.After-read)
-    → (4 * c .before .before .before .before .before .args .w .block + 12 ≤ length (now (c .before .before .before .before .before .args .s)))
-    × (offsetAt (now (c .before .before .before .before .before .args .s)) (c .before .before .before .before .before .args .w .block) + c .read .given .0 .0 + c .read .given .0 .1 .0
-    ≤ length (now (c .before .before .before .before .before .args .s)))
-inside c = let a = c .before .before .before .before .before .args in found-inside (a .form) (now (a .s)) (a .w) _ _ _ _ (a-piece c)
+-- where the block ends
+ends : (c : tie.After-word3) → c .word3 .result ≡ offsetAt (now (c .before .before .before .before .before .args .s)) (suc (c .before .before .before .before .before .args .w .block))
+ends c = let a = c .before .before .before .before .before .args in c .word3 .ensures .0 ∙ sym (next-at (now (a .s)) (a .w .block))
 
-block-requires : tie.Need-block-requires
-block-requires c κs = search needs
-
-piece-requires : tie.Need-piece-requires
-piece-requires c κs = search needs
-
-enum-known-read : tie.Need-enum-known-read
-enum-known-read c = search needs
-
-mul-word : tie.Need-mul-word
-mul-word c = omega (arith, inside (c .before))
-
-add-word : tie.Need-add-word
-add-word c = omega (arith, inside (c .before))
+order : (c : tie.After-record-end)
+    → (c .before .before .before .before .word2 .result + c .before .before .before .before .before .before .before .before .args .w .at + c .before .first-place .result ≤ c .record-end .result)
+    × (c .before .before .before .before .word2 .result ≤ c .record-end .result)
+    × (c .before .before .before .before .word2 .result ≤ c .before .before .before .word3 .result)
+order c =
+    read-order (c .before .before .before .before .before .before .before .before .pre) (here (c .before .before .before .before .before)) (c .before .before .before .before .word2 .ensures .0)
+    (ends (c .before .before .before)) (c .before .first-place .ensures) (c .record-end .ensures)
 
 word-requires : tie.Need-word-requires
-word-requires c κs = omega (arith, inside (c .before))
-
-add-t14 : tie.Need-add-t14
-add-t14 c = omega (arith, inside (c .before .before), c .word .ensures)
-
-behind-requires : tie.Need-behind-requires
-behind-requires c κs = omega (arith, inside (c .before .before))
-
-enum-told : tie.Need-enum-told
-enum-told c = search needs
-
-enum-told-2 : tie.Need-enum-told-2
-enum-told-2 c = search needs
+word-requires c κs = omega (arith, count-there (c .before .pre))
 
 returns : tie.Need-returns
 returns c =
-    let a = c .before .before .before .before .before .before .before .before .args in
-    told (a .form) (now (a .s)) (a .w) _
-    (record-found (a .form) (now (a .s)) (a .w) _ _ _ _ _ _ (a-piece (c .before .before .before)) (c .before .word .ensures .0)
-    (c .behind .ensures ∙ ap (λ (b : List ℕ). behindOf (a .form) (a .w .block) (c .before .before .before .read .given .0 .1 .1 .1 .0 .at) (length b)) (c .before .before .before .before .before .before .block .ensures)))
+    let st = c .before .before .before in
+    told (st .args .form) (now (st .args .s)) (st .args .w) _ (no-record (st .pre) (omega (arith, c .if1 .taken, c .before .word .ensures .0, counted (st .pre))))
+
+mul-word : tie.Need-mul-word
+mul-word c = search needs
+
+add-word : tie.Need-add-word
+add-word c = search needs
+
+word-requires-2 : tie.Need-word-requires-2
+word-requires-2 c κs = omega (arith, here c .words)
+
+mul-word-2 : tie.Need-mul-word-2
+mul-word-2 c = search needs
+
+add-word-2 : tie.Need-add-word-2
+add-word-2 c = search needs
+
+word-requires-3 : tie.Need-word-requires-3
+word-requires-3 c κs = omega (arith, here (c .before) .words)
+
+add-at : tie.Need-add-at
+add-at c = let h = here (c .before .before .before) in omega (arith, h .before, h .inside, h .most, c .before .before .word2 .ensures .0)
+
+first-place-requires : tie.Need-first-place-requires
+first-place-requires c κs = search needs
+
+add-start : tie.Need-add-start
+add-start c =
+    let h = here (c .before .before .before .before) in
+    omega (arith, h .before, h .inside, h .most, c .before .before .before .word2 .ensures .0, c .first-place .ensures)
+
+record-end-requires : tie.Need-record-end-requires
+record-end-requires c κs = may-read _ (here (c .before .before .before .before)) (c .before .before .before .word2 .ensures .0) (ends (c .before .before))
+
+sub-t13 : tie.Need-sub-t13
+sub-t13 c = order c .0
+
+sub-behind : tie.Need-sub-behind
+sub-behind c = order c .1
+
+sub-behind-2 : tie.Need-sub-behind-2
+sub-behind-2 c = order c .2
+
+behind-requires : tie.Need-behind-requires
+behind-requires c κs = search needs
 
 returns-2 : tie.Need-returns-2
 returns-2 c =
-    let a = c .before .before .before .before .before .args in
-    told (a .form) (now (a .s)) (a .w) _
-    (record-none (a .form) (now (a .s)) (a .w) (ap (λ (b : List ℕ). pieceOf (a .form) b (a .w .at)) (sym (c .before .before .before .block .ensures)) ∙ sym (c .before .before .piece .ensures) ∙ c .enum-told .given .1))
-
-returns-3 : tie.Need-returns-3
-returns-3 c =
-    let a = c .before .before .before .before .before .args in
-    told (a .form) (now (a .s)) (a .w) _
-    (record-bad (a .form) (now (a .s)) (a .w) (ap (λ (b : List ℕ). pieceOf (a .form) b (a .w .at)) (sym (c .before .before .before .block .ensures)) ∙ sym (c .before .before .piece .ensures) ∙ c .enum-told2 .given .1))
+    let st = c .before .before .before .before .before .before .before .before .before in
+    told (st .args .form) (now (st .args .s)) (st .args .w) _
+    (read-is (st .pre) (here (c .before .before .before .before .before .before)) (c .before .before .before .before .before .word2 .ensures .0) (ends (c .before .before .before .before))
+    (c .before .before .first-place .ensures) (c .before .record-end .ensures) _ (c .behind .ensures))
 
 pub record-spec : {M : Type 1} → statement M
 record-spec =
     tie.close
     (tie.spec
-    block-requires
-    piece-requires
-    enum-known-read
+    word-requires
+    returns
     mul-word
     add-word
-    word-requires
-    add-t14
+    word-requires-2
+    mul-word-2
+    add-word-2
+    word-requires-3
+    add-at
+    first-place-requires
+    add-start
+    record-end-requires
+    sub-t13
+    sub-behind
+    sub-behind-2
     behind-requires
-    enum-told
-    enum-told-2
-    returns
-    returns-2
-    returns-3)
+    returns-2)

@@ -1,10 +1,7 @@
 -- What is left of the way to record R leads to the same place from each turn on.
-use mathlib.Core.Path.{_≡_, sym, _∙_}
+use mathlib.Core.Path.{_∙_}
 use Prim.Native.Nat.{_-_}
 use borrow.Author.Needs.{needs}
-use denote.Ref.{now}
-use Rattle.walks.specs.declared.RecordRead.the-variants.{Record}
-use Rattle.walks.specs.Walking.{recordOf}
 use Rattle.walks.proofs.AnswerLaws.{all-taken, Going, going-start, going-more, going-ended, going-there}
 use Rattle.walks.proofs.taken.Statement.{statement}
 use Rattle.walks.proofs.taken.Tie as tie
@@ -15,20 +12,14 @@ Inv-loop form s first w₀ number₀ w number = Going form s first w number
 abbrev μ-loop : tie.MeasureT-loop
 μ-loop form s first w₀ number₀ w number = first - number
 
--- the record that was read
-a-record : (c : tie.After-read Inv-loop μ-loop)
-    → recordOf (c .before .before .before .before .before .before .before .args .form) (now (c .before .before .before .before .before .before .before .args .s)) (c .before .before .before .before .loop .w)
-    ≡ Record (c .read .given .0 .0) (c .read .given .0 .1 .0) (c .read .given .0 .1 .1 .0) (c .read .given .0 .1 .1 .1 .0)
-a-record c = sym (c .before .before .«record» .ensures .is) ∙ c .read .given .1
-
 begin-requires : tie.Need-begin-requires Inv-loop μ-loop
 begin-requires c κs = search needs
 
 loop-holds : tie.Need-loop-holds Inv-loop μ-loop
-loop-holds c = going-start _ _ _ _ (c .begin .ensures .is)
+loop-holds c = going-start _ _ _ _ (c .before .before .pre) (c .begin .ensures)
 
 record-requires : tie.Need-record-requires Inv-loop μ-loop
-record-requires c κs = search needs
+record-requires c κs = c .before .loop .inv .stands
 
 enum-known-read : tie.Need-enum-known-read Inv-loop μ-loop
 enum-known-read c = search needs
@@ -40,7 +31,9 @@ loop-less : tie.Need-loop-less Inv-loop μ-loop
 loop-less c = search needs
 
 loop-again : tie.Need-loop-again Inv-loop μ-loop
-loop-again c = going-more (c .before .before .before .before .before .loop .inv) _ _ _ _ (c .before .before .before .before .loop-test .taken) (a-record (c .before))
+loop-again c =
+    going-more (c .before .before .before .before .before .loop .inv) (c .before .before .before .«record» .ensures) (c .before .before .before .before .loop-test .taken)
+    (c .before .read .given .1)
 
 enum-told : tie.Need-enum-told Inv-loop μ-loop
 enum-told c = search needs
@@ -50,8 +43,10 @@ opened-requires c κs = search needs
 
 returns : tie.Need-returns Inv-loop μ-loop
 returns c =
-    let e = sym (c .before .before .before .«record» .ensures .is) ∙ c .before .enum-told .given .1 in
-    all-taken _ _ _ _ (c .opened .ensures ∙ going-ended (c .before .before .before .before .before .loop .inv) (c .before .before .before .before .loop-test .taken) e)
+    all-taken _ _ _ _
+    (c .opened .ensures
+    ∙ going-ended (c .before .before .before .before .before .loop .inv) (c .before .before .before .«record» .ensures) (c .before .before .before .before .loop-test .taken)
+    (c .before .enum-told .given .1))
 
 opened-requires-2 : tie.Need-opened-requires-2 Inv-loop μ-loop
 opened-requires-2 c κs = search needs

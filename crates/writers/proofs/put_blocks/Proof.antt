@@ -6,7 +6,7 @@ use Rattle.walks.specs.Promise.{bytesLeft}
 use Rattle.walks.proofs.PromiseLaws.{inside, ended}
 use Rattle.tasks.specs.Promise.{lengthOf}
 use Rattle.writers.specs.Promise.{Headed, BlocksPut}
-use Rattle.writers.proofs.OffsetLaws.{form-same, turn, few-blocks, limit-small, width-small, record-small, record-ends, record-long, record-few, place-small}
+use Rattle.writers.proofs.OffsetLaws.{form-same, sound, stands, turn, few-blocks, limit-small, width-small, record-small, record-ends, record-long, record-few, place-small}
 use Rattle.writers.proofs.LayingLaws.{Laying, laying-start, laying-length, laying-word, laying-end, laying-writable, laying-fits, laying-next}
 use Rattle.writers.proofs.put_blocks.Statement.{statement}
 use Rattle.writers.proofs.put_blocks.Tie as tie
@@ -28,7 +28,7 @@ form-of-requires : tie.Need-form-of-requires Inv-loop μ-loop
 form-of-requires c κs = search needs
 
 taken-requires : tie.Need-taken-requires Inv-loop μ-loop
-taken-requires c κs = search needs
+taken-requires c κs = sound (c .before .before .before .before .pre .lent .ready) (c .form-of .ensures)
 
 first-place-requires : tie.Need-first-place-requires Inv-loop μ-loop
 first-place-requires c κs = (limit-small (c .before .before .before .before .before .pre .lent .ready), few-blocks (c .before .before .before .before .before .pre .lent .ready))
@@ -37,7 +37,9 @@ loop-holds : tie.Need-loop-holds Inv-loop μ-loop
 loop-holds c = λ y. laying-start y (c .before .before .form-of .ensures) (c .before .taken .ensures) (c .first-place .ensures)
 
 record-requires : tie.Need-record-requires Inv-loop μ-loop
-record-requires c κs = search needs
+record-requires c κs =
+    let y = c .before .before .before .before .before .before .before .pre in
+    stands (y .lent .ready) (c .before .before .before .form-of .ensures) (c .loop .inv y .going)
 
 enum-known-read : tie.Need-enum-known-read Inv-loop μ-loop
 enum-known-read c = search needs

@@ -7,7 +7,7 @@ use Rattle.walks.specs.Promise.{bytesLeft}
 use Rattle.walks.proofs.PromiseLaws.{inside, ended}
 use Rattle.writers.specs.Promise.{Ready, OffsetsPut}
 use Rattle.writers.proofs.Sending.{sent-length}
-use Rattle.writers.proofs.OffsetLaws.{form-same, turn, Heading, heading-start, heading-next, heading-end, few-blocks, limit-small, width-small, record-small, place-small, word-small}
+use Rattle.writers.proofs.OffsetLaws.{form-same, sound, stands, turn, Heading, heading-start, heading-next, heading-end, few-blocks, limit-small, width-small, record-small, place-small, word-small}
 use Rattle.writers.proofs.put_offsets.Statement.{statement}
 use Rattle.writers.proofs.put_offsets.Tie as tie
 use Rattle.writers.proofs.put_offsets.Reads as reads
@@ -29,7 +29,7 @@ form-of-requires : tie.Need-form-of-requires Inv-loop μ-loop
 form-of-requires c κs = search needs
 
 taken-requires : tie.Need-taken-requires Inv-loop μ-loop
-taken-requires c κs = search needs
+taken-requires c κs = sound (c .before .before .before .pre) (c .form-of .ensures)
 
 first-place-requires : tie.Need-first-place-requires Inv-loop μ-loop
 first-place-requires c κs = (limit-small (c .before .before .before .before .pre), few-blocks (c .before .before .before .before .pre))
@@ -38,7 +38,7 @@ loop-holds : tie.Need-loop-holds Inv-loop μ-loop
 loop-holds c = λ ready. heading-start ready _ (omega arith) (c .before .before .form-of .ensures) (c .before .taken .ensures) (c .first-place .ensures)
 
 record-requires : tie.Need-record-requires Inv-loop μ-loop
-record-requires c κs = search needs
+record-requires c κs = let ready = c .before .before .before .before .before .before .pre in stands ready (c .before .before .before .form-of .ensures) (c .loop .inv ready .going)
 
 enum-known-read : tie.Need-enum-known-read Inv-loop μ-loop
 enum-known-read c = search needs

@@ -1,50 +1,44 @@
--- `reel::lengths` is safe and ends: a count of turns falls, though the walk ends by itself.
-use native.Mathlib.Omega.{arith}
+-- `reel::lengths` is safe and ends: fewer blocks are left at each turn.
+use Prim.Native.Nat.{_-_}
 use borrow.Author.Needs.{needs}
 use Rattle.answers.proofs.reel.lengths.Statement.{statement}
 use Rattle.answers.proofs.reel.lengths.Tie as tie
 
 abbrev Inv-loop : tie.InvT-loop
-Inv-loop form reel w₀ left₀ t8 w left = Unit {0}
+Inv-loop form reel blocks i₀ i = Unit {0}
 
 abbrev μ-loop : tie.MeasureT-loop
-μ-loop form reel w₀ left₀ t8 w left = left
-
-begin-requires : tie.Need-begin-requires Inv-loop μ-loop
-begin-requires c κs = tt
+μ-loop form reel blocks i₀ i = blocks - i
 
 loop-holds : tie.Need-loop-holds Inv-loop μ-loop
 loop-holds c = tt
 
-record-requires : tie.Need-record-requires Inv-loop μ-loop
-record-requires c κs = tt
+block-requires : tie.Need-block-requires Inv-loop μ-loop
+block-requires c κs = search needs
 
-enum-known-read : tie.Need-enum-known-read Inv-loop μ-loop
-enum-known-read c = search needs
+start-requires : tie.Need-start-requires Inv-loop μ-loop
+start-requires c κs = search needs
 
-slice-aggregate-words : tie.Need-slice-aggregate-words Inv-loop μ-loop
-slice-aggregate-words c = search needs
+enum-known-start : tie.Need-enum-known-start Inv-loop μ-loop
+enum-known-start c = search needs
 
-words-requires : tie.Need-words-requires Inv-loop μ-loop
-words-requires c κs = tt
-
-number-requires : tie.Need-number-requires Inv-loop μ-loop
-number-requires c κs = tt
-
-sub-left : tie.Need-sub-left Inv-loop μ-loop
-sub-left c = omega arith
-
-loop-less : tie.Need-loop-less Inv-loop μ-loop
-loop-less c = omega arith
-
-loop-again : tie.Need-loop-again Inv-loop μ-loop
-loop-again c = tt
+lengths-from-requires : tie.Need-lengths-from-requires Inv-loop μ-loop
+lengths-from-requires c κs = search needs
 
 enum-told : tie.Need-enum-told Inv-loop μ-loop
 enum-told c = search needs
 
 returns : tie.Need-returns Inv-loop μ-loop
 returns c = tt
+
+add-i : tie.Need-add-i Inv-loop μ-loop
+add-i c = search needs
+
+loop-less : tie.Need-loop-less Inv-loop μ-loop
+loop-less c = search needs
+
+loop-again : tie.Need-loop-again Inv-loop μ-loop
+loop-again c = tt
 
 returns-2 : tie.Need-returns-2 Inv-loop μ-loop
 returns-2 c = tt
@@ -55,16 +49,14 @@ lengths-spec =
     (tie.spec
     Inv-loop
     μ-loop
-    begin-requires
     loop-holds
-    record-requires
-    enum-known-read
-    slice-aggregate-words
-    words-requires
-    number-requires
-    sub-left
-    loop-less
-    loop-again
+    block-requires
+    start-requires
+    enum-known-start
+    lengths-from-requires
     enum-told
     returns
+    add-i
+    loop-less
+    loop-again
     returns-2)
