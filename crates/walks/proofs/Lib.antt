@@ -1,7 +1,7 @@
 pub mod MarksLaws
 pub mod PlaceLaws
+pub mod StandsLaws
 pub mod WalkLaws
 pub mod AnswerLaws
-pub mod StandingLaws
 pub mod SizesLaws
 pub mod PromiseLaws

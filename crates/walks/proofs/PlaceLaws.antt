@@ -1,22 +1,26 @@
--- The blocks of a reel as they are lent: a part that is not empty lies in the list between its two offsets, behind the last block there is none, and
--- the data of a piece of a part is a part of the reel. By the tests of the two words.
+-- The blocks of a reel: a part that is not empty lies in the list between its two offsets, behind the last block there is none, and the data of a piece
+-- of a part, and its word, are parts of the reel. By the tests of the two words.
 use mathlib.Core.Path.{_≡_, refl, ap, sym, _∙_}
 use mathlib.Core.Bool.{Bool, true, false}
 use mathlib.Core.List.{List}
 use Prim.Native.Nat.{ℕ, suc, _+_, _-_, _*_, _≤_, _<_}
 use native.Mathlib.Omega.{arith}
 use lib.Dec.{leb}
-use lib.ListN.{length, take, drop}
-use lib.Seq.{slice, length-slice, take-take, drop-drop}
+use lib.ListN.{length, take, drop, getD, length-drop}
+use lib.Seq.{slice, length-slice, take-take, drop-drop, getD-take, getD-drop}
 use borrow.Author.Tests.{leb-true, leb-false}
+use Rattle.rules.specs.Grammar.{Format, ff, fv, fu}
 use Rattle.rules.specs.Reel.{blockCount, isReel}
 use Rattle.rules.specs.Blocks.{Piece, dataOf}
+use Rattle.rules.specs.Output.{cost}
 use Rattle.rules.proofs.HeaderSteps.{offsetAt, next-at}
 use Rattle.rules.proofs.ReelSteps.{offset-last}
 use Rattle.rules.proofs.PieceLaws.{slice-taken}
-use Rattle.rules.proofs.BlockSteps.{behind, data-slice}
+use Rattle.rules.proofs.BlockWords.{headed-exactly, wordLength-at}
+use Rattle.rules.proofs.BlockSteps.{pieceFrom, goodFrom, behind, data-slice}
 use Rattle.reels.specs.Header.{partAt}
 use Rattle.reels.proofs.HeaderLaws.{part-there, words-missing, part-outside}
+use Rattle.walks.specs.Walking.{endIn}
 
 -- a part that is not empty: both its words are there, and it lies between its offsets
 pub record Part (s : List ℕ) (i : ℕ) : Type 0 where
@@ -63,3 +67,23 @@ data-place s b a e x is m l =
     ∙ sym (data-slice (drop a s) x)
     ∙ ap (take k) (drop-drop n a s)
     ∙ data-slice s y
+
+-- the bytes of a part are those of the reel
+byte-there : (s b : List ℕ) (a e j : ℕ) → b ≡ slice a e s → a + length b ≡ e → e ≤ length s → j < length b → getD b j 0 ≡ getD s (a + j) 0
+byte-there s b a e j is ends most l =
+    ap (λ (z : List ℕ). getD z j 0) (is ∙ slice-taken a e s (omega arith) most)
+    ∙ getD-take (e - a) (drop a s) j 0 (omega arith)
+    ∙ getD-drop a s j 0
+
+-- a good piece: where its data begins, and where it ends
+module _ (n : ℕ) (s b : List ℕ) (a e i : ℕ) (is : b ≡ slice a e s) (ends : a + length b ≡ e) (most : e ≤ length s) (l : i < length b) where
+  pub piece-ends : (f : Format) → goodFrom f n b i ≡ true → (i + cost f ≡ pieceFrom f n b i .place) × (endIn f n s (a + i) e ≡ a + behind (pieceFrom f n b i))
+  piece-ends ff g = (omega arith, omega arith)
+  piece-ends fv g =
+      let w = headed-exactly 5 (drop i b) .0 g in
+      let d = length-drop i b in
+      let z = byte-there s b a e i is ends most l in
+      let y = byte-there s b a e (i + 1) is ends most (omega (arith, w .least, w .most)) in
+      let v : getD s (a + i + 1) 0 ≡ getD s (a + (i + 1)) 0 = ap (λ (k : ℕ). getD s k 0) (let k : a + i + 1 ≡ a + (i + 1) = omega arith in k) in
+      (refl, omega (arith, w .least, wordLength-at b i, z, y, v))
+  piece-ends fu g = (omega arith, omega arith)

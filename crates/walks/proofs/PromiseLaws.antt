@@ -52,8 +52,8 @@ module _ {form : Form} {s : List ℕ} {w : Walk} {r : RecordRead} (x : Told form
 -- ---- one outcome only
 
 module _ (form : Form) where
-  pub begin-only-one : {x y : Walk} → Begun form x → Begun form y → x ≡ y
-  begin-only-one a b = a .is ∙ sym (b .is)
+  pub begin-only-one : (s : List ℕ) {x y : Walk} → Begun form s x → Begun form s y → x ≡ y
+  begin-only-one s a b = a .is ∙ sym (b .is)
 
   pub record-only-one : (s : List ℕ) (w : Walk) {x y : RecordRead} → Told form s w x → Told form s w y → x ≡ y
   record-only-one s w a b = a .is ∙ sym (b .is)

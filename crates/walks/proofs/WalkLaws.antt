@@ -1,213 +1,252 @@
--- A walk over a good reel: it begins before all records, each answer is the first of those that are left, and the walk behind it stands before the others.
--- By the steps of the pieces of a block; at a block's end by the first place of the next block, and behind the last block nothing is left.
-use mathlib.Core.Path.{_≡_, refl, ap, ap₂, sym, _∙_, subst}
+-- A walk over a good reel: it leads to a place before all records, each answer is the first of those that are left, and the walk behind it leads to the place
+-- before the others. By the steps of the places; what is read lies in the reel.
+use mathlib.Core.Path.{_≡_, refl, ap, ap₂, sym, _∙_, subst, subst₂}
 use mathlib.Core.Bool.{Bool, true, false}
-use mathlib.Core.List.{List, [], _∷_, _++_}
-use mathlib.Core.Option.{some}
-use Prim.Native.Nat.{ℕ, zero, suc, _+_, _-_, _≤_, _<_}
+use mathlib.Core.List.{List, _∷_, _++_}
+use Prim.Native.Nat.{ℕ, zero, suc, _+_, _-_, _*_, _≤_, _<_}
 use native.Mathlib.Numerals.{add-one}
 use native.Mathlib.Omega.{arith}
 use lib.Dec.{ltb, leb}
-use lib.ListN.{length, drop, drop-of-length-le}
-use borrow.Author.Tests.{lt-ltb, ltb-true, ltb-false, lt-leb, leb-true, leb-false}
-use Rattle.rules.specs.Answer.{fine}
+use lib.ListN.{length, drop}
+use borrow.Author.Tests.{lt-ltb, le-ltb, ltb-true, ltb-false, lt-leb, le-leb}
 use Rattle.rules.specs.Plan.{Plan, recordLength}
-use Rattle.rules.specs.Accepted.{Accepted}
-use Rattle.rules.specs.Reel.{blockCount, isReel, blocksOf}
-use Rattle.rules.specs.Blocks.{recordsFrom, takenFrom}
+use Rattle.rules.specs.Reel.{blockCount, isReel}
+use Rattle.rules.specs.Blocks.{Piece, takenFrom}
 use Rattle.rules.specs.Output.{cost}
-use Rattle.rules.proofs.ReelLaws.{length-blocks}
-use Rattle.rules.proofs.HeaderSteps.{offsetAt}
+use Rattle.rules.proofs.HeaderSteps.{offsetAt, next-at}
+use Rattle.rules.proofs.ReelSteps.{offset-rises, offset-last, offset-most}
 use Rattle.rules.proofs.BlockSteps.{behind, good-inside}
-use Rattle.rules.proofs.RecordSteps.{recordsAt, pieceOf as pieceIs, Next, fixed-pos, records-end, records-next, records-done}
-use Rattle.rules.proofs.MarkedLaws.{first-block, no-more-blocks}
+use Rattle.rules.proofs.RecordSteps.{pieceOf, Next, fixed-pos, records-next}
 use Rattle.terms.specs.Meaning.{formatOf}
 use Rattle.reels.specs.declared.Form.{Form}
-use Rattle.reels.specs.declared.PieceRead.{PieceRead}
-use Rattle.reels.specs.declared.PieceRead.the-variants.{Piece, End as NoPiece, Bad}
 use Rattle.reels.specs.Form.{FormIs}
 use Rattle.reels.specs.Header.{partAt}
-use Rattle.reels.specs.Pieces.{found, pieceIn, pieceOf}
-use Rattle.reels.proofs.HeaderLaws.{part-step}
-use Rattle.reels.proofs.PiecesLaws.{piece-end, further, piece-further}
 use Rattle.walks.specs.declared.Walk.{Walk}
 use Rattle.walks.specs.declared.RecordRead.{RecordRead}
 use Rattle.walks.specs.declared.RecordRead.the-variants.{Record, End}
 use Rattle.walks.specs.Marks.{marked, markedAll, opened, takenMarks}
-use Rattle.walks.specs.Walking.{blockStart, behindOf, recordAs, recordOf, openedWalk, onRecord, onwards, takenOf}
-use Rattle.walks.specs.Promise.{Good, Walks, Says, bytesLeft, Lies}
+use Rattle.walks.specs.Walking.{Starting, blockStart, firstWalk, behindOf, endIn, recordOf, openedWalk, onRecord, onwards, takenOf, Place, blockPlace, behindPlace, walkOf}
+use Rattle.walks.specs.Promise.{Good, Stands, Walks, Says, Passed, bytesLeft, Inside, Lies}
 use Rattle.walks.proofs.MarksLaws.{opened-marked, taken-marks}
-use Rattle.walks.proofs.PlaceLaws.{Part, part-inside, no-part, data-place}
+use Rattle.walks.proofs.PlaceLaws.{Part, part-inside, data-place, piece-ends}
+use Rattle.walks.proofs.StandsLaws.{stands-block, stands-all, stands-next, nothing-left}
 
--- ---- before the first record of a block
+-- ---- the walk to a place
 
-module _ (form : Form) (p : Plan) (f : FormIs form p) (ok : Accepted p) (s : List ℕ) (e : isReel s ≡ true) where
-  pub walks-block : (i : ℕ) → i ≤ blockCount s → (recs : List (List (List ℕ))) → recordsFrom p (suc i) (drop i (blocksOf s)) ≡ fine recs
-      → Walks p s (blockStart form i) (markedAll recs)
-  walks-block i l recs d = go (ltb i (blockCount s)) refl
+walk-in : (s : List ℕ) (v : Place) → v .block < blockCount s
+    → walkOf s v ≡ record { word = 4 * v .block + 8; at = offsetAt s (v .block) + v .at; end = offsetAt s (suc (v .block)); begins = v .begins }
+unfolding walkOf
+walk-in s v l = rw (lt-ltb (v .block) (blockCount s) l)
+
+walk-past : (s : List ℕ) (v : Place) → blockCount s ≤ v .block → walkOf s v ≡ record { word = 4 * v .block + 8; at = length s; end = length s; begins = v .begins }
+unfolding walkOf
+walk-past s v l = rw (le-ltb (v .block) (blockCount s) l)
+
+opened-walk : (s : List ℕ) (v : Place) → openedWalk (walkOf s v) ≡ walkOf s (record { block = v .block; at = v .at; begins = true })
+unfolding walkOf
+opened-walk s v = go (ltb (v .block) (blockCount s)) refl
+  where
+    go : (t : Bool) → ltb (v .block) (blockCount s) ≡ t → openedWalk (walkOf s v) ≡ walkOf s (record { block = v .block; at = v .at; begins = true })
+    go true t = rw t
+    go false t = rw t
+
+module _ (form : Form) (s : List ℕ) (e : isReel s ≡ true) where
+  -- a block that does not start at the reel's end
+  pub starts-in : (j : ℕ) → j ≤ blockCount s → offsetAt s j < length s → j < blockCount s
+  starts-in j m l = go (ltb j (blockCount s)) refl
     where
-      first : cost (formatOf (form .format)) ≡ cost (p .format)
-      first = ap cost (f .format)
-
-      go : (t : Bool) → ltb i (blockCount s) ≡ t → Walks p s (blockStart form i) (markedAll recs)
-      go true t =
-          let m = ltb-true i (blockCount s) t in
-          let w = first-block p ok (suc i) (partAt s i) (drop (suc i) (blocksOf s)) recs (ap (recordsFrom p (suc i)) (sym (part-step s i e m)) ∙ d) in
-          record {
-            accepted = ok;
-            reel = e;
-            most = l;
-            inside = λ _. rw first (w .begins .inside);
-            here = w .here;
-            left = rw first (w .begins .left);
-            later = w .later;
-            behind = w .behind;
-            is = ap markedAll (w .is);
-          }
+      go : (t : Bool) → ltb j (blockCount s) ≡ t → j < blockCount s
+      go true t = ltb-true j (blockCount s) t
       go false t =
-          let m = ltb-false i (blockCount s) t in
-          let z : i ≡ blockCount s = omega arith in
-          let n : length (partAt s i) ≤ 0 = rw z (no-part s e) in
-          let none : drop i (blocksOf s) ≡ [] = drop-of-length-le (blocksOf s) {i = i} (omega (arith, length-blocks s e)) in
-          let past : drop (suc i) (blocksOf s) ≡ [] = drop-of-length-le (blocksOf s) {i = suc i} (omega (arith, length-blocks s e)) in
-          record {
-            accepted = ok;
-            reel = e;
-            most = l;
-            inside = λ h. absurd (omega arith);
-            here = [];
-            left = records-end p (partAt s i) (cost (formatOf (form .format))) (omega arith);
-            later = [];
-            behind = ap (recordsFrom p (suc (suc i))) past;
-            is = ap markedAll (no-more-blocks p (suc i) recs (ap (recordsFrom p (suc i)) (sym none) ∙ d));
-          }
+          let z : j ≡ blockCount s = omega (arith, ltb-false j (blockCount s) t) in
+          absurd (omega (arith, offset-last s e, ap (offsetAt s) z))
 
-pub walks-all : (form : Form) (p : Plan) (s : List ℕ) (recs : List (List (List ℕ))) → FormIs form p → Good p s recs → Walks p s (blockStart form 0) (markedAll recs)
-walks-all form p s recs f g = walks-block form p f (g .accepted) s (g .reel) 0 (omega arith) recs (g .records)
+  -- to the first record of a block
+  pub start-walk : (j : ℕ) → j ≤ blockCount s → blockStart form s (4 * j + 8) (offsetAt s j) ≡ walkOf s (blockPlace form j)
+  unfolding blockStart walkOf
+  start-walk j m = go (ltb j (blockCount s)) refl
+    where
+      go : (t : Bool) → ltb j (blockCount s) ≡ t → blockStart form s (4 * j + 8) (offsetAt s j) ≡ walkOf s (blockPlace form j)
+      go true t =
+          let l = ltb-true j (blockCount s) t in
+          rw (t, lt-leb (length s) (offsetAt s j) (omega (arith, offset-rises s e j l, offset-most s e (suc j) l)), next-at s j)
+      go false t =
+          let z : j ≡ blockCount s = omega (arith, ltb-false j (blockCount s) t) in
+          let n : offsetAt s j ≡ length s = ap (offsetAt s) z ∙ offset-last s e in
+          rw (t, n, le-leb (length s) (length s) (omega arith))
 
 -- ---- the record that a walk stands before
 
--- what the pieces say, in the words of the plan
-pub piece-is : (form : Form) (p : Plan) → FormIs form p → (b : List ℕ) (i : ℕ) → pieceOf form b i ≡ pieceIn (p .format) (recordLength (p .input)) b i
-piece-is form p f b i = ap₂ (λ x n. pieceIn x n b i) (f .format) (f .n)
+record-is : (form : Form) (s : List ℕ) (w : Walk) (to start size : ℕ) (next : Walk) → w .at < length s → endIn (formatOf (form .format)) (form .n) s (w .at) (w .end) ≡ to
+    → w .at + cost (formatOf (form .format)) ≡ start → to - (w .at + cost (formatOf (form .format))) ≡ size → behindOf form s w to ≡ next
+    → recordOf form s w ≡ Record start size (w .begins) next
+unfolding recordOf
+record-is form s w to start size next l e b n d = rw (lt-leb (length s) (w .at) l, e, n, b, d)
 
--- a good piece is found
-pub piece-found : (p : Plan) → Accepted p → (b : List ℕ) (i : ℕ) (rs : List (List ℕ)) → i < length b → Next p b i rs
-    → pieceIn (p .format) (recordLength (p .input)) b i ≡ found (pieceIs p b i)
-unfolding pieceIn
-piece-found p ok b i rs l x =
-    let w = good-inside (p .format) (recordLength (p .input)) b i (fixed-pos p ok) l (x .good) in
-    rw (lt-leb (length b) i l, x .good, lt-ltb i (behind (pieceIs p b i)) (w .1))
+-- behind a record no walk goes back
+behind-far : (form : Form) (s : List ℕ) (w : Walk) (at : ℕ) → at ≤ behindOf form s w at .at
+unfolding behindOf blockStart
+behind-far form s w at = go (ltb at (w .end)) refl (leb (length s) at) refl
+  where
+    go : (t : Bool) → ltb at (w .end) ≡ t → (u : Bool) → leb (length s) at ≡ u → at ≤ behindOf form s w at .at
+    go true t u z = rw t (omega arith)
+    go false t true z = rw (t, z) (omega arith)
+    go false t false z = rw (t, z) (omega arith)
+
+-- what is read of the reel where a record is: it lies in the reel, and so does what is read to go on
+pub record Reads (form : Form) (s : List ℕ) (w : Walk) : Type 0 where
+  pub starts : w .at + cost (formatOf (form .format)) ≤ endIn (formatOf (form .format)) (form .n) s (w .at) (w .end)
+  pub ends : endIn (formatOf (form .format)) (form .n) s (w .at) (w .end) ≤ length s
+  pub word : w .word ≤ length s
+  pub next : w .end ≤ endIn (formatOf (form .format)) (form .n) s (w .at) (w .end) → Starting form s (w .word + 4) (endIn (formatOf (form .format)) (form .n) s (w .at) (w .end))
+
+pub starting : (form : Form) (p : Plan) (s : List ℕ) (j : ℕ) (rest : List (Bool × List ℕ)) → Stands p s (blockPlace form j) rest → Starting form s (4 * j + 8) (offsetAt s j)
+starting form p s j rest k h =
+    let i = k .inside (starts-in form s (k .reel) j (k .most) h) in
+    let q = part-inside s j (omega arith) in
+    (omega (arith, q .words), omega (arith, q .ends, q .most))
+
+module _ (form : Form) (p : Plan) (s : List ℕ) (v : Place) (rest : List (Bool × List ℕ)) (f : FormIs form p) (k : Stands p s v rest) where
+  module _ (l : v .block < blockCount s) where
+    abbrev b : List ℕ
+    b = partAt s (v .block)
+
+    abbrev a : ℕ
+    a = offsetAt s (v .block)
+
+    abbrev end : ℕ
+    end = offsetAt s (suc (v .block))
+
+    abbrev y : Piece
+    y = pieceOf p b (v .at)
+
+    part : Part s (v .block)
+    part = part-inside s (v .block) (omega (arith, k .inside l))
+
+    here : Next p b (v .at) (k .here)
+    here = records-next p (k .accepted) b (v .at) (k .here) (k .inside l) (k .left)
+
+    -- the piece lies in its block
+    lies : (v .at ≤ y .place) × (v .at < behind y) × (behind y ≤ length b)
+    lies = good-inside (p .format) (recordLength (p .input)) b (v .at) (fixed-pos p (k .accepted)) (k .inside l) (here .good)
+
+    -- where its data begins, and where it ends
+    ends : (v .at + cost (formatOf (form .format)) ≡ y .place) × (endIn (formatOf (form .format)) (form .n) s (a + v .at) end ≡ a + behind y)
+    ends =
+        let g = piece-ends (recordLength (p .input)) s b a end (v .at) (part .is) (part .ends) (part .most) (k .inside l) (p .format) (here .good) in
+        (ap (λ z. v .at + cost z) (f .format) ∙ g .0, ap₂ (λ z n. endIn z n s (a + v .at) end) (f .format) (f .n) ∙ g .1)
+
+    abbrev next : Place
+    next = behindPlace form (v .block) (behind y) (length b)
+
+    -- the walk behind it
+    behind-walk : behindOf form s (walkOf s v) (a + behind y) ≡ walkOf s next
+    unfolding behindOf behindPlace
+    behind-walk = rw (walk-in s v l) (go (ltb (behind y) (length b)) refl)
+      where
+        go : (t : Bool) → ltb (behind y) (length b) ≡ t
+            → behindOf form s (record { word = 4 * v .block + 8; at = a + v .at; end = end; begins = v .begins }) (a + behind y) ≡ walkOf s next
+        go true t =
+            let m = ltb-true (behind y) (length b) t in
+            rw (t, lt-ltb (a + behind y) end (omega (arith, part .ends))) (sym (walk-in s (record { block = v .block; at = behind y; begins = false }) l))
+        go false t =
+            let m = ltb-false (behind y) (length b) t in
+            let z : a + behind y ≡ end = omega (arith, part .ends, lies) in
+            let w : 4 * v .block + 8 + 4 ≡ 4 * suc (v .block) + 8 = omega arith in
+            rw (t, z, le-ltb end end (omega arith), w, add-one (v .block)) (start-walk form s (k .reel) (suc (v .block)) l)
+
+    -- the numbers of the walk
+    pub at-is : walkOf s v .at ≡ a + v .at
+    at-is = ap (λ (w : Walk). w .at) (walk-in s v l)
+
+    pub end-is : walkOf s v .end ≡ end
+    end-is = ap (λ (w : Walk). w .end) (walk-in s v l)
+
+    pub word-is : walkOf s v .word ≡ 4 * v .block + 8
+    word-is = ap (λ (w : Walk). w .word) (walk-in s v l)
+
+    pub to-is : endIn (formatOf (form .format)) (form .n) s (walkOf s v .at) (walkOf s v .end) ≡ a + behind y
+    to-is = ap₂ (λ (i j : ℕ). endIn (formatOf (form .format)) (form .n) s i j) at-is end-is ∙ ends .1
+
+    -- what is answered
+    step : recordOf form s (walkOf s v) ≡ Record (a + y .place) (y .size) (v .begins) (walkOf s next)
+    step =
+        record-is form s (walkOf s v) (a + behind y) (a + y .place) (y .size) (walkOf s next) (omega (arith, at-is, k .inside l, part .ends, part .most)) to-is
+        (omega (arith, at-is, ends .0)) (omega (arith, at-is, ends .0)) behind-walk
+        ∙ ap (λ (t : Bool). Record (a + y .place) (y .size) t (walkOf s next)) (ap (λ (w : Walk). w .begins) (walk-in s v l))
+
+    next-far : a + behind y ≤ walkOf s next .at
+    next-far = subst (λ (z : Walk). a + behind y ≤ z .at) behind-walk (behind-far form s (walkOf s v) (a + behind y))
+
+    passes : Passed p s rest (a + y .place) (y .size) (v .begins) (walkOf s next)
+    passes =
+        record {
+          more = marked false (here .more) ++ markedAll (k .later);
+          is =
+              k .is
+              ∙ ap (λ rs. marked (v .begins) rs ++ markedAll (k .later)) (here .is)
+              ∙ ap (λ r. (v .begins, r) ∷ (marked false (here .more) ++ markedAll (k .later))) (data-place s b a end y (part .is) (part .most) (omega (arith, lies .2, part .ends)));
+          long = here .long;
+          walks = record { place = next; is = refl; stands = stands-next form p s v rest f k (behind y) l (here .more) (here .left) };
+        }
+
+    inside : Inside s (walkOf s v) (a + y .place) (y .size) (walkOf s next)
+    unfolding bytesLeft
+    inside =
+        record {
+          ends = omega (arith, lies .2, part .ends, part .most);
+          less = omega (arith, at-is, next-far, lies, part .ends, part .most);
+          fewer = omega (arith, at-is, next-far, lies, part .ends, part .most);
+        }
+
+    reads-in : Reads form s (walkOf s v)
+    reads-in =
+        record {
+          starts = omega (arith, at-is, to-is, ends .0);
+          ends = omega (arith, to-is, lies, part .ends, part .most);
+          word = omega (arith, word-is, part .words);
+          next = λ h.
+              let z : a + behind y ≡ end = omega (arith, to-is, end-is, lies, part .ends) in
+              let n : walkOf s v .word + 4 ≡ 4 * suc (v .block) + 8 = omega (arith, word-is) in
+              subst₂ (Starting form s) (sym n) (sym (to-is ∙ z))
+              (starting form p s (suc (v .block)) (markedAll (k .later)) (stands-block form p f (k .accepted) s (k .reel) (suc (v .block)) l (k .later) (k .behind)));
+        }
+
+  -- behind the last record
+  no-record : blockCount s ≤ v .block → recordOf form s (walkOf s v) ≡ End
+  unfolding recordOf
+  no-record m =
+      let z = ap (λ (w : Walk). w .at) (walk-past s v m) in
+      rw (le-leb (length s) (walkOf s v .at) (omega arith))
+
+  says-place : Says p s rest (recordOf form s (walkOf s v)) × Lies s (walkOf s v) (recordOf form s (walkOf s v))
+  says-place = go (ltb (v .block) (blockCount s)) refl
+    where
+      go : (t : Bool) → ltb (v .block) (blockCount s) ≡ t → Says p s rest (recordOf form s (walkOf s v)) × Lies s (walkOf s v) (recordOf form s (walkOf s v))
+      go true t = let l = ltb-true (v .block) (blockCount s) t in rw (step l) (passes l, inside l)
+      go false t = let m = ltb-false (v .block) (blockCount s) t in rw (no-record m) (nothing-left form p s v rest f k m, tt)
+
+  reads-place : walkOf s v .at < length s → Reads form s (walkOf s v)
+  reads-place h = go (ltb (v .block) (blockCount s)) refl
+    where
+      go : (t : Bool) → ltb (v .block) (blockCount s) ≡ t → Reads form s (walkOf s v)
+      go true t = reads-in (ltb-true (v .block) (blockCount s) t)
+      go false t = let z = ap (λ (w : Walk). w .at) (walk-past s v (ltb-false (v .block) (blockCount s) t)) in absurd (omega arith)
 
 module _ (form : Form) (p : Plan) (s : List ℕ) (w : Walk) (rest : List (Bool × List ℕ)) (f : FormIs form p) (k : Walks p s w rest) where
-  -- before a record the walk is in a block of the reel
-  in-block : w .at < length (partAt s (w .block)) → w .block < blockCount s
-  in-block l = go (ltb (w .block) (blockCount s)) refl
-    where
-      go : (t : Bool) → ltb (w .block) (blockCount s) ≡ t → w .block < blockCount s
-      go true t = ltb-true (w .block) (blockCount s) t
-      go false t =
-          let m = ltb-false (w .block) (blockCount s) t in
-          let z : w .block ≡ blockCount s = omega (arith, k .most) in
-          let n : length (partAt s (w .block)) ≤ 0 = rw z (no-part s (k .reel)) in
-          absurd (omega arith)
-
-  -- behind the record: in its block, or before the first record of the next one
-  walks-next : (i : ℕ) → (l : w .at < length (partAt s (w .block))) → (more : List (List ℕ)) → recordsAt p (partAt s (w .block)) i ≡ some more
-      → Walks p s (behindOf form (w .block) i (length (partAt s (w .block)))) (marked false more ++ markedAll (k .later))
-  unfolding behindOf
-  walks-next i l more e = go (ltb i (length (partAt s (w .block)))) refl
-    where
-      go : (t : Bool) → ltb i (length (partAt s (w .block))) ≡ t
-          → Walks p s (behindOf form (w .block) i (length (partAt s (w .block)))) (marked false more ++ markedAll (k .later))
-      go true t =
-          rw t
-          (record {
-            accepted = k .accepted;
-            reel = k .reel;
-            most = k .most;
-            inside = λ _. ltb-true i (length (partAt s (w .block))) t;
-            here = more;
-            left = e;
-            later = k .later;
-            behind = k .behind;
-            is = refl;
-          })
-      go false t =
-          let none : more ≡ [] = records-done p (partAt s (w .block)) i more (ltb-false i (length (partAt s (w .block))) t) e in
-          rw (t, none, add-one (w .block))
-          (walks-block form p f (k .accepted) s (k .reel) (suc (w .block)) (in-block l) (k .later) (k .behind))
-
-  nothing-left : length (partAt s (w .block)) ≤ w .at → rest ≡ []
-  nothing-left l = k .is ∙ ap₂ (λ rs recs. marked (w .begins) rs ++ markedAll recs) (records-done p (partAt s (w .block)) (w .at) (k .here) l (k .left)) (go (ltb (w .block) (blockCount s)) refl)
-    where
-      go : (t : Bool) → ltb (w .block) (blockCount s) ≡ t → k .later ≡ []
-      go true t = let m = k .inside (ltb-true (w .block) (blockCount s) t) in absurd (omega arith)
-      go false t =
-          let m = ltb-false (w .block) (blockCount s) t in
-          let past : drop (suc (w .block)) (blocksOf s) ≡ [] = drop-of-length-le (blocksOf s) {i = suc (w .block)} (omega (arith, length-blocks s (k .reel))) in
-          no-more-blocks p (suc (suc (w .block))) (k .later) (ap (recordsFrom p (suc (suc (w .block)))) (sym past) ∙ k .behind)
-
-  says-end : length (partAt s (w .block)) ≤ w .at → Says p s rest (recordOf form s w)
-  unfolding recordOf
-  says-end l = rw (sym (piece-end (formatOf (form .format)) (form .n) (partAt s (w .block)) (w .at) l)) (nothing-left l)
-
-  says-record : w .at < length (partAt s (w .block)) → Says p s rest (recordOf form s w)
-  unfolding recordOf
-  says-record l =
-      let x = records-next p (k .accepted) (partAt s (w .block)) (w .at) (k .here) l (k .left) in
-      let y = pieceIs p (partAt s (w .block)) (w .at) in
-      let q = part-inside s (w .block) (omega arith) in
-      let g = good-inside (p .format) (recordLength (p .input)) (partAt s (w .block)) (w .at) (fixed-pos p (k .accepted)) l (x .good) in
-      rw (piece-is form p f (partAt s (w .block)) (w .at) ∙ piece-found p (k .accepted) (partAt s (w .block)) (w .at) (k .here) l x)
-      (record {
-        more = marked false (x .more) ++ markedAll (k .later);
-        is =
-            k .is
-            ∙ ap (λ rs. marked (w .begins) rs ++ markedAll (k .later)) (x .is)
-            ∙ ap (λ r. (w .begins, r) ∷ (marked false (x .more) ++ markedAll (k .later)))
-            (data-place s (partAt s (w .block)) (offsetAt s (w .block)) (offsetAt s (suc (w .block))) y (q .is) (q .most) (omega (arith, g .2, q .ends)));
-        long = x .long;
-        walks = walks-next (behind y) l (x .more) (x .left);
-      })
+  pub reads-of : w .at < length s → Reads form s w
+  reads-of h = subst (Reads form s) (sym (k .is)) (reads-place form p s (k .place) rest f (k .stands) (subst (λ (z : Walk). z .at < length s) (k .is) h))
 
   pub says-of : Says p s rest (recordOf form s w)
-  says-of = go (leb (length (partAt s (w .block))) (w .at)) refl
-    where
-      go : (t : Bool) → leb (length (partAt s (w .block))) (w .at) ≡ t → Says p s rest (recordOf form s w)
-      go true t = says-end (leb-true (length (partAt s (w .block))) (w .at) t)
-      go false t = says-record (leb-false (length (partAt s (w .block))) (w .at) t)
-
--- ---- where the data lies, for every list and walk
-
-module _ (form : Form) (s : List ℕ) (w : Walk) where
-  lies-read : (r : PieceRead) → further (w .at) (length (partAt s (w .block))) r → Lies s w (recordAs form s w r)
-  unfolding behindOf bytesLeft
-  lies-read (Piece place size third next) g = record { ends = omega (arith, q .ends, q .most, g); less = go l refl .0; fewer = go l refl .1 }
-    where
-      l : Bool
-      l = ltb (next .at) (length (partAt s (w .block)))
-
-      q : Part s (w .block)
-      q = part-inside s (w .block) (omega (arith, g))
-
-      go : (t : Bool) → ltb (next .at) (length (partAt s (w .block))) ≡ t
-          → (bytesLeft s (behindOf form (w .block) (next .at) (length (partAt s (w .block)))) < bytesLeft s w)
-          × (bytesLeft s (behindOf form (w .block) (next .at) (length (partAt s (w .block)))) + size ≤ bytesLeft s w)
-      go true t = rw t (omega (arith, q .ends, q .most, g), omega (arith, q .ends, q .most, g))
-      go false t =
-          let m = ltb-false (next .at) (length (partAt s (w .block))) t in
-          rw (t, add-one (w .block)) (omega (arith, q .ends, q .most, g), omega (arith, q .ends, q .most, g))
-  lies-read NoPiece g = tt
-  lies-read Bad g = tt
+  says-of = subst (λ (z : Walk). Says p s rest (recordOf form s z)) (sym (k .is)) (says-place form p s (k .place) rest f (k .stands) .0)
 
   pub lies-of : Lies s w (recordOf form s w)
-  unfolding recordOf
-  lies-of = lies-read (pieceOf form (partAt s (w .block)) (w .at)) (piece-further (formatOf (form .format)) (form .n) (partAt s (w .block)) (w .at))
+  lies-of = subst (λ (z : Walk). Lies s z (recordOf form s z)) (sym (k .is)) (says-place form p s (k .place) rest f (k .stands) .1)
 
-pub left-most : (s : List ℕ) (w : Walk) → bytesLeft s w ≤ length s
-unfolding bytesLeft
-left-most s w = omega arith
+pub walks-all : (form : Form) (p : Plan) (s : List ℕ) (recs : List (List (List ℕ))) → FormIs form p → Good p s recs → Walks p s (firstWalk form s) (markedAll recs)
+unfolding firstWalk
+walks-all form p s recs f g =
+    record { place = blockPlace form 0; is = start-walk form s (g .reel) 0 (omega arith); stands = stands-all form p s recs f g }
 
 -- ---- the records that are taken
 
@@ -226,19 +265,23 @@ module _ (form : Form) (p : Plan) (s : List ℕ) (f : FormIs form p) where
   walks-opened : (w : Walk) (rest : List (Bool × List ℕ)) → Walks p s w rest → Walks p s (openedWalk w) (opened rest)
   walks-opened w rest x =
       record {
-        accepted = x .accepted;
-        reel = x .reel;
-        most = x .most;
-        inside = x .inside;
-        here = x .here;
-        left = x .left;
-        later = x .later;
-        behind = x .behind;
-        is = ap opened (x .is) ∙ opened-marked (w .begins) (x .here) (x .later);
+        place = record { block = x .place .block; at = x .place .at; begins = true };
+        is = ap openedWalk (x .is) ∙ opened-walk s (x .place);
+        stands = record {
+          accepted = x .stands .accepted;
+          reel = x .stands .reel;
+          most = x .stands .most;
+          inside = x .stands .inside;
+          here = x .stands .here;
+          left = x .stands .left;
+          later = x .stands .later;
+          behind = x .stands .behind;
+          is = ap opened (x .stands .is) ∙ opened-marked (x .place .begins) (x .stands .here) (x .stands .later);
+        };
       }
 
   pub walks-taken : (first : ℕ) (recs : List (List (List ℕ))) → Good p s recs → Walks p s (takenOf form s first) (markedAll (takenFrom first recs))
   unfolding takenOf takenMarks
   walks-taken first recs g =
       subst (Walks p s (takenOf form s first)) (taken-marks first recs)
-      (walks-opened _ _ (walks-onwards (first - 1) (blockStart form 0) (markedAll recs) (walks-all form p s recs f g)))
+      (walks-opened _ _ (walks-onwards (first - 1) (firstWalk form s) (markedAll recs) (walks-all form p s recs f g)))

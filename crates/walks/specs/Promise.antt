@@ -11,7 +11,6 @@ use Rattle.rules.specs.Plan.{Plan}
 use Rattle.rules.specs.Accepted.{Accepted}
 use Rattle.rules.specs.Reel.{blockCount, isReel, blocksOf}
 use Rattle.rules.specs.Blocks.{leastData, recordsFrom, takenFrom}
-use Rattle.rules.proofs.HeaderSteps.{offsetAt}
 use Rattle.rules.proofs.RecordSteps.{recordsAt}
 use Rattle.reels.specs.declared.Form.{Form}
 use Rattle.reels.specs.Form.{FormIs}
@@ -20,7 +19,7 @@ use Rattle.walks.specs.declared.Walk.{Walk}
 use Rattle.walks.specs.declared.RecordRead.{RecordRead}
 use Rattle.walks.specs.declared.RecordRead.the-variants.{Record, End}
 use Rattle.walks.specs.Marks.{marked, markedAll}
-use Rattle.walks.specs.Walking.{blockStart, recordOf, takenOf}
+use Rattle.walks.specs.Walking.{firstWalk, recordOf, takenOf, Place, walkOf}
 
 -- a reel whose blocks all obey their rule, by a plan that is accepted, and the records of each block
 pub record Good (p : Plan) (s : List ℕ) (recs : List (List (List ℕ))) : Type 0 where
@@ -28,18 +27,24 @@ pub record Good (p : Plan) (s : List ℕ) (recs : List (List (List ℕ))) : Type
   pub reel : isReel s ≡ true
   pub records : recordsFrom p 1 (blocksOf s) ≡ fine recs
 
--- the walk stands before the marked records `rest` of a good reel: before those left of its block, and then those of the blocks behind it
+-- a place before the marked records `rest` of a good reel: before those left of its block, and then those of the blocks behind it
 -- (and at no block's end, but the last's, so that one call finds the next record)
-pub record Walks (p : Plan) (s : List ℕ) (w : Walk) (rest : List (Bool × List ℕ)) : Type 0 where
+pub record Stands (p : Plan) (s : List ℕ) (v : Place) (rest : List (Bool × List ℕ)) : Type 0 where
   pub accepted : Accepted p
   pub reel : isReel s ≡ true
-  pub most : w .block ≤ blockCount s
-  pub inside : w .block < blockCount s → w .at < length (partAt s (w .block))
+  pub most : v .block ≤ blockCount s
+  pub inside : v .block < blockCount s → v .at < length (partAt s (v .block))
   pub here : List (List ℕ)
-  pub left : recordsAt p (partAt s (w .block)) (w .at) ≡ some here
+  pub left : recordsAt p (partAt s (v .block)) (v .at) ≡ some here
   pub later : List (List (List ℕ))
-  pub behind : recordsFrom p (suc (suc (w .block))) (drop (suc (w .block)) (blocksOf s)) ≡ fine later
-  pub is : rest ≡ marked (w .begins) here ++ markedAll later
+  pub behind : recordsFrom p (suc (suc (v .block))) (drop (suc (v .block)) (blocksOf s)) ≡ fine later
+  pub is : rest ≡ marked (v .begins) here ++ markedAll later
+
+-- the walk leads to such a place
+pub record Walks (p : Plan) (s : List ℕ) (w : Walk) (rest : List (Bool × List ℕ)) : Type 0 where
+  pub place : Place
+  pub is : w ≡ walkOf s place
+  pub stands : Stands p s place rest
 
 -- the reel is good by a plan that asks this of blocks, as it is where it was read
 pub record Sound (form : Form) (s : List ℕ) : Type 0 where
@@ -56,9 +61,9 @@ pub record Standing (form : Form) (s : List ℕ) (w : Walk) : Type 0 where
   pub walks : Walks p s w rest
 
 -- the walk to the first record: before all of them
-pub record Begun (form : Form) (w : Walk) : Type 0 where
-  pub is : w ≡ blockStart form 0
-  pub all : (p : Plan) (s : List ℕ) (recs : List (List (List ℕ))) → FormIs form p → Good p s recs → Walks p s w (markedAll recs)
+pub record Begun (form : Form) (s : List ℕ) (w : Walk) : Type 0 where
+  pub is : w ≡ firstWalk form s
+  pub all : (p : Plan) (recs : List (List (List ℕ))) → FormIs form p → Good p s recs → Walks p s w (markedAll recs)
 
 -- the record is the first of those that were left, and the walk goes on before the others
 pub record Passed (p : Plan) (s : List ℕ) (rest : List (Bool × List ℕ)) (start size : ℕ) (begins : Bool) (next : Walk) : Type 0 where
@@ -73,7 +78,7 @@ Says p s rest End = rest ≡ []
 
 -- the bytes of the reel from a walk on, by which a loop over a walk ends
 unfoldable pub bytesLeft : List ℕ → Walk → ℕ
-bytesLeft s w = length s - (offsetAt s (w .block) + w .at)
+bytesLeft s w = length s - w .at
 
 -- the data lies in the reel, and behind it less of the reel is left, at least by the data
 pub record Inside (s : List ℕ) (w : Walk) (start size : ℕ) (next : Walk) : Type 0 where
@@ -85,7 +90,7 @@ abbrev pub Lies : List ℕ → Walk → RecordRead → Type 0
 Lies s w (Record start size begins next) = Inside s w start size next
 Lies s w End = Unit
 
--- the answer for every list and walk, and where it lies; and where the walk stands before some records of a good reel, that it is the first of them
+-- the answer, and where it lies; and where the walk stands before some records of a good reel, that it is the first of them
 pub record Told (form : Form) (s : List ℕ) (w : Walk) (r : RecordRead) : Type 0 where
   pub is : r ≡ recordOf form s w
   pub lies : Lies s w r

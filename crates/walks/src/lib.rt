@@ -1,19 +1,21 @@
 // The records of a reel one after the other, through all its blocks: a walk that goes by value, so that a pass over the records is one loop.
-// Document 01, "Blocks and records".
+// Document 01, "Blocks and records". The header and the rule of each block were asked when the reel was read: nothing is asked again here.
 ghost use mathlib.Core.Path.{_≡_};
 ghost use Prim.Native.Nat.{_+_, _≤_, _<_};
 ghost use lib.ListN.{length};
 ghost use Rattle.rules.specs.Output.{cost};
 ghost use Rattle.terms.specs.Meaning.{formatOf};
-ghost use Rattle.walks.specs.Walking.{blockStart, behindOf, endIn, openedWalk};
-ghost use Rattle.walks.specs.Promise.{Begun, Sound, Standing, Told, Taken};
+ghost use Rattle.walks.specs.Walking.{Starting, blockStart, behindOf, endIn, openedWalk};
+ghost use Rattle.walks.specs.Promise.{Sound, Standing, Begun, Told, Taken};
 use reels::Form;
 use terms::Format;
 
-// A place before a record: the block, from 0, the place in it, and whether the record is the first of its block (or the first that is taken).
+// A place before a record of a reel: where the offset stands at which its block ends, the place itself, that end, and whether the record is the first of its
+// block (or the first that is taken).
 pub struct Walk {
-    pub block: usize,
+    pub word: usize,
     pub at: usize,
+    pub end: usize,
     pub begins: bool,
 }
 
@@ -28,7 +30,7 @@ pub enum RecordRead {
     End,
 }
 
-// Where the pieces of a block begin: in FV behind the block's word.
+// What stands before data, of a block or a record: in FV a word of 4 bytes.
 fn first_place(format: Format) -> usize
     ensures { λ r. ⌜ r ≡ cost (formatOf format) ⌝ }
 {
@@ -39,38 +41,56 @@ fn first_place(format: Format) -> usize
     }
 }
 
-// Before the first record of a block.
-fn block_start(form: Form, block: usize) -> Walk
-    ensures { λ r. ⌜ r ≡ blockStart form block ⌝ }
+// Before the first record of the block that starts at a place, or behind the last block.
+fn block_start(form: Form, s: &[u8], word: usize, from: usize) -> Walk
+    requires { ⌜ Starting form (now s) word from ⌝ }
+    ensures { λ r. ⌜ r ≡ blockStart form (now (s .entry)) word from ⌝ }
 {
+    let begins = true;
+    if from >= s.len() {
+        return Walk {
+            word,
+            at: from,
+            end: from,
+            begins,
+        };
+    }
     let format = form.format;
+    let at = from + first_place(format);
     Walk {
-        block,
-        at: first_place(format),
-        begins: true,
+        word,
+        at,
+        end: reels::word(s, word),
+        begins,
     }
 }
 
 // Before the first record of a reel.
-pub fn begin(form: Form) -> Walk
-    ensures { λ r. ⌜ Begun form r ⌝ }
+pub fn begin(form: Form, s: &[u8]) -> Walk
+    requires { ⌜ Sound form (now s) ⌝ }
+    ensures { λ r. ⌜ Begun form (now (s .entry)) r ⌝ }
 {
-    block_start(form, 0)
+    let from = reels::word(s, 4);
+    block_start(form, s, 8, from)
 }
 
-// Behind a record that ends at a place of a block of so many bytes: a block's end moves on to the next block, so that one call finds the next record.
-fn behind(form: Form, block: usize, at: usize, size: usize) -> Walk
-    requires { ⌜ block < 0x4000000000000000 ⌝ }
-    ensures { λ r. ⌜ r ≡ behindOf form block at size ⌝ }
+// Behind a record that ends at a place: a block's end moves on to the next block, so that one call finds the next record.
+fn behind(form: Form, s: &[u8], w: Walk, at: usize) -> Walk
+    requires { ⌜ w .word ≤ length (now s) ⌝ }
+    requires { ⌜ (w .end ≤ at → Starting form (now s) (w .word + 4) at) ⌝ }
+    ensures { λ r. ⌜ r ≡ behindOf form (now (s .entry)) w at ⌝ }
 {
-    if at < size {
+    let word = w.word;
+    let end = w.end;
+    if at < end {
         return Walk {
-            block,
+            word,
             at,
+            end,
             begins: false,
         };
     }
-    block_start(form, block + 1)
+    block_start(form, s, word + 4, at)
 }
 
 // A byte as a number.
@@ -80,7 +100,7 @@ fn wide(x: u8) -> usize
     x as usize
 }
 
-// Where the record at a place of the reel ends, in a block that ends at a place: in FV its word says so, which counts its own 4 bytes.
+// Where the record at a place ends, in a block that ends at a place: in FV its word says so, which counts its own 4 bytes.
 fn record_end(form: Form, s: &[u8], at: usize, end: usize) -> usize
     requires { ⌜ at + cost (formatOf (form .format)) ≤ length (now s) ⌝ }
     requires { ⌜ endIn (formatOf (form .format)) (form .n) (now s) at end ≤ length (now s) ⌝ }
@@ -94,26 +114,24 @@ fn record_end(form: Form, s: &[u8], at: usize, end: usize) -> usize
     }
 }
 
-// The record that a walk stands before, in constant time. The header and the rule of each block were asked when the reel was read: nothing is asked again.
+// The record that a walk stands before, in constant time.
 pub fn record(form: Form, s: &[u8], w: Walk) -> RecordRead
     requires { ⌜ Standing form (now s) w ⌝ }
     ensures { λ r. ⌜ Told form (now (s .entry)) w r ⌝ }
 {
-    let block = w.block;
-    if block >= reels::word(s, 0) {
+    let at = w.at;
+    if at >= s.len() {
         return RecordRead::End;
     }
-    let from = reels::word(s, 4 * block + 4);
-    let end = reels::word(s, 4 * block + 8);
-    let at = from + w.at;
     let format = form.format;
     let start = at + first_place(format);
-    let next = record_end(form, s, at, end);
+    let end = record_end(form, s, at, w.end);
+    let length = end - start;
     RecordRead::Record {
         start,
-        length: next - start,
+        length,
         begins: w.begins,
-        next: behind(form, block, next - from, end - from),
+        next: behind(form, s, w, end),
     }
 }
 
@@ -131,7 +149,7 @@ pub fn taken(form: Form, s: &[u8], first: usize) -> Walk
     requires { ⌜ Sound form (now s) ⌝ }
     ensures { λ r. ⌜ Taken form (now (s .entry)) first r ⌝ }
 {
-    let mut w = begin(form);
+    let mut w = begin(form, s);
     let mut number = 1;
     while number < first {
         let read = record(form, s, w);

@@ -1,14 +1,16 @@
 -- The walk is the one before the first record of the first block.
-use Rattle.walks.proofs.AnswerLaws.{begun}
-use borrow.Author.Needs.{needs}
+use Rattle.walks.proofs.AnswerLaws.{begun, first-there, first-starts, first-is}
 use Rattle.walks.proofs.begin.Statement.{statement}
 use Rattle.walks.proofs.begin.Tie as tie
 
+word-requires : tie.Need-word-requires
+word-requires c κs = first-there (c .before .pre)
+
 block-start-requires : tie.Need-block-start-requires
-block-start-requires c κs = search needs
+block-start-requires c κs = first-starts (c .before .before .pre) (c .word .result) (c .word .ensures .0)
 
 returns : tie.Need-returns
-returns c = begun _ _ (c .block-start .ensures)
+returns c = begun _ _ _ (first-is _ _ _ (c .before .word .result) (c .before .word .ensures .0) (c .block-start .ensures))
 
 pub begin-spec : {M : Type 1} → statement M
-begin-spec = tie.close (tie.spec block-start-requires returns)
+begin-spec = tie.close (tie.spec word-requires block-start-requires returns)
