@@ -6,7 +6,7 @@ use mathlib.Core.List.{List, [], _∷_, _++_, map}
 use mathlib.Core.Option.{Option, none, some}
 use Prim.Native.Nat.{ℕ, zero, suc, _+_, _-_, _≤_}
 use native.Mathlib.Omega.{arith}
-use lib.ListN.{length, take, drop, drop-of-length-le}
+use lib.ListN.{length, take, drop}
 use lib.Seq.{slice, take-take, drop-drop, length-slice, take-nil, drop-nil}
 use Rattle.rules.specs.Answer.{Answer, fine, refuse, _>>=_}
 use Rattle.rules.specs.Reader.{Read, read, stopped}
@@ -20,9 +20,8 @@ use Rattle.rules.proofs.ScanLaws.{cards-each}
 use Rattle.lines.specs.declared.LineRead.the-variants.{Line, NoLine}
 use Rattle.lines.specs.Meaning.{LineSays}
 use Rattle.cards.specs.declared.Selected.{Selected}
-use Rattle.cards.specs.declared.ListRead.{ListRead}
 use Rattle.cards.specs.declared.FsCards.{FsCards}
-use Rattle.cards.specs.Selected.{noSelection, withItems, Listed}
+use Rattle.cards.specs.Selected.{noSelection, withItems, isRead}
 use Rattle.cards.specs.Deck.{cardsIn, fsFirst, OperandAt, Operandless, FsSaid}
 
 -- ---- a part of a part
@@ -78,7 +77,7 @@ no-more (some (fsCard o) ∷ cs) h = absurd h
 no-more (some endCard ∷ cs) h = refl
 
 module _ (card : ℕ) (st : Selected) (r : FsCards) (o : List ℕ) (os : List (List ℕ)) where
-  said-card : (is : List Item) (left : List ℕ) → fsOperand o ≡ read is left → FsSaid (suc card) (withItems card is st) (itemsFrom (suc card) os) r
+  pub said-card : (is : List Item) (left : List ℕ) → fsOperand o ≡ read is left → FsSaid (suc card) (withItems card is st) (itemsFrom (suc card) os) r
       → FsSaid card st (itemsFrom card (o ∷ os)) r
   unfolding _>>=_
   said-card is left e h = rw e (go (itemsFrom (suc card) os) h)
@@ -108,47 +107,30 @@ module _ (deck : List ℕ) (from : ℕ) (st : Selected) (card at : ℕ) (g : Sel
   ended : fsFirst (cardsIn (drop at deck)) ≡ [] → Whole (record { state = st; unread = 0 })
   ended e = g .on _ (subst (λ (os : List (List ℕ)). FsSaid card st (itemsFrom card os) (record { state = st; unread = 0 })) (sym e) (refl, refl))
 
-  pub selecting-end : length deck ≤ at → Whole (record { state = st; unread = 0 })
-  selecting-end l = ended (ap (λ (x : List ℕ). fsFirst (cardsIn x)) (drop-of-length-le deck l))
-
   pub selecting-none : Operandless (cardsIn (drop at deck)) → Whole (record { state = st; unread = 0 })
   selecting-none h = ended (no-more (cardsIn (drop at deck)) h)
 
   pub selecting-u : (start end next : ℕ) → OperandAt uCard deck at start end next → Whole (record { state = st; unread = 0 })
   selecting-u start end next h = ended (ap fsFirst (h .is))
 
-  module _ (start end next : ℕ) (h : OperandAt fsCard deck at start end next) (r : ListRead) where
+  module _ (start end next : ℕ) (h : OperandAt fsCard deck at start end next) where
     abbrev operand : List ℕ
     operand = slice start end deck
 
-    fs-first : fsFirst (cardsIn (drop at deck)) ≡ operand ∷ fsFirst (cardsIn (drop next deck))
+    pub fs-first : fsFirst (cardsIn (drop at deck)) ≡ operand ∷ fsFirst (cardsIn (drop next deck))
     fs-first = ap fsFirst (h .is)
 
     -- it could not be read
-    pub selecting-stop : Listed card st (fsOperand operand) r → r .read ≡ false → Whole (record { state = st; unread = card })
-    selecting-stop l e =
+    pub selecting-stop : isRead (fsOperand operand) ≡ false → Whole (record { state = st; unread = card })
+    selecting-stop e =
         g .on _
         (subst (λ (os : List (List ℕ)). FsSaid card st (itemsFrom card os) (record { state = st; unread = card })) (sym fs-first)
-        (go (fsOperand operand) refl l))
+        (go (fsOperand operand) refl))
       where
-        go : (x : Read (List Item)) → fsOperand operand ≡ x → Listed card st x r
+        go : (x : Read (List Item)) → fsOperand operand ≡ x
             → FsSaid card st (itemsFrom card (operand ∷ fsFirst (cardsIn (drop next deck)))) (record { state = st; unread = card })
-        go (read is left) q l = absurd (true≢false (sym (l .0) ∙ e))
-        go (stopped left) q l = said-stop card st (record { state = st; unread = card }) operand (fsFirst (cardsIn (drop next deck))) left q refl
-
-    -- the next card
-    pub selecting-more : Listed card st (fsOperand operand) r → r .read ≡ true → Selecting deck from (r .state) (suc card) next
-    selecting-more l e = go (fsOperand operand) refl l
-      where
-        go : (x : Read (List Item)) → fsOperand operand ≡ x → Listed card st x r → Selecting deck from (r .state) (suc card) next
-        go (stopped left) q l = absurd (true≢false (sym e ∙ l))
-        go (read is left) q l =
-            record {
-              low = omega (arith, g .low, h .on);
-              on = λ x w. g .on x (subst (λ (os : List (List ℕ)). FsSaid card st (itemsFrom card os) x) (sym fs-first)
-                  (said-card card st x operand (fsFirst (cardsIn (drop next deck))) is left q
-                  (subst (λ (y : Selected). FsSaid (suc card) y (itemsFrom (suc card) (fsFirst (cardsIn (drop next deck)))) x) (l .1) w)));
-            }
+        go (read is left) q = absurd (true≢false (sym (ap isRead q) ∙ e))
+        go (stopped left) q = said-stop card st (record { state = st; unread = card }) operand (fsFirst (cardsIn (drop next deck))) left q refl
 
 -- ---- a deck in order
 

@@ -4,6 +4,7 @@ pub mod SelectedLaws
 pub mod ListedLaws
 pub mod ParameterLaws
 pub mod DeckLaws
+pub mod AddingLaws
 pub mod VerdictLaws
 pub mod OrderedLaws
 pub mod PromiseLaws

@@ -19,8 +19,9 @@ use Rattle.rules.proofs.CardSteps.{noted, total-last, total-fields, total-cvs, 
 use Rattle.terms.specs.declared.Field.{Field}
 use Rattle.terms.specs.Meaning.{fieldOf, noField, fieldCards, cvCard}
 use Rattle.terms.proofs.PlanOf.{cv-said}
+use Rattle.cards.specs.declared.Noted.{Noted}
 use Rattle.cards.specs.declared.Selected.{Selected}
-use Rattle.cards.specs.Selected.{noSelection, placed, withField, withCV, fieldFor, withItem, withItems}
+use Rattle.cards.specs.Selected.{noSelection, counted, fieldNoted, cvNoted, withField, withCV, fieldFor, withItem, withItems}
 use Rattle.cards.proofs.FieldLaws.{field-meant}
 use Rattle.cards.proofs.ListSteps.{padded, padded-more, padded-full, cards-length, cards-field, no-field, cards-cv, cards-empty, cv-empty, cv-field, cv-cv}
 
@@ -35,36 +36,45 @@ manyFields c = length (fieldsOf c)
 abbrev pub limited : List Item → Bool
 limited c = every fieldLimits (fieldsOf c)
 
+-- what is noted of these cards
+pub record Tells (n : Noted) (cs : List (List Item)) : Type 0 where
+  pub count : n .count ≡ min 64 (length (allFields cs))
+  pub over : noted 6 (n .«sixty_fifth») ≡ upTo 6 64 manyFields 0 2 cs
+  pub cv : n .cv ≡ cvCard 2 cs
+  pub twice : noted 4 (n .«second_cv») ≡ upTo 4 1 cvs 0 2 cs
+  pub beyond : noted 7 (n .beyond) ≡ each 7 limited 2 cs
+
 pub record Holds (st : Selected) (cs : List (List Item)) : Type 0 where
   pub fields : st .fields ≡ padded 64 noField (map fieldFor (allFields cs))
   pub cards : st .cards ≡ padded 64 0 (fieldCards 2 cs)
-  pub count : st .count ≡ min 64 (length (allFields cs))
-  pub over : noted 6 (st .«sixty_fifth») ≡ upTo 6 64 manyFields 0 2 cs
-  pub cv : st .cv ≡ cvCard 2 cs
-  pub twice : noted 4 (st .«second_cv») ≡ upTo 4 1 cvs 0 2 cs
-  pub beyond : noted 7 (st .beyond) ≡ each 7 limited 2 cs
+  pub tells : Tells (st .noted) cs
 
 -- no card yet
 pub holds-none : Holds noSelection []
 unfolding noSelection each
-holds-none = record { fields = refl; cards = refl; count = refl; over = refl; cv = refl; twice = refl; beyond = refl }
+holds-none = record { fields = refl; cards = refl; tells = record { count = refl; over = refl; cv = refl; twice = refl; beyond = refl } }
 
 -- ---- a card more
 
 no-items : (cs : List (List Item)) → joined (cs ++ ([] ∷ [])) ≡ joined cs
 no-items cs = joined-last cs [] ∙ append-nil (joined cs)
 
-holds-card : (st : Selected) (cs : List (List Item)) → Holds st cs → Holds st (cs ++ ([] ∷ []))
-holds-card st cs h =
-    let j = no-items cs in
+tells-card : (n : Noted) (cs : List (List Item)) → Tells n cs → Tells n (cs ++ ([] ∷ []))
+tells-card n cs h =
     record {
-      fields = h .fields ∙ sym (ap (λ (l : List Item). padded 64 noField (map fieldFor (fieldsOf l))) j);
-      cards = h .cards ∙ sym (ap (padded 64 0) (cards-empty cs));
-      count = h .count ∙ sym (ap (λ (l : List Item). min 64 (length (fieldsOf l))) j);
+      count = h .count ∙ sym (ap (λ (l : List Item). min 64 (length (fieldsOf l))) (no-items cs));
       over = h .over ∙ sym (upTo-empty 6 64 manyFields cs refl);
       cv = h .cv ∙ sym (cv-empty cs);
       twice = h .twice ∙ sym (upTo-empty 4 1 cvs cs refl);
       beyond = h .beyond ∙ sym (each-empty 7 limited cs refl);
+    }
+
+holds-card : (st : Selected) (cs : List (List Item)) → Holds st cs → Holds st (cs ++ ([] ∷ []))
+holds-card st cs h =
+    record {
+      fields = h .fields ∙ sym (ap (λ (l : List Item). padded 64 noField (map fieldFor (fieldsOf l))) (no-items cs));
+      cards = h .cards ∙ sym (ap (padded 64 0) (cards-empty cs));
+      tells = tells-card (st .noted) cs (h .tells);
     }
 
 -- ---- a field more
@@ -90,10 +100,10 @@ module _ (cs : List (List Item)) (c : List Item) where
   map-more [] f = refl
   map-more (g ∷ fs) f = ap (fieldFor g ∷_) (map-more fs f)
 
-  module _ (st : Selected) (h : Holds st with-last) (f : RuleField) where
-    abbrev card : ℕ
-    card = 2 + length cs
+  abbrev card : ℕ
+  card = 2 + length cs
 
+  module _ (n : Noted) (h : Tells n with-last) (f : RuleField) where
     many : length (allFields (with-more (field f))) ≡ length (allFields with-last) + 1
     many = ap length (more-fields f) ∙ length-append (allFields with-last) (f ∷ [])
 
@@ -101,56 +111,35 @@ module _ (cs : List (List Item)) (c : List Item) where
     one-more = ap length (fields-append c (field f ∷ [])) ∙ length-append (fieldsOf c) (f ∷ [])
 
     -- what the field's numbers do not touch
-    record Placed (x : Selected) : Type 0 where
-      fields : x .fields ≡ padded 64 noField (map fieldFor (allFields (with-more (field f))))
-      cards : x .cards ≡ padded 64 0 (fieldCards 2 (with-more (field f)))
+    record Counted (x : Noted) : Type 0 where
       count : x .count ≡ min 64 (length (allFields (with-more (field f))))
       over : noted 6 (x .«sixty_fifth») ≡ upTo 6 64 manyFields 0 2 (with-more (field f))
-      cv : x .cv ≡ st .cv
-      twice : x .«second_cv» ≡ st .«second_cv»
-      beyond : x .beyond ≡ st .beyond
+      cv : x .cv ≡ n .cv
+      twice : x .«second_cv» ≡ n .«second_cv»
+      beyond : x .beyond ≡ n .beyond
 
-    holds-placed : Placed (placed st card (fieldFor f))
-    unfolding placed
-    holds-placed = go (ltb (st .count) 64) refl
+    tells-counted : Counted (counted n card)
+    unfolding counted
+    tells-counted = go (ltb (n .count) 64) refl
       where
         total-more : total manyFields (with-more (field f)) ≡ length (allFields with-last) + 1
         total-more = total-fields (with-more (field f)) ∙ many
 
-        go : (t : Bool) → ltb (st .count) 64 ≡ t → Placed (placed st card (fieldFor f))
+        go : (t : Bool) → ltb (n .count) 64 ≡ t → Counted (counted n card)
         go true e =
-            let l : st .count < 64 = ltb-true (st .count) 64 e in
-            let n : st .count ≡ length (allFields with-last) = omega (arith, h .count) in
-            let m : length (map fieldFor (allFields with-last)) ≡ st .count = length-map (allFields with-last) fieldFor ∙ sym n in
-            let k : length (fieldCards 2 with-last) ≡ st .count = cards-length 2 with-last ∙ sym n in
+            let l : n .count < 64 = ltb-true (n .count) 64 e in
             rw e (record {
-              fields =
-                  ap (λ (z : List Field). set z (st .count) (fieldFor f)) (h .fields)
-                  ∙ padded-more 64 noField (map fieldFor (allFields with-last)) (fieldFor f) (st .count) m l
-                  ∙ sym (ap (padded 64 noField) (ap (map fieldFor) (more-fields f) ∙ map-more (allFields with-last) f));
-              cards =
-                  ap (λ (z : List ℕ). set z (st .count) card) (h .cards)
-                  ∙ padded-more 64 0 (fieldCards 2 with-last) card (st .count) k l
-                  ∙ sym (ap (padded 64 0) (cards-field cs c f));
-              count = omega (arith, many);
-              over = noted-within 6 64 manyFields (st .«sixty_fifth») cs c (c ++ (field f ∷ [])) (h .over) (omega (arith, one-more)) (omega (arith, total-more));
+              count = omega (arith, many, h .count);
+              over = noted-within 6 64 manyFields (n .«sixty_fifth») cs c (c ++ (field f ∷ [])) (h .over) (omega (arith, one-more)) (omega (arith, total-more, h .count));
               cv = refl;
               twice = refl;
               beyond = refl;
             })
         go false e =
-            let l : 64 ≤ st .count = ltb-false (st .count) 64 e in
-            let n : 64 ≤ length (allFields with-last) = omega (arith, h .count) in
-            let m : 64 ≤ length (map fieldFor (allFields with-last)) = omega (arith, length-map (allFields with-last) fieldFor) in
-            let k : 64 ≤ length (fieldCards 2 with-last) = omega (arith, cards-length 2 with-last) in
+            let l : 64 ≤ n .count = ltb-false (n .count) 64 e in
             rw e (record {
-              fields =
-                  h .fields
-                  ∙ sym (padded-full 64 noField (map fieldFor (allFields with-last)) (fieldFor f ∷ []) m)
-                  ∙ sym (ap (padded 64 noField) (ap (map fieldFor) (more-fields f) ∙ map-more (allFields with-last) f));
-              cards = h .cards ∙ sym (padded-full 64 0 (fieldCards 2 with-last) (card ∷ []) k) ∙ sym (ap (padded 64 0) (cards-field cs c f));
               count = omega (arith, many, h .count);
-              over = noted-over 6 64 manyFields (st .«sixty_fifth») cs c (c ++ (field f ∷ [])) (h .over) (omega (arith, total-more));
+              over = noted-over 6 64 manyFields (n .«sixty_fifth») cs c (c ++ (field f ∷ [])) (h .over) (omega (arith, total-more, h .count));
               cv = refl;
               twice = refl;
               beyond = refl;
@@ -165,96 +154,127 @@ module _ (cs : List (List Item)) (c : List Item) where
     cvs-same : cvs (c ++ (field f ∷ [])) ≡ cvs c
     cvs-same = omega (arith, cvs-append c (field f ∷ []))
 
-    holds-field : Holds (withField st card (fieldFor f)) (with-more (field f))
-    unfolding withField
-    holds-field = go holds-placed (fieldLimits (fieldOf (fieldFor f))) refl
+    tells-field : Tells (fieldNoted n card (fieldFor f)) (with-more (field f))
+    unfolding fieldNoted
+    tells-field = go tells-counted (fieldLimits (fieldOf (fieldFor f))) refl
       where
-        go : Placed (placed st card (fieldFor f)) → (t : Bool) → fieldLimits (fieldOf (fieldFor f)) ≡ t
-            → Holds (withField st card (fieldFor f)) (with-more (field f))
+        go : Counted (counted n card) → (t : Bool) → fieldLimits (fieldOf (fieldFor f)) ≡ t → Tells (fieldNoted n card (fieldFor f)) (with-more (field f))
         go p true e =
             let g : fieldLimits f ≡ true = ap fieldLimits (sym (field-meant f)) ∙ e in
             rw e (record {
-              fields = p .fields;
-              cards = p .cards;
               count = p .count;
               over = p .over;
               cv = p .cv ∙ h .cv ∙ sym (cv-field cs c f);
-              twice = ap (noted 4) (p .twice) ∙ noted-equal 4 1 cvs (st .«second_cv») cs c (c ++ (field f ∷ [])) (h .twice) cvs-same;
+              twice = ap (noted 4) (p .twice) ∙ noted-equal 4 1 cvs (n .«second_cv») cs c (c ++ (field f ∷ [])) (h .twice) cvs-same;
               beyond =
                   ap (noted 7) (p .beyond)
-                  ∙ noted-same 7 limited (st .beyond) cs c (c ++ (field f ∷ [])) (h .beyond) (limited-more ∙ ap (λ (t : Bool). limited c && t) g ∙ and-true (limited c));
+                  ∙ noted-same 7 limited (n .beyond) cs c (c ++ (field f ∷ [])) (h .beyond) (limited-more ∙ ap (λ (t : Bool). limited c && t) g ∙ and-true (limited c));
             })
         go p false e =
             let g : fieldLimits f ≡ false = ap fieldLimits (sym (field-meant f)) ∙ e in
             rw e (record {
-              fields = p .fields;
-              cards = p .cards;
               count = p .count;
               over = p .over;
               cv = p .cv ∙ h .cv ∙ sym (cv-field cs c f);
-              twice = ap (noted 4) (p .twice) ∙ noted-equal 4 1 cvs (st .«second_cv») cs c (c ++ (field f ∷ [])) (h .twice) cvs-same;
+              twice = ap (noted 4) (p .twice) ∙ noted-equal 4 1 cvs (n .«second_cv») cs c (c ++ (field f ∷ [])) (h .twice) cvs-same;
               beyond =
-                  noted-fails 7 limited (st .beyond) cs c (c ++ (field f ∷ [])) (h .beyond) (limited-more ∙ ap (λ (t : Bool). limited c && t) g ∙ and-false (limited c));
+                  noted-fails 7 limited (n .beyond) cs c (c ++ (field f ∷ [])) (h .beyond) (limited-more ∙ ap (λ (t : Bool). limited c && t) g ∙ and-false (limited c));
             })
+
+  holds-field : (st : Selected) → Holds st with-last → (f : RuleField) → Holds (withField st card (fieldFor f)) (with-more (field f))
+  unfolding withField
+  holds-field st h f = go (ltb (st .noted .count) 64) refl
+    where
+      fields-are : padded 64 noField (map fieldFor (allFields (with-more (field f)))) ≡ padded 64 noField (map fieldFor (allFields with-last) ++ (fieldFor f ∷ []))
+      fields-are = ap (padded 64 noField) (ap (map fieldFor) (more-fields f) ∙ map-more (allFields with-last) f)
+
+      go : (t : Bool) → ltb (st .noted .count) 64 ≡ t → Holds (withField st card (fieldFor f)) (with-more (field f))
+      go true e =
+          let k = st .noted .count in
+          let l : k < 64 = ltb-true k 64 e in
+          let n : k ≡ length (allFields with-last) = omega (arith, h .tells .count) in
+          let m : length (map fieldFor (allFields with-last)) ≡ k = length-map (allFields with-last) fieldFor ∙ sym n in
+          let j : length (fieldCards 2 with-last) ≡ k = cards-length 2 with-last ∙ sym n in
+          rw e (record {
+            fields =
+                ap (λ (z : List Field). set z k (fieldFor f)) (h .fields)
+                ∙ padded-more 64 noField (map fieldFor (allFields with-last)) (fieldFor f) k m l
+                ∙ sym fields-are;
+            cards =
+                ap (λ (z : List ℕ). set z k card) (h .cards)
+                ∙ padded-more 64 0 (fieldCards 2 with-last) card k j l
+                ∙ sym (ap (padded 64 0) (cards-field cs c f));
+            tells = tells-field (st .noted) (h .tells) f;
+          })
+      go false e =
+          let k = st .noted .count in
+          let l : 64 ≤ k = ltb-false k 64 e in
+          let n : 64 ≤ length (allFields with-last) = omega (arith, h .tells .count) in
+          let m : 64 ≤ length (map fieldFor (allFields with-last)) = omega (arith, length-map (allFields with-last) fieldFor) in
+          let j : 64 ≤ length (fieldCards 2 with-last) = omega (arith, cards-length 2 with-last) in
+          rw e (record {
+            fields = h .fields ∙ sym (padded-full 64 noField (map fieldFor (allFields with-last)) (fieldFor f ∷ []) m) ∙ sym fields-are;
+            cards = h .cards ∙ sym (padded-full 64 0 (fieldCards 2 with-last) (card ∷ []) j) ∙ sym (ap (padded 64 0) (cards-field cs c f));
+            tells = tells-field (st .noted) (h .tells) f;
+          })
 
   -- ---- a CV more
 
-  module _ (st : Selected) (h : Holds st with-last) where
+  module _ (n : Noted) (h : Tells n with-last) where
     cv-total : total cvs (with-more cv) ≡ cvs (joined with-last) + 1
     cv-total = omega (arith, total-last cvs cs (c ++ (cv ∷ [])), total-last cvs cs c, total-cvs with-last, cvs-append c (cv ∷ []))
 
     -- a CV stands on a card exactly if its card is noted
-    cv-known : eqb (st .cv) 0 ≡ eqb (cvs (joined with-last)) 0
-    cv-known = ap (λ (n : ℕ). eqb n 0) (h .cv) ∙ cv-said 2 (omega arith) with-last
+    cv-known : eqb (n .cv) 0 ≡ eqb (cvs (joined with-last)) 0
+    cv-known = ap (λ (k : ℕ). eqb k 0) (h .cv) ∙ cv-said 2 (omega arith) with-last
 
-    more-cv : cvCard 2 (with-more cv) ≡ cond (eqb (st .cv) 0) (2 + length cs) (st .cv)
-    more-cv = cv-cv cs c ∙ sym (ap (λ (n : ℕ). cond (eqb n 0) (2 + length cs) n) (h .cv))
+    more-cv : cvCard 2 (with-more cv) ≡ cond (eqb (n .cv) 0) card (n .cv)
+    more-cv = cv-cv cs c ∙ sym (ap (λ (k : ℕ). cond (eqb k 0) card k) (h .cv))
 
-    holds-cv : Holds (withCV st (2 + length cs)) (with-more cv)
-    unfolding withCV
-    holds-cv = go (eqb (st .cv) 0) refl
+    tells-cv : Tells (cvNoted n card) (with-more cv)
+    unfolding cvNoted
+    tells-cv = go (eqb (n .cv) 0) refl
       where
-        fields : st .fields ≡ padded 64 noField (map fieldFor (allFields (with-more cv)))
-        fields = h .fields ∙ sym (ap (λ (l : List RuleField). padded 64 noField (map fieldFor l)) same-fields)
-
-        cards : st .cards ≡ padded 64 0 (fieldCards 2 (with-more cv))
-        cards = h .cards ∙ sym (ap (padded 64 0) (cards-cv cs c))
-
-        count : st .count ≡ min 64 (length (allFields (with-more cv)))
+        count : n .count ≡ min 64 (length (allFields (with-more cv)))
         count = h .count ∙ sym (ap (λ (l : List RuleField). min 64 (length l)) same-fields)
 
-        over : noted 6 (st .«sixty_fifth») ≡ upTo 6 64 manyFields 0 2 (with-more cv)
-        over = noted-equal 6 64 manyFields (st .«sixty_fifth») cs c (c ++ (cv ∷ [])) (h .over) (ap length (no-field c))
+        over : noted 6 (n .«sixty_fifth») ≡ upTo 6 64 manyFields 0 2 (with-more cv)
+        over = noted-equal 6 64 manyFields (n .«sixty_fifth») cs c (c ++ (cv ∷ [])) (h .over) (ap length (no-field c))
 
-        beyond : noted 7 (st .beyond) ≡ each 7 limited 2 (with-more cv)
-        beyond = noted-same 7 limited (st .beyond) cs c (c ++ (cv ∷ [])) (h .beyond) (ap (every fieldLimits) (no-field c))
+        beyond : noted 7 (n .beyond) ≡ each 7 limited 2 (with-more cv)
+        beyond = noted-same 7 limited (n .beyond) cs c (c ++ (cv ∷ [])) (h .beyond) (ap (every fieldLimits) (no-field c))
 
-        go : (t : Bool) → eqb (st .cv) 0 ≡ t → Holds (withCV st (2 + length cs)) (with-more cv)
+        go : (t : Bool) → eqb (n .cv) 0 ≡ t → Tells (cvNoted n card) (with-more cv)
         go true e =
-            let n : cvs (joined with-last) ≡ 0 = eqb-true (cvs (joined with-last)) 0 (sym cv-known ∙ e) in
+            let z : cvs (joined with-last) ≡ 0 = eqb-true (cvs (joined with-last)) 0 (sym cv-known ∙ e) in
             rw e (record {
-              fields = fields;
-              cards = cards;
               count = count;
               over = over;
-              cv = sym (more-cv ∙ ap (λ (t : Bool). cond t (2 + length cs) (st .cv)) e);
-              twice = noted-within 4 1 cvs (st .«second_cv») cs c (c ++ (cv ∷ [])) (h .twice) (omega (arith, cvs-append c (cv ∷ []))) (omega (arith, cv-total));
+              cv = sym (more-cv ∙ ap (λ (t : Bool). cond t card (n .cv)) e);
+              twice = noted-within 4 1 cvs (n .«second_cv») cs c (c ++ (cv ∷ [])) (h .twice) (omega (arith, cvs-append c (cv ∷ []))) (omega (arith, cv-total));
               beyond = beyond;
             })
         go false e =
-            let n : 1 ≤ cvs (joined with-last) = some (cvs (joined with-last)) (eqb-false (cvs (joined with-last)) 0 (sym cv-known ∙ e)) in
+            let z : 1 ≤ cvs (joined with-last) = some (cvs (joined with-last)) (eqb-false (cvs (joined with-last)) 0 (sym cv-known ∙ e)) in
             rw e (record {
-              fields = fields;
-              cards = cards;
               count = count;
               over = over;
-              cv = sym (more-cv ∙ ap (λ (t : Bool). cond t (2 + length cs) (st .cv)) e);
-              twice = noted-over 4 1 cvs (st .«second_cv») cs c (c ++ (cv ∷ [])) (h .twice) (omega (arith, cv-total));
+              cv = sym (more-cv ∙ ap (λ (t : Bool). cond t card (n .cv)) e);
+              twice = noted-over 4 1 cvs (n .«second_cv») cs c (c ++ (cv ∷ [])) (h .twice) (omega (arith, cv-total));
               beyond = beyond;
             })
           where
             some : (k : ℕ) → (k ≡ 0 → ⊥) → 1 ≤ k
             some k q = omega arith
+
+  holds-cv : (st : Selected) → Holds st with-last → Holds (withCV st card) (with-more cv)
+  unfolding withCV
+  holds-cv st h =
+      record {
+        fields = h .fields ∙ sym (ap (λ (l : List RuleField). padded 64 noField (map fieldFor l)) same-fields);
+        cards = h .cards ∙ sym (ap (padded 64 0) (cards-cv cs c));
+        tells = tells-cv (st .noted) (h .tells);
+      }
 
 -- ---- the items of a card
 

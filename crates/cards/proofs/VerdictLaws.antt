@@ -83,33 +83,33 @@ module _ (p : Parameters) (s : Selected) (ps : List Parameter) (cs : List (List 
   complete-is : complete (given ps) ≡ cond (isComplete p) (fine (utilityIn p)) (refused 5 1)
   complete-is = ap complete (sym (n .given)) ∙ complete-given p
 
-  judging-is : judging theCards ≡ answerOf (verdictOf p s) theAsked
+  judging-is : judging theCards ≡ answerOf (verdictOf p (s .noted)) theAsked
   unfolding once limits limitsOf verdictOf
   judging-is =
-      rw (distinct-is, complete-is, ← h .over, ← h .twice, ← h .beyond)
-      (order-of (p .twice) (s .«second_cv») (isComplete p) (s .«sixty_fifth») utilityLimits (s .beyond) (utilityIn p) (λ u. record { utility = u; cards = cs }))
+      rw (distinct-is, complete-is, ← h .tells .over, ← h .tells .twice, ← h .tells .beyond)
+      (order-of (p .twice) (s .noted .«second_cv») (isComplete p) (s .noted .«sixty_fifth») utilityLimits (s .noted .beyond) (utilityIn p) (λ u. record { utility = u; cards = cs }))
 
   -- ---- what is asked for, where nothing is refused
 
   module _ (fs : ℕ) (many : fs ≡ length cs) (few : length (allFields cs) ≤ 64) where
-    count-is : s .count ≡ length (allFields cs)
-    count-is = omega (arith, h .count)
+    count-is : s .noted .count ≡ length (allFields cs)
+    count-is = omega (arith, h .tells .count)
 
-    kept-length : length (map fieldFor (allFields cs)) ≡ s .count
+    kept-length : length (map fieldFor (allFields cs)) ≡ s .noted .count
     kept-length = length-map (allFields cs) fieldFor ∙ sym count-is
 
-    kept : s .fields ≡ map fieldFor (allFields cs) ++ replicate (64 - s .count) noField
+    kept : s .fields ≡ map fieldFor (allFields cs) ++ replicate (64 - s .noted .count) noField
     kept =
         h .fields
         ∙ padded-few 64 noField (map fieldFor (allFields cs)) (omega (arith, kept-length, count-is))
         ∙ ap (λ (k : ℕ). map fieldFor (allFields cs) ++ replicate (64 - k) noField) kept-length
 
-    first-fields : take (s .count) (s .fields) ≡ map fieldFor (allFields cs)
-    first-fields = ap (take (s .count)) kept ∙ take-at (map fieldFor (allFields cs)) (replicate (64 - s .count) noField) (s .count) kept-length
+    first-fields : take (s .noted .count) (s .fields) ≡ map fieldFor (allFields cs)
+    first-fields = ap (take (s .noted .count)) kept ∙ take-at (map fieldFor (allFields cs)) (replicate (64 - s .noted .count) noField) (s .noted .count) kept-length
 
-    cards-are : s .cards ≡ fieldCards 2 cs ++ replicate (64 - s .count) 0
+    cards-are : s .cards ≡ fieldCards 2 cs ++ replicate (64 - s .noted .count) 0
     cards-are =
-        let l : length (fieldCards 2 cs) ≡ s .count = cards-length 2 cs ∙ sym count-is in
+        let l : length (fieldCards 2 cs) ≡ s .noted .count = cards-length 2 cs ∙ sym count-is in
         h .cards ∙ padded-few 64 0 (fieldCards 2 cs) (omega (arith, count-is)) ∙ ap (λ (k : ℕ). fieldCards 2 cs ++ replicate (64 - k) 0) l
 
     means-asked : Means (askedFor p s fs) theAsked
@@ -119,10 +119,10 @@ module _ (p : Parameters) (s : Selected) (ps : List Parameter) (cs : List (List 
           utility = refl;
           fields = ap (map fieldOf) first-fields ∙ fields-meant (allFields cs);
           few = omega (arith, count-is);
-          many = kept ∙ sym (ap (λ (l : List Field). l ++ replicate (64 - s .count) noField) first-fields);
+          many = kept ∙ sym (ap (λ (l : List Field). l ++ replicate (64 - s .noted .count) noField) first-fields);
           cards = cards-are;
           fs = many;
-          cv = h .cv;
+          cv = h .tells .cv;
         }
 
     one-sizes : (l : List RuleField) → All (λ f. OneSize (f .kind) (f .input) (f .output)) (map fieldFor l)
@@ -152,13 +152,13 @@ module _ (p : Parameters) (s : Selected) (ps : List Parameter) (cs : List (List 
 
   pub judged-said : (fs : ℕ) → fs ≡ length cs → Said (judging theCards) (judgedAs p s fs)
   unfolding judgedAs
-  judged-said fs m = go (eqb (verdictOf p s .number) 0) refl
+  judged-said fs m = go (eqb (verdictOf p (s .noted) .number) 0) refl
     where
-      go : (t : Bool) → eqb (verdictOf p s .number) 0 ≡ t → Said (judging theCards) (judgedAs p s fs)
+      go : (t : Bool) → eqb (verdictOf p (s .noted) .number) 0 ≡ t → Said (judging theCards) (judgedAs p s fs)
       go true e =
-          let j : judging theCards ≡ fine theAsked = judging-is ∙ ap (λ (t : Bool). cond t (fine theAsked) (refused (verdictOf p s .number) (verdictOf p s .place))) e in
+          let j : judging theCards ≡ fine theAsked = judging-is ∙ ap (λ (t : Bool). cond t (fine theAsked) (refused (verdictOf p (s .noted) .number) (verdictOf p (s .noted) .place))) e in
           subst (λ (x : Answer RuleAsked). Said x (judgedAs p s fs)) (sym j) (rw e (accepts fs m (few-fields j)))
       go false e =
-          let j : judging theCards ≡ refused (verdictOf p s .number) (verdictOf p s .place)
-          = judging-is ∙ ap (λ (t : Bool). cond t (fine theAsked) (refused (verdictOf p s .number) (verdictOf p s .place))) e in
+          let j : judging theCards ≡ refused (verdictOf p (s .noted) .number) (verdictOf p (s .noted) .place)
+          = judging-is ∙ ap (λ (t : Bool). cond t (fine theAsked) (refused (verdictOf p (s .noted) .number) (verdictOf p (s .noted) .place))) e in
           subst (λ (x : Answer RuleAsked). Said x (judgedAs p s fs)) (sym j) (rw e)

@@ -6,6 +6,7 @@ use Rattle.rules.specs.Asked.{Utility, utilityLimits}
 use Rattle.terms.specs.declared.Asked.{Asked}
 use Rattle.terms.specs.Meaning.{modeOf, formatOf, sizeOf}
 use Rattle.cards.specs.declared.Parameters.{Parameters}
+use Rattle.cards.specs.declared.Noted.{Noted}
 use Rattle.cards.specs.declared.Selected.{Selected}
 use Rattle.cards.specs.declared.Verdict.{Verdict}
 use Rattle.cards.specs.declared.DeckRead.{DeckRead}
@@ -28,19 +29,19 @@ abbrev pub orNoted : ℕ → ℕ → Verdict → Verdict
 orNoted number card next = cond (eqb card 0) next (verdict number card)
 
 -- refusals 6 and 7
-unfoldable pub limitsOf : Parameters → Selected → Verdict
-limitsOf p s =
-    orNoted 6 (s .«sixty_fifth»)
+unfoldable pub limitsOf : Parameters → Noted → Verdict
+limitsOf p n =
+    orNoted 6 (n .«sixty_fifth»)
     (cond (utilityLimits (utilityIn p))
-    (orNoted 7 (s .beyond) (verdict 0 0))
+    (orNoted 7 (n .beyond) (verdict 0 0))
     (verdict 7 1))
 
 -- the lowest number first, and of one number the U card before the FS cards
-unfoldable pub verdictOf : Parameters → Selected → Verdict
-verdictOf p s =
+unfoldable pub verdictOf : Parameters → Noted → Verdict
+verdictOf p n =
     cond (p .twice) (verdict 4 1)
-    (orNoted 4 (s .«second_cv»)
-    (cond (isComplete p) (limitsOf p s) (verdict 5 1)))
+    (orNoted 4 (n .«second_cv»)
+    (cond (isComplete p) (limitsOf p n) (verdict 5 1)))
 
 -- what the cards ask for, where they are not refused
 unfoldable pub askedFor : Parameters → Selected → ℕ → Asked
@@ -53,13 +54,13 @@ askedFor p s fs =
       first = p .first;
       fields = s .fields;
       cards = s .cards;
-      count = s .count;
+      count = s .noted .count;
       fs = fs;
-      cv = s .cv;
+      cv = s .noted .cv;
     }
 
 -- the deck whose cards all could be read
 unfoldable pub judgedAs : Parameters → Selected → ℕ → DeckRead
 judgedAs p s fs =
-    let v = verdictOf p s in
+    let v = verdictOf p (s .noted) in
     cond (eqb (v .number) 0) (record { refusal = 0; place = 0; asked = askedFor p s fs }) (refusedDeck (v .number) (v .place))

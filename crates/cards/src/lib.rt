@@ -23,7 +23,7 @@ ghost use Rattle.readers.specs.declared.UParameter.the-variants.{ModeIs, Format
 ghost use Rattle.readers.specs.Meaning.{parameterOf};
 ghost use Rattle.lines.specs.declared.LineRead.the-variants.{Line};
 ghost use Rattle.lines.specs.Meaning.{LineSays};
-ghost use Rattle.cards.specs.Selected.{noSelection, firstCard, placed, withField, withCV, Listed};
+ghost use Rattle.cards.specs.Selected.{noSelection, firstCard, counted, fieldNoted, cvNoted, itemNoted, takenOf, isRead};
 ghost use Rattle.cards.specs.Parameters.{noParameter, withPart, withParameter, UListed};
 ghost use Rattle.cards.specs.Deck.{cardsIn, fsFirst, CardAtSays, FsSaid};
 ghost use Rattle.cards.specs.Verdict.{isComplete, utilityIn, limitsOf, verdictOf, askedFor, judgedAs};
@@ -100,16 +100,21 @@ fn size_allowed(format: Format, size: Size) -> bool
 
 // ---- FS cards
 
-// What the FS cards have said so far: the fields and the card of each, and how many they are; and the cards of the 65th field, of CV, of the
-// second CV and of the first number outside its limits, 0 for none.
-struct Selected {
-    fields: [Field; 64],
-    cards: [usize; 64],
+// What is noted of the FS cards so far: how many fields are kept, and the cards of the 65th field, of CV, of the second CV and of the first number
+// outside its limits, 0 for none.
+struct Noted {
     count: usize,
     sixty_fifth: usize,
     cv: usize,
     second_cv: usize,
     beyond: usize,
+}
+
+// What the FS cards have said so far: the fields and the card of each, and what is noted.
+struct Selected {
+    fields: [Field; 64],
+    cards: [usize; 64],
+    noted: Noted,
 }
 
 // No field and no CV.
@@ -123,14 +128,17 @@ fn no_selection() -> Selected
         output: 0,
         t: 0,
     };
-    Selected {
-        fields: [field; 64],
-        cards: [0; 64],
+    let noted = Noted {
         count: 0,
         sixty_fifth: 0,
         cv: 0,
         second_cv: 0,
         beyond: 0,
+    };
+    Selected {
+        fields: [field; 64],
+        cards: [0; 64],
+        noted,
     }
 }
 
@@ -145,78 +153,88 @@ fn first_card(noted: usize, card: usize) -> usize
 }
 
 // One field more, whatever its numbers are.
-fn placed(state: Selected, card: usize, field: Field) -> Selected
-    ensures { λ r. ⌜ r ≡ placed state card field ⌝ }
+fn counted(noted: Noted, card: usize) -> Noted
+    ensures { λ r. ⌜ r ≡ counted noted card ⌝ }
 {
-    let at = state.count;
-    let mut next = state;
-    if at < FIELDS {
-        next.fields[at] = field;
-        next.cards[at] = card;
-        next.count = at + 1;
+    let count = noted.count;
+    let mut next = noted;
+    if count < FIELDS {
+        next.count = count + 1;
         return next;
     }
-    next.sixty_fifth = first_card(state.sixty_fifth, card);
+    next.sixty_fifth = first_card(noted.sixty_fifth, card);
     next
 }
 
 // One field more.
-fn with_field(state: Selected, card: usize, field: Field) -> Selected
-    ensures { λ r. ⌜ r ≡ withField state card field ⌝ }
+fn field_noted(noted: Noted, card: usize, field: Field) -> Noted
+    ensures { λ r. ⌜ r ≡ fieldNoted noted card field ⌝ }
 {
-    let mut next = placed(state, card, field);
+    let mut next = counted(noted, card);
     if !field_allowed(field) {
-        next.beyond = first_card(state.beyond, card);
+        next.beyond = first_card(noted.beyond, card);
     }
     next
 }
 
 // One CV more. A second one is noted, and no later one.
-fn with_cv(state: Selected, card: usize) -> Selected
-    ensures { λ r. ⌜ r ≡ withCV state card ⌝ }
+fn cv_noted(noted: Noted, card: usize) -> Noted
+    ensures { λ r. ⌜ r ≡ cvNoted noted card ⌝ }
 {
-    let mut next = state;
-    if state.cv == 0 {
+    let mut next = noted;
+    if noted.cv == 0 {
         next.cv = card;
         return next;
     }
-    next.second_cv = first_card(state.second_cv, card);
+    next.second_cv = first_card(noted.second_cv, card);
     next
 }
 
-// The selection after a list, if all of it could be read.
-struct ListRead {
-    state: Selected,
-    read: bool,
+// One item more.
+fn item_noted(noted: Noted, card: usize, read: ItemRead) -> Noted
+    ensures { λ r. ⌜ r ≡ itemNoted noted card read ⌝ }
+{
+    match read {
+        ItemRead::IsField { field, used: _ } => field_noted(noted, card, field),
+        ItemRead::IsCV { used: _ } => cv_noted(noted, card),
+        ItemRead::NoItem { at: _ } => noted,
+    }
 }
 
-// A list is an item and its rest.
-fn list(operand: &[u8], card: usize, state: Selected) -> ListRead
-    ensures { λ r. ⌜ Listed card state (fsOperand (now (operand .entry))) r ⌝ }
+// How many bytes an item took; all that are left, where there is none.
+fn taken(left: usize, read: ItemRead) -> usize
+    ensures { λ r. ⌜ r ≡ takenOf left read ⌝ }
+{
+    match read {
+        ItemRead::IsField { field: _, used } => used,
+        ItemRead::IsCV { used } => used,
+        ItemRead::NoItem { at: _ } => left,
+    }
+}
+
+// A list is an item and its rest. Whether a card's operand is a list is told before any of its items is kept.
+fn list(operand: &[u8]) -> bool
+    ensures { λ r. ⌜ r ≡ isRead (fsOperand (now (operand .entry))) ⌝ }
 {
     let next = readers::item(operand);
     match next {
-        ItemRead::IsField { field, used } => rest(
-            &operand[used..],
-            card,
-            with_field(state, card, field),
-        ),
-        ItemRead::IsCV { used } => rest(&operand[used..], card, with_cv(state, card)),
-        ItemRead::NoItem { at: _ } => ListRead { state, read: false },
+        ItemRead::IsField { field: _, used } => rest(&operand[used..]),
+        ItemRead::IsCV { used } => rest(&operand[used..]),
+        ItemRead::NoItem { at: _ } => false,
     }
 }
 
 // A rest is nothing, or a slash and a list.
-fn rest(operand: &[u8], card: usize, state: Selected) -> ListRead
-    ensures { λ r. ⌜ Listed card state (restOf "/" item (now (operand .entry))) r ⌝ }
+fn rest(operand: &[u8]) -> bool
+    ensures { λ r. ⌜ r ≡ isRead (restOf "/" item (now (operand .entry))) ⌝ }
 {
     if operand.len() == 0 {
-        return ListRead { state, read: true };
+        return true;
     }
     if operand[0] == SLASH {
-        return list(&operand[1..], card, state);
+        return list(&operand[1..]);
     }
-    ListRead { state, read: false }
+    false
 }
 
 // ---- the U card
@@ -458,31 +476,41 @@ struct FsCards {
     unread: usize,
 }
 
-// The FS cards from the line that begins at `from` on. The first of them is card 2.
+// The FS cards from the line that begins at `from` on. The first of them is card 2. Each field is stored in place: a function for each card or item
+// would copy the arrays each time.
 fn fs_cards(deck: &[u8], from: usize) -> FsCards
     ensures { λ r. ⌜ FsSaid 2 noSelection (itemsFrom 2 (fsFirst (cardsIn (drop from (now (deck .entry)))))) r ⌝ }
 {
     let mut state = no_selection();
     let mut card: usize = 2;
     let mut at = from;
-    while at < deck.len() {
+    loop {
         let found = card_at(deck, at);
         let CardAt::FsAt { start, end, next } = found else {
             return FsCards { state, unread: 0 };
         };
-        let listed = list(&deck[start..end], card, state);
-        if !listed.read {
+        if !list(&deck[start..end]) {
             return FsCards {
                 state,
                 unread: card,
             };
         }
-        let selected = listed.state;
-        state = selected;
+        let mut place = start;
+        while place < end {
+            let read = readers::item(&deck[place..end]);
+            let count = state.noted.count;
+            if let ItemRead::IsField { field, used: _ } = read {
+                if count < FIELDS {
+                    state.fields[count] = field;
+                    state.cards[count] = card;
+                }
+            }
+            state.noted = item_noted(state.noted, card, read);
+            place += taken(end - place, read) + 1;
+        }
         card += 1;
         at = next;
     }
-    FsCards { state, unread: 0 }
 }
 
 // ---- refusals 4 to 7
@@ -527,10 +555,10 @@ struct Verdict {
 }
 
 // Refusal 6, and then 7, the U card before the FS cards.
-fn limits_on(parameters: Parameters, selected: Selected) -> Verdict
-    ensures { λ r. ⌜ r ≡ limitsOf parameters selected ⌝ }
+fn limits_on(parameters: Parameters, noted: Noted) -> Verdict
+    ensures { λ r. ⌜ r ≡ limitsOf parameters noted ⌝ }
 {
-    let sixty_fifth = selected.sixty_fifth;
+    let sixty_fifth = noted.sixty_fifth;
     if sixty_fifth != 0 {
         return Verdict {
             number: 6,
@@ -543,7 +571,7 @@ fn limits_on(parameters: Parameters, selected: Selected) -> Verdict
             place: 1,
         };
     }
-    let beyond = selected.beyond;
+    let beyond = noted.beyond;
     if beyond != 0 {
         return Verdict {
             number: 7,
@@ -557,8 +585,8 @@ fn limits_on(parameters: Parameters, selected: Selected) -> Verdict
 }
 
 // Refusal 4, the U card before the FS cards, then 5, and then 6 and 7.
-fn verdict_on(parameters: Parameters, selected: Selected) -> Verdict
-    ensures { λ r. ⌜ r ≡ verdictOf parameters selected ⌝ }
+fn verdict_on(parameters: Parameters, noted: Noted) -> Verdict
+    ensures { λ r. ⌜ r ≡ verdictOf parameters noted ⌝ }
 {
     if parameters.twice {
         return Verdict {
@@ -566,7 +594,7 @@ fn verdict_on(parameters: Parameters, selected: Selected) -> Verdict
             place: 1,
         };
     }
-    let second_cv = selected.second_cv;
+    let second_cv = noted.second_cv;
     if second_cv != 0 {
         return Verdict {
             number: 4,
@@ -579,7 +607,7 @@ fn verdict_on(parameters: Parameters, selected: Selected) -> Verdict
             place: 1,
         };
     }
-    limits_on(parameters, selected)
+    limits_on(parameters, noted)
 }
 
 // ---- decks
@@ -601,6 +629,7 @@ fn asked_for(parameters: Parameters, selected: Selected, fs: usize) -> Asked
     let output = parameters.output;
     let fields = selected.fields;
     let cards = selected.cards;
+    let noted = selected.noted;
     Asked {
         mode,
         format,
@@ -609,9 +638,9 @@ fn asked_for(parameters: Parameters, selected: Selected, fs: usize) -> Asked
         first: parameters.first,
         fields,
         cards,
-        count: selected.count,
+        count: noted.count,
         fs,
-        cv: selected.cv,
+        cv: noted.cv,
     }
 }
 
@@ -652,7 +681,8 @@ fn refused(number: usize, place: usize) -> DeckRead
 fn judged(parameters: Parameters, selected: Selected, fs: usize) -> DeckRead
     ensures { λ r. ⌜ r ≡ judgedAs parameters selected fs ⌝ }
 {
-    let verdict = verdict_on(parameters, selected);
+    let noted = selected.noted;
+    let verdict = verdict_on(parameters, noted);
     let number = verdict.number;
     if number != 0 {
         return refused(number, verdict.place);

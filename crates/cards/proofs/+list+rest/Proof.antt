@@ -1,11 +1,11 @@
--- `cards::list` and `cards::rest` meet their contracts: by the steps of a list, each of which adds an item to the selection. The measure of both is the
+-- `cards::list` and `cards::rest` meet their contracts: by the steps of a list, each of which reads where what is behind it reads. The measure of both is the
 -- bytes of the card that are left.
 use mathlib.Core.List.{List}
-use mathlib.Core.Path.{refl, subst}
+use mathlib.Core.Path.{sym, ap, _∙_, subst}
 use Prim.Native.Nat.{ℕ, _<_}
 use native.Mathlib.Omega.{arith}
 use denote.Ref.{now}
-use lib.ListN.{drop, length}
+use lib.ListN.{length}
 use borrow.Rule.Slice.PartAt.{part-to-end}
 use borrow.Author.Needs.{needs}
 use borrow.Fn.Kinds.{In}
@@ -16,8 +16,7 @@ use Rattle.readers.specs.declared.ItemRead.the-variants.{IsField, IsCV}
 use Rattle.readers.specs.Meaning.{ItemSays}
 use Rattle.readers.proofs.Callers.{field-takes, cv-takes}
 use Rattle.readers.proofs.item.Reads as item-reads
-use Rattle.cards.specs.declared.Selected.{Selected}
-use Rattle.cards.specs.Selected.{Listed}
+use Rattle.cards.specs.Selected.{isRead}
 use Rattle.cards.proofs.ListedLaws.{listed-field, listed-cv, listed-none, listed-end, listed-slash, listed-other}
 use Rattle.cards.proofs.+list+rest.{statement}
 use Rattle.cards.proofs.list.Reads as list
@@ -26,8 +25,6 @@ use Rattle.cards.proofs.+list+rest.Lts-list as list-lts
 use Rattle.cards.proofs.rest.Reads as rest
 use Rattle.cards.proofs.rest.Kinds as rest-kinds
 use Rattle.cards.proofs.+list+rest.Lts-rest as rest-lts
-use Rattle.cards.proofs.with_cv.Reads as with-cv-reads
-use Rattle.cards.proofs.with_field.Reads as with-field-reads
 use Rattle.cards.proofs.+list+rest.Tie.{close}
 
 abbrev μ-list : Measures 1 list-kinds.ps ℕ
@@ -50,7 +47,7 @@ rest-below t = and 1 rest-kinds.ps (falls 1 rest-kinds.ps _<_ μ-rest t) rest.Pr
 
 -- what the functions that each one calls ask and tell
 abbrev list-claims : ℕ → list-lts.Claims
-list-claims t = (item-reads.Asked, item-reads.Learnt, with-field-reads.Asked, with-field-reads.Learnt, rest-below t, rest.Post, with-cv-reads.Asked, with-cv-reads.Learnt)
+list-claims t = (item-reads.Asked, item-reads.Learnt, rest-below t, rest.Post)
 
 abbrev rest-claims : ℕ → rest-lts.Claims
 rest-claims t = (list-below t, list.Post)
@@ -79,12 +76,9 @@ list-part-rest-start t c = is-field t (c .before) .0 .0
 list-part-rest-end : (t : ℕ) → list-lts.Need-part-rest-end (list-claims t) (list-at t) list.Post
 list-part-rest-end t c = search needs
 
-list-with-field-requires : (t : ℕ) → list-lts.Need-with-field-requires (list-claims t) (list-at t) list.Post
-list-with-field-requires t c κs = tt
-
 list-rest-requires : (t : ℕ) → list-lts.Need-rest-requires (list-claims t) (list-at t) list.Post
 list-rest-requires t c κs =
-    let e = is-field t (c .before .before .before) in
+    let e = is-field t (c .before .before) in
     let h = field-takes _ _ _ e in
     let k = e .0 .0 in
     omega arith
@@ -101,12 +95,9 @@ list-part-rest-start-2 t c = is-cv t (c .before) .0
 list-part-rest-end-2 : (t : ℕ) → list-lts.Need-part-rest-end-2 (list-claims t) (list-at t) list.Post
 list-part-rest-end-2 t c = search needs
 
-list-with-cv-requires : (t : ℕ) → list-lts.Need-with-cv-requires (list-claims t) (list-at t) list.Post
-list-with-cv-requires t c κs = tt
-
 list-rest-requires-2 : (t : ℕ) → list-lts.Need-rest-requires-2 (list-claims t) (list-at t) list.Post
 list-rest-requires-2 t c κs =
-    let e = is-cv t (c .before .before .before) in
+    let e = is-cv t (c .before .before) in
     let h = cv-takes _ _ e in
     let k = e .0 in
     omega arith
@@ -116,28 +107,23 @@ list-enum-told t c = search needs
 
 list-returns : (t : ℕ) → list-lts.Need-returns (list-claims t) (list-at t) list.Post
 list-returns t c =
-    let a = c .before .before .before .before .before .before .before .before .args in
-    let g = c .before .before .before .before .next .given .0 in
-    listed-field (a .card) (a .state) (c .rest .result) (now (a .operand)) (g .0) (g .1 .0) (is-field t (c .before .before .before .before))
-    (subst (λ (x : Selected). Listed (a .card) x (restOf "/" item (drop (g .1 .0) (now (a .operand)))) (c .rest .result)) (c .before .with-field .ensures)
-    (subst (λ (l : List ℕ). Listed (a .card) (c .before .with-field .result) (restOf "/" item l) (c .rest .result)) (part-to-end (now (a .operand)) (g .1 .0)) (c .rest .ensures)))
+    let s = now (c .before .before .before .before .before .before .before .args .operand) in
+    let g = c .before .before .before .next .given .0 in
+    c .rest .ensures ∙ ap (λ (l : List ℕ). isRead (restOf "/" item l)) (part-to-end s (g .1 .0)) ∙ sym (listed-field s (g .0) (g .1 .0) (is-field t (c .before .before .before)))
 
 list-returns-2 : (t : ℕ) → list-lts.Need-returns-2 (list-claims t) (list-at t) list.Post
 list-returns-2 t c =
-    let a = c .before .before .before .before .before .before .before .before .args in
-    let n = c .before .before .before .before .next2 .given .0 .0 in
-    listed-cv (a .card) (a .state) (c .rest2 .result) (now (a .operand)) n (is-cv t (c .before .before .before .before))
-    (subst (λ (x : Selected). Listed (a .card) x (restOf "/" item (drop n (now (a .operand)))) (c .rest2 .result)) (c .before .with-cv .ensures)
-    (subst (λ (l : List ℕ). Listed (a .card) (c .before .with-cv .result) (restOf "/" item l) (c .rest2 .result)) (part-to-end (now (a .operand)) n) (c .rest2 .ensures)))
+    let s = now (c .before .before .before .before .before .before .before .args .operand) in
+    let n = c .before .before .before .next2 .given .0 .0 in
+    c .rest2 .ensures ∙ ap (λ (l : List ℕ). isRead (restOf "/" item l)) (part-to-end s n) ∙ sym (listed-cv s n (is-cv t (c .before .before .before)))
 
 list-returns-3 : (t : ℕ) → list-lts.Need-returns-3 (list-claims t) (list-at t) list.Post
 list-returns-3 t c =
-    let a = c .before .before .before .before .args in
-    listed-none (a .card) (a .state) _ (now (a .operand)) (c .enum-told .given .0 .0)
-    (subst (ItemSays (now (a .operand))) (c .enum-told .given .1) (c .before .before .item .ensures)) refl
+    let s = now (c .before .before .before .before .args .operand) in
+    sym (listed-none s (c .enum-told .given .0 .0) (subst (ItemSays s) (c .enum-told .given .1) (c .before .before .item .ensures)))
 
 rest-returns : (t : ℕ) → rest-lts.Need-returns (rest-claims t) (rest-at t) rest.Post
-rest-returns t c = let a = c .before .before .args in listed-end (a .card) (a .state) _ (now (a .operand)) (c .if1 .taken) refl refl
+rest-returns t c = sym (listed-end (now (c .before .before .args .operand)) (c .if1 .taken))
 
 rest-shared-slice-read-if2 : (t : ℕ) → rest-lts.Need-shared-slice-read-if2 (rest-claims t) (rest-at t) rest.Post
 rest-shared-slice-read-if2 t c = omega arith
@@ -159,14 +145,11 @@ rest-list-requires t c κs = omega arith
 
 rest-returns-2 : (t : ℕ) → rest-lts.Need-returns-2 (rest-claims t) (rest-at t) rest.Post
 rest-returns-2 t c =
-    let a = c .before .before .before .before .before .before .args in
-    listed-slash (a .card) (a .state) (c .list .result) (now (a .operand)) (omega arith) (c .before .before .if2 .taken)
-    (subst (λ (l : List ℕ). Listed (a .card) (a .state) (fsOperand l) (c .list .result)) (part-to-end (now (a .operand)) 1) (c .list .ensures))
+    let s = now (c .before .before .before .before .before .before .args .operand) in
+    c .list .ensures ∙ ap (λ (l : List ℕ). isRead (fsOperand l)) (part-to-end s 1) ∙ sym (ap isRead (listed-slash s (omega arith) (c .before .before .if2 .taken)))
 
 rest-returns-3 : (t : ℕ) → rest-lts.Need-returns-3 (rest-claims t) (rest-at t) rest.Post
-rest-returns-3 t c =
-    let a = c .before .before .before .before .args in
-    listed-other (a .card) (a .state) _ (now (a .operand)) (omega arith) (c .if2 .left) refl
+rest-returns-3 t c = sym (listed-other (now (c .before .before .before .before .args .operand)) (omega arith) (c .if2 .left))
 
 pub +list+rest-spec : {M : Type 1} → statement M
 +list+rest-spec = close μ-list μ-rest (λ t. list-lts.spec (list-claims t)
@@ -177,13 +160,11 @@ pub +list+rest-spec : {M : Type 1} → statement M
     (list-sub-rest t)
     (list-part-rest-start t)
     (list-part-rest-end t)
-    (list-with-field-requires t)
     (list-rest-requires t)
     (list-enum-known-next-2 t)
     (list-sub-rest-2 t)
     (list-part-rest-start-2 t)
     (list-part-rest-end-2 t)
-    (list-with-cv-requires t)
     (list-rest-requires-2 t)
     (list-enum-told t)
     (list-returns t)
