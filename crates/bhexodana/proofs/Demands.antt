@@ -33,7 +33,10 @@ pub record RanInto (deck reel before : List ℕ) (r : Ran) (after : List ℕ) : 
   pub answer : r ≡ ranOf (runAnswer (run (length before) deck reel))
   pub output : after ≡ outputAfter before (run (length before) deck reel)
 
--- two outcomes that it allows are equal
+-- two outcomes that they allow are equal
+pub only-one-plan : (deck : List ℕ) (n n′ : Planned) → PlanOf deck n → PlanOf deck n′ → n ≡ n′
+only-one-plan deck n n′ w w′ = w ∙ sym w′
+
 pub only-one-run : (deck reel before : List ℕ) (r r′ : Ran) (after after′ : List ℕ) → RanInto deck reel before r after → RanInto deck reel before r′ after′
     → (r ≡ r′) × (after ≡ after′)
 only-one-run deck reel before r r′ after after′ w w′ = (w .answer ∙ sym (w′ .answer), w .output ∙ sym (w′ .output))

@@ -18,6 +18,9 @@ use Rattle.rules.specs.Plan.{isTC, isTF, isTR, isFF, isFV, isFU, selects, numbe
 use Rattle.rules.specs.Rows.{Within, SizeWithin, UtilityWithin, KindWithin, FieldWithin}
 use Rattle.terms.specs.Meaning.{modeOf, formatOf, sizeOf, kindOf, fieldOf, OneSize, utilityOf, fieldsIn, cvCard, Means, planIn}
 use Rattle.terms.proofs.PlanOf.{plan-means}
+use Rattle.terms.specs.declared.Mode.{Mode as DeclaredMode}
+use Rattle.terms.specs.declared.Format.{Format as DeclaredFormat}
+use Rattle.terms.specs.declared.Size.{Size as DeclaredSize}
 use Rattle.terms.specs.declared.Kind.{Kind}
 use Rattle.terms.specs.declared.Kind.the-variants.{Copy, Pack, Unpack}
 use Rattle.terms.specs.declared.Field.{Field}
@@ -241,3 +244,16 @@ asked-fair x a m u w e =
 
 pub only-one : (x : Asked) (r s : Combined) → r ≡ combinedOf x → s ≡ combinedOf x → r ≡ s
 only-one x r s e q = e ∙ sym q
+
+-- and of what is asked of a mode, a format or a size
+pub selects-only-one : (m : DeclaredMode) (r s : Bool) → r ≡ selects (modeOf m) → s ≡ selects (modeOf m) → r ≡ s
+selects-only-one m r s e q = e ∙ sym q
+
+pub fv-only-one : (f : DeclaredFormat) (r s : Bool) → r ≡ isFV (formatOf f) → s ≡ isFV (formatOf f) → r ≡ s
+fv-only-one f r s e q = e ∙ sym q
+
+pub record-length-only-one : (z : DeclaredSize) (r s : ℕ) → r ≡ recordLength (sizeOf z) → s ≡ recordLength (sizeOf z) → r ≡ s
+record-length-only-one z r s e q = e ∙ sym q
+
+pub block-length-only-one : (z : DeclaredSize) (r s : ℕ) → r ≡ blockLength (sizeOf z) → s ≡ blockLength (sizeOf z) → r ≡ s
+block-length-only-one z r s e q = e ∙ sym q

@@ -49,7 +49,7 @@ const LETTER_U: usize = b'U' as usize;
 const LETTER_V: usize = b'V' as usize;
 
 // A number and how many bytes it took, or the byte at which it stops; the other answers likewise.
-pub enum NumberRead {
+enum NumberRead {
     IsNumber { value: usize, used: usize },
     NoNumber { at: usize },
 }
@@ -122,7 +122,7 @@ fn digit(byte: usize) -> usize
 }
 
 // A number is 1 to 5 digits; of six or more it stops at the sixth.
-pub fn number(s: &[u8]) -> NumberRead
+fn number(s: &[u8]) -> NumberRead
     ensures { λ r. ⌜ NumberSays (now (s .entry)) r ⌝ }
 {
     let mut value: usize = 0;

@@ -13,7 +13,7 @@ ghost use Rattle.reels.specs.Records.{sizedOf, Counted, Judged, ReadAs};
 use terms::Format;
 
 // What a header says: a reel of so many blocks, or no reel.
-pub enum HeaderRead {
+enum HeaderRead {
     Reel { blocks: usize },
     NoReel,
 }
@@ -38,7 +38,7 @@ pub fn word(s: &[u8], at: usize) -> usize
 }
 
 // Whether s is a reel, and of how many blocks: every offset is looked at once.
-pub fn header(s: &[u8]) -> HeaderRead
+fn header(s: &[u8]) -> HeaderRead
     ensures { λ r. ⌜ r ≡ headerOf (now (s .entry)) ⌝ }
 {
     let end = s.len();
@@ -249,7 +249,7 @@ fn variable_piece(b: &[u8], at: usize) -> PieceRead
 }
 
 // What a block is read as: so many records, or it breaks its rule.
-pub enum BlockRead {
+enum BlockRead {
     Records { count: usize },
     Breaks,
 }
@@ -316,7 +316,7 @@ fn counted(form: Form, b: &[u8], from: Cursor) -> BlockRead
 }
 
 // Whether a block, the last of its reel or not, obeys its rule, and how many records it has.
-pub fn rule(form: Form, last: bool, b: &[u8]) -> BlockRead
+fn rule(form: Form, last: bool, b: &[u8]) -> BlockRead
     ensures { λ r. ⌜ Judged form last (now (b .entry)) r ⌝ }
 {
     if sized(form, last, b.len()) {
