@@ -66,7 +66,7 @@ fn block_start(form: Form, s: &[u8], word: usize, from: usize) -> Walk
 }
 
 // Before the first record of a reel.
-pub fn begin(form: Form, s: &[u8]) -> Walk
+fn begin(form: Form, s: &[u8]) -> Walk
     requires { ⌜ Sound form (now s) ⌝ }
     ensures { λ r. ⌜ Begun form (now (s .entry)) r ⌝ }
 {
