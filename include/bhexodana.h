@@ -9,7 +9,7 @@
  *   No pointer may be null, also where its length is 0: lend any address then.
  *   What is lent in one call must not overlap: the deck, the reel, the output and the table are different memory.
  *   The table must be aligned as an array of bhx_field is.
- *   A call needs some 70 KB of stack.
+ *   The calls that were measured used up to some 70 KB of stack.
  *   The deck and the reel are only read. A refused call leaves every byte of the output and every entry of the table as it was. A finished run
  *   leaves the bytes of the output past the length as they were, and a finished plan the entries past the field count.
  *
