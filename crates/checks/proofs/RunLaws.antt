@@ -16,7 +16,7 @@ use Rattle.rules.specs.Reel.{isReel, blocksOf, reelOf}
 use Rattle.rules.specs.Plan.{Plan, selects, isTC}
 use Rattle.rules.specs.Blocks.{recordsFrom, takenFrom}
 use Rattle.rules.specs.Output.{permits, blockOf, blocked}
-use Rattle.rules.specs.Run.{fitting, Ran as RuleRan, outBlocks, ranOf, housed, convert}
+use Rattle.rules.specs.Run.{fitting, Ran as RuleRan, outBlocks, ranOf, housed, convert, outputs, outputBlocks}
 use Rattle.rules.specs.RunRows.{Holds}
 use Rattle.rules.specs.Accepted.{Accepted}
 use Rattle.rules.specs.Lent.{runAnswer}
@@ -25,7 +25,6 @@ use Rattle.rules.proofs.ReelLaws.{blocks-reel, all-blocks}
 use Rattle.rules.proofs.BlocksOutcome.{holds-of}
 use Rattle.rules.proofs.Never.{all-of, permits-other, holds-taken, all-fit}
 use Rattle.rules.proofs.CopyLaws.{blocks-back, copy-blocks}
-use Rattle.rules.proofs.RunParts.{outputs, outputBlocks}
 use Rattle.reels.specs.declared.ReelRead.{ReelRead}
 use Rattle.reels.specs.declared.ReelRead.the-variants.{Read, NotReel, BadBlock}
 use Rattle.walks.specs.Promise.{Good}

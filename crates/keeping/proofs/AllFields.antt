@@ -12,8 +12,9 @@ use Rattle.rules.specs.Places.{All}
 use Rattle.rules.specs.Halves.{Field as RuleField, outputSize, readsFrom, readsMany, writesFrom, fieldHalves, blanks, constant, Source, froms, sources}
 use Rattle.rules.specs.Permitted.{allows, permitted}
 use Rattle.rules.specs.Lent.{zoneF}
+use Rattle.rules.specs.RecordParts.{Fits}
 use Rattle.rules.proofs.AllLaws.{all-take}
-use Rattle.rules.proofs.SizeLaws.{Fits, length-blanks}
+use Rattle.rules.proofs.SizeLaws.{length-blanks}
 use Rattle.rules.proofs.PermittedLaws.{at-all, permitted-step}
 use Rattle.rules.proofs.SourceSteps.{no-sources, length-sources, source-inside, source-before, source-after, reads-room}
 use Rattle.terms.specs.Meaning.{fieldOf, noField}

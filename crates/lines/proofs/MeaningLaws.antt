@@ -15,10 +15,11 @@ use Rattle.rules.specs.Base.{ascii, every}
 use Rattle.rules.specs.Places.{All, noMore, also}
 use Rattle.rules.specs.Reader.{read, after, text}
 use Rattle.rules.specs.Deck.{tidy, uCard, fsCard}
-use Rattle.rules.proofs.ReaderLaws.{stops, text-sound}
+use Rattle.rules.specs.TextParts.{stops, Inner}
+use Rattle.rules.proofs.ReaderLaws.{text-sound}
 use Rattle.rules.proofs.AllLaws.{all-append}
 use Rattle.rules.proofs.PartLaws.{slice-slice}
-use Rattle.rules.proofs.LineLaws.{Inner, next-line, last-line, no-line}
+use Rattle.rules.proofs.LineLaws.{next-line, last-line, no-line}
 use Rattle.rules.proofs.CardPlaces.{every-next, every-fails, every-end, after-other, after-short, after-end, operand-slice, operand-blank, operand-end, card-untidy, card-U, card-UTT, card-FS, card-END, card-END-blank, card-END-other, card-none}
 use Rattle.lines.specs.Meaning.{BeginsSays, OperandEnds, CardSays, inner, PassedSays, LineSays}
 use Rattle.lines.specs.declared.CardRead.the-variants.{UCard, FsCard, EndCard, NoCard}

@@ -12,8 +12,7 @@ use Rattle.rules.specs.Base.{ascii}
 use Rattle.rules.specs.Reader.{read, after}
 use Rattle.rules.specs.Deck.{uCard, fsCard, endCard, lines, operand, cardOf}
 use Rattle.rules.specs.Places.{All}
-use Rattle.rules.proofs.ReaderLaws.{Stopped}
-use Rattle.rules.proofs.LineLaws.{Inner}
+use Rattle.rules.specs.TextParts.{Stopped, Inner}
 use Rattle.lines.specs.declared.CardRead.{CardRead}
 use Rattle.lines.specs.declared.CardRead.the-variants.{UCard, FsCard, EndCard, NoCard}
 use Rattle.lines.specs.declared.LineRead.{LineRead}

@@ -12,9 +12,9 @@ use Rattle.rules.specs.Answer.{fine, refused, each}
 use Rattle.rules.specs.Plan.{Plan, blockLength}
 use Rattle.rules.specs.Blocks.{leastData}
 use Rattle.rules.specs.Output.{cost}
+use Rattle.rules.specs.Run.{outputBlocks}
 use Rattle.rules.proofs.FillSteps.{through, Measure, unmeasured}
 use Rattle.rules.proofs.FitSteps.{each-pass, each-stop, length-measured}
-use Rattle.rules.proofs.RunParts.{outputBlocks}
 use Rattle.terms.specs.declared.Task.{Task}
 use Rattle.reels.specs.declared.Form.{Form}
 use Rattle.walks.specs.declared.Walk.{Walk}

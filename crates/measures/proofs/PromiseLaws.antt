@@ -7,9 +7,8 @@ use Rattle.rules.specs.Answer.{Refusal, each}
 use Rattle.rules.specs.Plan.{Plan}
 use Rattle.rules.specs.Blocks.{takenFrom}
 use Rattle.rules.specs.Output.{permits}
-use Rattle.rules.specs.Run.{fitting}
+use Rattle.rules.specs.Run.{fitting, outputs}
 use Rattle.rules.proofs.AnswerLaws.{not-fine, refuse-same}
-use Rattle.rules.proofs.RunParts.{outputs}
 use Rattle.terms.specs.declared.Task.{Task}
 use Rattle.measures.specs.declared.Measured.{Measured}
 use Rattle.measures.specs.declared.Measured.the-variants.{TooLong, Fits}

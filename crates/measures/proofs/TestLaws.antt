@@ -12,11 +12,11 @@ use Rattle.rules.specs.Grammar.{Mode, tc, tf, tr, trf}
 use Rattle.rules.specs.Plan.{Plan, isTC, blockLength}
 use Rattle.rules.specs.Blocks.{takenFrom}
 use Rattle.rules.specs.Output.{outRecord, cost, total, filledB, blocked}
-use Rattle.rules.specs.Run.{fitting}
+use Rattle.rules.specs.Run.{fitting, outputs, outputBlocks}
 use Rattle.rules.proofs.FillSteps.{through, summed, Measure, unmeasured, opening, behind, measure, measured, filled-blocks, filled-bytes}
 use Rattle.rules.proofs.FitSteps.{eachBlock, nonEmpty-blocks, nonEmpty-bytes, fitsAlone, together-fits, alone-fits}
 use Rattle.rules.proofs.MeasureLaws.{map-joined, alone-step}
-use Rattle.rules.proofs.RunParts.{outputs, outputBlocks, blocked-records}
+use Rattle.rules.proofs.RunParts.{blocked-records}
 use Rattle.walks.specs.Marks.{markedAll, bytesOf, onMarked}
 use Rattle.walks.proofs.MarksLaws.{all-records, all-length, all-map}
 use Rattle.walks.proofs.SizesLaws.{measureMarked, each-marked, fitsMarked, fits-marked}

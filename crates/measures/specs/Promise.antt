@@ -10,8 +10,7 @@ use Rattle.rules.specs.Plan.{Plan, selects, isTC}
 use Rattle.rules.specs.Reel.{reelOf}
 use Rattle.rules.specs.Blocks.{takenFrom}
 use Rattle.rules.specs.Output.{permits, blockOf}
-use Rattle.rules.specs.Run.{fitting}
-use Rattle.rules.proofs.RunParts.{outputs, outputBlocks}
+use Rattle.rules.specs.Run.{fitting, outputs, outputBlocks}
 use Rattle.rules.specs.Lent.{zoneF}
 use Rattle.terms.specs.declared.Task.{Task}
 use Rattle.terms.specs.Meaning.{TaskIs}

@@ -7,7 +7,8 @@ use lib.ListN.{length, getD, drop}
 use Rattle.rules.specs.Reader.{number}
 use Rattle.rules.specs.Halves.{Kind as RuleKind, copy}
 use Rattle.rules.specs.Grammar.{field, kindReader, item}
-use Rattle.rules.proofs.ChoiceLaws.{mark-there, mark-not, numberThen, sizesBehind, kind-copy, fieldBehind, item-field}
+use Rattle.rules.specs.TextParts.{numberThen, sizesBehind, fieldBehind}
+use Rattle.rules.proofs.ChoiceLaws.{mark-there, mark-not, kind-copy, item-field}
 use Rattle.terms.specs.Meaning.{kindOf, fieldOf}
 use Rattle.terms.specs.declared.Kind.{Kind}
 use Rattle.terms.specs.declared.Kind.the-variants.{Copy, Pack, Unpack}

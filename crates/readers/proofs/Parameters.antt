@@ -10,7 +10,8 @@ use lib.ListN.{length, getD}
 use borrow.Author.Tests.{eqb-true, eqb-false}
 use Rattle.rules.specs.Reader.{number}
 use Rattle.rules.specs.Grammar.{Size, two, inputIs, outputIs, firstIs, sizeReader, parameter}
-use Rattle.rules.proofs.ChoiceLaws.{Ending, byte-inside, numberThen, parameter-A=, parameter-B=, parameter-first, sizeBehind, size-open, size-comma}
+use Rattle.rules.specs.TextParts.{numberThen, sizeBehind}
+use Rattle.rules.proofs.ChoiceLaws.{Ending, byte-inside, parameter-A=, parameter-B=, parameter-first, size-open, size-comma}
 use Rattle.readers.specs.Meaning.{Reads, Stops, ReadsFrom, StopsFrom, SizeFrom}
 use Rattle.readers.specs.declared.SizeRead.{SizeRead}
 use Rattle.readers.specs.declared.SizeRead.the-variants.{IsSize, NoSize}

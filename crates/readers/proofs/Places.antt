@@ -6,7 +6,8 @@ use native.Mathlib.Omega.{arith}
 use lib.ListN.{length, getD, drop, length-drop}
 use lib.Seq.{drop-drop}
 use Rattle.rules.specs.Reader.{read, stopped, Reader, number}
-use Rattle.rules.proofs.ChoiceLaws.{byte-inside, mark-there, mark-not, numberThen}
+use Rattle.rules.specs.TextParts.{numberThen}
+use Rattle.rules.proofs.ChoiceLaws.{byte-inside, mark-there, mark-not}
 use Rattle.readers.specs.Meaning.{Reads, Stops, ReadsFrom, StopsFrom}
 
 -- places of a part, as places of the whole

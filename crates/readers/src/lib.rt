@@ -6,7 +6,7 @@ ghost use Prim.Native.Nat.{_≤_};
 ghost use lib.ListN.{length, getD};
 ghost use Rattle.rules.specs.Reader.{number as ruleNumber};
 ghost use Rattle.rules.specs.Grammar.{sizeReader, kindReader};
-ghost use Rattle.rules.proofs.ChoiceLaws.{numberThen, sizeBehind, sizesBehind, fieldBehind};
+ghost use Rattle.rules.specs.TextParts.{numberThen, sizeBehind, sizesBehind, fieldBehind};
 ghost use Rattle.terms.specs.Meaning.{kindOf};
 ghost use Rattle.readers.specs.Meaning.{digitValue, NumberSays, NumberFrom, SizeFrom, KindFrom, Sized, ParameterSays, ItemSays, ItemFrom};
 use terms::Field;

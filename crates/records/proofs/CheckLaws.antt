@@ -12,8 +12,8 @@ use Rattle.rules.specs.Halves.{halves, Kind as RuleKind, copy, inputSize, Field
 use Rattle.rules.specs.Permitted.{kindAllows, permitted}
 use Rattle.rules.specs.Output.{mayBe}
 use Rattle.rules.specs.Lent.{zoneF}
+use Rattle.rules.specs.RecordParts.{fieldInput}
 use Rattle.rules.proofs.AllLaws.{all-take, all-drop}
-use Rattle.rules.proofs.FieldSteps.{fieldInput}
 use Rattle.rules.proofs.FieldTests.{copy-permitted, fields-tested}
 use Rattle.terms.specs.Meaning.{kindOf, fieldOf}
 use Rattle.terms.specs.declared.Kind.{Kind}

@@ -12,8 +12,8 @@ use Rattle.rules.specs.Places.{All, also}
 use Rattle.rules.specs.Halves.{Kind as RuleKind, copy, pack, unpack, inputSize, outputSize, Field as RuleField, over}
 use Rattle.rules.specs.Lent.{kindNumber}
 use Rattle.rules.specs.Rows.{KindWithin}
+use Rattle.rules.specs.RecordParts.{Fits}
 use Rattle.rules.proofs.AllLaws.{all-at}
-use Rattle.rules.proofs.SizeLaws.{Fits}
 use Rattle.rules.proofs.PlaceLaws.{over-behind}
 use Rattle.terms.specs.Meaning.{kindOf, fieldOf, noField}
 use Rattle.terms.specs.declared.Kind.{Kind}

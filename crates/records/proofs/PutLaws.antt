@@ -12,10 +12,10 @@ use borrow.Rule.Slice.PartMut.{putMid}
 use Rattle.rules.specs.Halves.{outputSize, Field as RuleField, over, halves, bytes, outHalves, value, packBytes, unpackBytes}
 use Rattle.rules.specs.Rows.{KindWithin}
 use Rattle.rules.specs.Lent.{zoneF}
+use Rattle.rules.specs.RecordParts.{Fits, convertedBytes, fieldInput, fieldBytes, writtenBytes}
 use Rattle.rules.proofs.AllLaws.{all-imply}
-use Rattle.rules.proofs.SizeLaws.{Fits}
 use Rattle.rules.proofs.PlaceLaws.{over-behind}
-use Rattle.rules.proofs.FieldSteps.{convertedBytes, fieldInput, fieldBytes, writtenBytes, writtenBytes-step, length-fieldBytes, length-writtenBytes, written-rest, out-bytes}
+use Rattle.rules.proofs.FieldSteps.{writtenBytes-step, length-fieldBytes, length-writtenBytes, written-rest, out-bytes}
 use Rattle.rules.proofs.LentParts.{part-length, part-over, front-over}
 use Rattle.terms.specs.Meaning.{kindOf, fieldOf}
 use Rattle.terms.specs.declared.Kind.{Kind}

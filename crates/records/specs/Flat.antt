@@ -9,7 +9,7 @@ use Rattle.rules.specs.Places.{All}
 use Rattle.rules.specs.Halves.{inputSize, outputSize, Field as RuleField}
 use Rattle.rules.specs.Lent.{kindNumber}
 use Rattle.rules.specs.Rows.{KindWithin}
-use Rattle.rules.proofs.SizeLaws.{Fits}
+use Rattle.rules.specs.RecordParts.{Fits}
 use Rattle.terms.specs.declared.Kind.{Kind}
 use Rattle.terms.specs.declared.Kind.the-variants.{Copy, Pack, Unpack}
 use Rattle.terms.specs.declared.Field.{Field}

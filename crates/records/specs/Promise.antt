@@ -9,7 +9,7 @@ use Rattle.rules.specs.Halves.{halves, bytes, Field, over, outHalves, value}
 use Rattle.rules.specs.Permitted.{permitted}
 use Rattle.rules.specs.Output.{mayBe}
 use Rattle.rules.specs.Lent.{zoneF}
-use Rattle.rules.proofs.FieldSteps.{writtenBytes}
+use Rattle.rules.specs.RecordParts.{writtenBytes}
 use Rattle.records.specs.Flat.{flatOf, FlatFair}
 
 -- whether the halves of the first a bytes are permitted

@@ -8,8 +8,8 @@ use lib.ListN.{length, take, drop, getD, length-take, drop-of-length-le}
 use lib.Seq.{slice}
 use borrow.Author.Tests.{le-leb, lt-leb}
 use Rattle.rules.specs.Reel.{blockCount, isReel, blocksOf}
-use Rattle.rules.proofs.WordLaws.{wordAt}
-use Rattle.rules.proofs.HeaderSteps.{offsetAt, next-at}
+use Rattle.rules.specs.ReelPlaces.{wordAt, offsetAt}
+use Rattle.rules.proofs.HeaderSteps.{next-at}
 use Rattle.rules.proofs.PieceLaws.{slice-taken}
 use Rattle.rules.proofs.ReelLaws.{header-is}
 use Rattle.rules.proofs.ReelSteps.{offset-most, blocks-step, block-at}

@@ -5,7 +5,7 @@ use mathlib.Core.List.{List}
 use Prim.Native.Nat.{ℕ}
 use Rattle.rules.specs.Reel.{word}
 use Rattle.rules.specs.Plan.{Plan}
-use Rattle.rules.proofs.WordLaws.{wordAt}
+use Rattle.rules.specs.ReelPlaces.{wordAt}
 use Rattle.reels.specs.Header.{headerOf, partAt}
 use Rattle.reels.specs.Words.{written, lengthWritten}
 use Rattle.reels.specs.Form.{FormIs}

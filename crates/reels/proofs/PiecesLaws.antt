@@ -12,8 +12,9 @@ use borrow.Author.Tests.{le-leb, lt-leb, lt-ltb, le-ltb, eq-eqb, ne-eqb, leb-tru
 use Rattle.rules.specs.Grammar.{Format, ff, fv, fu}
 use Rattle.rules.specs.Blocks.{Piece, wordLength, headed, withPiece, piecesIn}
 use Rattle.rules.specs.Output.{cost}
+use Rattle.rules.specs.ReelPlaces.{piecesAt, pieceFrom, goodFrom, behind, goodStart}
 use Rattle.rules.proofs.BlockWords.{Headed, headed-exactly, wordLength-at}
-use Rattle.rules.proofs.BlockSteps.{headed-short, piecesAt, pieceFrom, goodFrom, behind, goodStart, pieces-start, pieces-end, good-inside, pieces-good, pieces-bad}
+use Rattle.rules.proofs.BlockSteps.{headed-short, pieces-start, pieces-end, good-inside, pieces-good, pieces-bad}
 use Rattle.rules.proofs.PieceLaws.{takes-some, pieces-none}
 use Rattle.reels.specs.Pieces.{lengthOf, startIn, variableStart, found, pieceIn, fixedPiece}
 use Rattle.reels.specs.declared.LengthRead.the-variants.{Length, NoLength}

@@ -13,8 +13,9 @@ use Rattle.rules.specs.Base.{_⇒_, every}
 use Rattle.rules.specs.Grammar.{Format, ff, fv, fu}
 use Rattle.rules.specs.Plan.{Plan, isFF, recordLength, blockLength}
 use Rattle.rules.specs.Blocks.{Piece, wordLength, headed, withPiece, piecesIn, leastData, meets, dataOf, recordsOf, recordsIn}
+use Rattle.rules.specs.ReelPlaces.{piecesAt}
 use Rattle.rules.proofs.Tests.{and-both, asks}
-use Rattle.rules.proofs.BlockSteps.{piecesAt, pieces-end}
+use Rattle.rules.proofs.BlockSteps.{pieces-end}
 use Rattle.terms.specs.Meaning.{formatOf}
 use Rattle.terms.specs.declared.Format.the-variants.{FF}
 use Rattle.reels.specs.Form.{FormIs}

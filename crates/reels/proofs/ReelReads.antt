@@ -13,7 +13,7 @@ use Rattle.rules.specs.Answer.{Answer, fine, refuse, refused, _>>=_}
 use Rattle.rules.specs.Reel.{blockCount, isReel, blocksOf}
 use Rattle.rules.specs.Plan.{Plan}
 use Rattle.rules.specs.Blocks.{recordsIn, recordsFrom}
-use Rattle.rules.proofs.HeaderSteps.{offsetAt}
+use Rattle.rules.specs.ReelPlaces.{offsetAt}
 use Rattle.rules.proofs.ReelSteps.{offset-most, offset-rises, blocks-end, block-last, length-block}
 use Rattle.rules.proofs.TakenLaws.{after, after-none, blocks-good, blocks-bad}
 use Rattle.reels.specs.Form.{FormIs}

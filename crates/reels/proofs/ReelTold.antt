@@ -17,10 +17,11 @@ use Rattle.rules.specs.Plan.{Plan, recordLength, blockLength}
 use Rattle.rules.specs.Blocks.{leastData, recordsIn, recordsFrom}
 use Rattle.rules.specs.Output.{cost}
 use Rattle.rules.specs.Accepted.{Accepted}
+use Rattle.rules.specs.ReelPlaces.{goodStart, recordsAt}
 use Rattle.rules.proofs.Tests.{and-left, and-right}
 use Rattle.rules.proofs.BlockSizes.{least-one}
-use Rattle.rules.proofs.BlockSteps.{goodStart, good-inside}
-use Rattle.rules.proofs.RecordSteps.{recordsAt, fixed-pos, records-next, records-done, sizeOf, opens, records-start}
+use Rattle.rules.proofs.BlockSteps.{good-inside}
+use Rattle.rules.proofs.RecordSteps.{fixed-pos, records-next, records-done, sizeOf, opens, records-start}
 use Rattle.rules.proofs.ReelLaws.{length-blocks}
 use Rattle.rules.proofs.ReelSteps.{block-last}
 use Rattle.rules.proofs.PieceLaws.{refused-block, read-at}

@@ -6,7 +6,7 @@ use lib.Dec.{leb}
 use lib.ListN.{length}
 use lib.Seq.{slice}
 use Rattle.rules.specs.Reel.{blockCount, isReel}
-use Rattle.rules.proofs.HeaderSteps.{offsetAt}
+use Rattle.rules.specs.ReelPlaces.{offsetAt}
 use Rattle.reels.specs.declared.HeaderRead.{HeaderRead}
 use Rattle.reels.specs.declared.HeaderRead.the-variants.{Reel, NoReel}
 

@@ -7,7 +7,7 @@ use lib.ListN.{length}
 use Rattle.rules.specs.Grammar.{Format, fv}
 use Rattle.rules.specs.Blocks.{Piece, wordLength, headed}
 use Rattle.rules.specs.Output.{cost}
-use Rattle.rules.proofs.BlockSteps.{pieceFrom, goodFrom, behind, goodStart}
+use Rattle.rules.specs.ReelPlaces.{pieceFrom, goodFrom, behind, goodStart}
 use Rattle.terms.specs.Meaning.{formatOf}
 use Rattle.reels.specs.declared.Form.{Form}
 use Rattle.reels.specs.declared.LengthRead.{LengthRead}

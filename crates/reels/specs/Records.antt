@@ -11,7 +11,7 @@ use Rattle.rules.specs.Answer.{Answer, fine, refuse}
 use Rattle.rules.specs.Reel.{isReel, blocksOf}
 use Rattle.rules.specs.Plan.{Plan, isFF}
 use Rattle.rules.specs.Blocks.{Piece, recordsIn, recordsFrom}
-use Rattle.rules.proofs.BlockSteps.{piecesAt}
+use Rattle.rules.specs.ReelPlaces.{piecesAt}
 use Rattle.terms.specs.Meaning.{formatOf}
 use Rattle.reels.specs.Form.{FormIs}
 use Rattle.reels.specs.declared.Form.{Form}

@@ -5,7 +5,7 @@ ghost use mathlib.Core.List.{[], _∷_};
 ghost use Prim.Native.Nat.{_+_, _≤_, _<_};
 ghost use lib.ListN.{length, drop};
 ghost use Rattle.rules.specs.Reel.{word};
-ghost use Rattle.rules.proofs.WordLaws.{wordAt};
+ghost use Rattle.rules.specs.ReelPlaces.{wordAt};
 ghost use Rattle.reels.specs.Words.{written, lengthWritten};
 ghost use Rattle.reels.specs.Header.{headerOf, partAt};
 ghost use Rattle.reels.specs.Pieces.{lengthOf, variableStart, startOf, fixedPiece, variablePiece, pieceOf};

@@ -15,6 +15,9 @@ pub mod Output
 pub mod Run
 pub mod Lent
 pub mod Places
+pub mod TextParts
+pub mod ReelPlaces
+pub mod RecordParts
 pub mod Texts
 pub mod Rows
 pub mod RunRows

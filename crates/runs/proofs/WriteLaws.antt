@@ -15,13 +15,13 @@ use Rattle.rules.specs.Halves.{over}
 use Rattle.rules.specs.Reel.{isReel, blocksOf, reelOf}
 use Rattle.rules.specs.Plan.{Plan, isTC}
 use Rattle.rules.specs.Output.{blockOf}
-use Rattle.rules.specs.Run.{Ran as RuleRan, ranOf, convert}
+use Rattle.rules.specs.Run.{Ran as RuleRan, ranOf, convert, outputBlocks}
 use Rattle.rules.specs.Accepted.{Accepted}
 use Rattle.rules.specs.Lent.{zoneF, runAnswer, outputAfter}
 use Rattle.rules.proofs.ReelLaws.{all-blocks}
 use Rattle.rules.proofs.BlocksOutcome.{holds-of}
 use Rattle.rules.proofs.LentParts.{front-over}
-use Rattle.rules.proofs.RunParts.{outputBlocks, Finished, finished, Without, without-each, without-convert}
+use Rattle.rules.proofs.RunParts.{Finished, finished, Without, without-each, without-convert}
 use Rattle.terms.specs.declared.Asked.{Asked}
 use Rattle.terms.specs.declared.Task.{Task}
 use Rattle.terms.specs.Meaning.{modeOf, fieldOf, fieldsIn, planIn, TaskIs}

@@ -8,7 +8,7 @@ use native.Mathlib.Omega.{arith}
 use lib.ListN.{length}
 use borrow.Author.Tests.{lt-ltb, le-ltb, lt-leb, le-leb}
 use Rattle.rules.specs.Output.{cost}
-use Rattle.rules.proofs.WordLaws.{wordAt}
+use Rattle.rules.specs.ReelPlaces.{wordAt}
 use Rattle.rules.proofs.ReelLaws.{header-is}
 use Rattle.terms.specs.Meaning.{formatOf}
 use Rattle.reels.specs.declared.Form.{Form}

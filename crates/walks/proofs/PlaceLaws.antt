@@ -13,11 +13,12 @@ use Rattle.rules.specs.Grammar.{Format, ff, fv, fu}
 use Rattle.rules.specs.Reel.{blockCount, isReel}
 use Rattle.rules.specs.Blocks.{Piece, dataOf}
 use Rattle.rules.specs.Output.{cost}
-use Rattle.rules.proofs.HeaderSteps.{offsetAt, next-at}
+use Rattle.rules.specs.ReelPlaces.{offsetAt, pieceFrom, goodFrom, behind}
+use Rattle.rules.proofs.HeaderSteps.{next-at}
 use Rattle.rules.proofs.ReelSteps.{offset-last}
 use Rattle.rules.proofs.PieceLaws.{slice-taken}
 use Rattle.rules.proofs.BlockWords.{headed-exactly, wordLength-at}
-use Rattle.rules.proofs.BlockSteps.{pieceFrom, goodFrom, behind, data-slice}
+use Rattle.rules.proofs.BlockSteps.{data-slice}
 use Rattle.reels.specs.Header.{partAt}
 use Rattle.reels.proofs.HeaderLaws.{part-there, words-missing, part-outside}
 use Rattle.walks.specs.Walking.{endIn}

@@ -16,8 +16,9 @@ use Rattle.rules.specs.Accepted.{Accepted}
 use Rattle.rules.specs.Reel.{blockCount, isReel, blocksOf}
 use Rattle.rules.specs.Blocks.{recordsFrom}
 use Rattle.rules.specs.Output.{cost}
+use Rattle.rules.specs.ReelPlaces.{recordsAt}
 use Rattle.rules.proofs.ReelLaws.{length-blocks}
-use Rattle.rules.proofs.RecordSteps.{recordsAt, records-end, records-done}
+use Rattle.rules.proofs.RecordSteps.{records-end, records-done}
 use Rattle.rules.proofs.MarkedLaws.{first-block, no-more-blocks}
 use Rattle.terms.specs.Meaning.{formatOf}
 use Rattle.reels.specs.declared.Form.{Form}

@@ -13,9 +13,10 @@ use Rattle.rules.specs.Plan.{Plan, recordLength}
 use Rattle.rules.specs.Reel.{blockCount, isReel}
 use Rattle.rules.specs.Blocks.{Piece, takenFrom}
 use Rattle.rules.specs.Output.{cost}
-use Rattle.rules.proofs.HeaderSteps.{offsetAt, next-at}
+use Rattle.rules.specs.ReelPlaces.{offsetAt, behind}
+use Rattle.rules.proofs.HeaderSteps.{next-at}
 use Rattle.rules.proofs.ReelSteps.{offset-rises, offset-last, offset-most}
-use Rattle.rules.proofs.BlockSteps.{behind, good-inside}
+use Rattle.rules.proofs.BlockSteps.{good-inside}
 use Rattle.rules.proofs.RecordSteps.{pieceOf, Next, fixed-pos, records-next}
 use Rattle.terms.specs.Meaning.{formatOf}
 use Rattle.reels.specs.declared.Form.{Form}

@@ -11,7 +11,7 @@ use Rattle.rules.specs.Plan.{Plan}
 use Rattle.rules.specs.Accepted.{Accepted}
 use Rattle.rules.specs.Reel.{blockCount, isReel, blocksOf}
 use Rattle.rules.specs.Blocks.{leastData, recordsFrom, takenFrom}
-use Rattle.rules.proofs.RecordSteps.{recordsAt}
+use Rattle.rules.specs.ReelPlaces.{recordsAt}
 use Rattle.reels.specs.declared.Form.{Form}
 use Rattle.reels.specs.Form.{FormIs}
 use Rattle.reels.specs.Header.{partAt}

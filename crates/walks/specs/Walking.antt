@@ -7,8 +7,7 @@ use lib.ListN.{length, getD}
 use Rattle.rules.specs.Grammar.{Format, ff, fv, fu}
 use Rattle.rules.specs.Output.{cost}
 use Rattle.rules.specs.Reel.{blockCount}
-use Rattle.rules.proofs.WordLaws.{wordAt}
-use Rattle.rules.proofs.HeaderSteps.{offsetAt}
+use Rattle.rules.specs.ReelPlaces.{wordAt, offsetAt}
 use Rattle.terms.specs.Meaning.{formatOf}
 use Rattle.reels.specs.declared.Form.{Form}
 use Rattle.walks.specs.declared.Walk.{Walk}

@@ -16,11 +16,12 @@ use Rattle.rules.specs.Plan.{Plan, selects, recordLength}
 use Rattle.rules.specs.Blocks.{leastData}
 use Rattle.rules.specs.Output.{outRecord, selected, cost}
 use Rattle.rules.specs.Lent.{zoneF}
+use Rattle.rules.specs.RecordParts.{Fits}
+use Rattle.rules.specs.ReelPlaces.{wordAt, headerOf}
 use Rattle.rules.proofs.AllLaws.{all-imply}
-use Rattle.rules.proofs.SizeLaws.{Fits}
 use Rattle.rules.proofs.ReelLaws.{length-reel}
-use Rattle.rules.proofs.WordLaws.{wordAt, length-word, word-left, word-written}
-use Rattle.rules.proofs.ReelWriting.{headerOf, header-length}
+use Rattle.rules.proofs.WordLaws.{length-word, word-left, word-written}
+use Rattle.rules.proofs.ReelWriting.{header-length}
 use Rattle.rules.proofs.BlockSizes.{least-selects}
 use Rattle.rules.proofs.RecordLaws.{fits-of}
 use Rattle.terms.specs.declared.Task.{Task}

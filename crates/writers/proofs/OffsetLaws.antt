@@ -12,9 +12,10 @@ use Rattle.rules.specs.Plan.{recordLength}
 use Rattle.rules.specs.Rows.{SizeWithin}
 use Rattle.rules.specs.Blocks.{leastData, takenFrom}
 use Rattle.rules.specs.Output.{outRecord, cost}
+use Rattle.rules.specs.ReelPlaces.{headerOf}
 use Rattle.rules.proofs.ReelLaws.{length-reel, header-is}
 use Rattle.rules.proofs.WordLaws.{length-word}
-use Rattle.rules.proofs.ReelWriting.{headerOf, header-length}
+use Rattle.rules.proofs.ReelWriting.{header-length}
 use Rattle.rules.proofs.BlockSizes.{size-most}
 use Rattle.terms.specs.declared.Task.{Task}
 use Rattle.reels.specs.declared.Form.{Form}

@@ -15,10 +15,10 @@ use Rattle.rules.specs.Plan.{Plan, selects, isTF, isTC, recordLength, blockLeng
 use Rattle.rules.specs.Blocks.{leastData, takenFrom}
 use Rattle.rules.specs.Output.{outRecord, blockOf, cost, filled, filledB, blocked}
 use Rattle.rules.specs.Accepted.{Accepted}
+use Rattle.rules.specs.Run.{outputs, outputBlocks}
 use Rattle.rules.proofs.ReelLaws.{length-reel}
 use Rattle.rules.proofs.BlockSizes.{least-selects, least-one}
 use Rattle.rules.proofs.RecordLaws.{length-outRecord}
-use Rattle.rules.proofs.RunParts.{outputs, outputBlocks}
 use Rattle.rules.proofs.Never.{output-other}
 use Rattle.terms.specs.Meaning.{modeOf, TaskIs}
 use Rattle.terms.specs.declared.Task.{Task}

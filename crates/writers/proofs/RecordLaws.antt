@@ -10,11 +10,11 @@ use Rattle.rules.specs.Halves.{Field, over, bytes, outHalves, halves, value}
 use Rattle.rules.specs.Plan.{selects}
 use Rattle.rules.specs.Output.{cost}
 use Rattle.rules.specs.Lent.{zoneF}
+use Rattle.rules.specs.ReelPlaces.{wordAt}
 use Rattle.rules.proofs.SizeLaws.{length-over}
 use Rattle.rules.proofs.PlaceLaws.{over-behind}
 use Rattle.rules.proofs.LentParts.{rest-over}
 use Rattle.rules.proofs.FieldSteps.{out-bytes, length-writtenBytes}
-use Rattle.rules.proofs.WordLaws.{wordAt}
 use Rattle.terms.specs.Meaning.{modeOf, formatOf}
 use Rattle.terms.specs.declared.Mode.{Mode}
 use Rattle.terms.specs.declared.Format.{Format}

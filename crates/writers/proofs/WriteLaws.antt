@@ -10,15 +10,15 @@ use Rattle.rules.specs.Halves.{over}
 use Rattle.rules.specs.Reel.{word, ends, reelOf}
 use Rattle.rules.specs.Plan.{Plan, isTC}
 use Rattle.rules.specs.Output.{blockOf}
-use Rattle.rules.specs.Run.{ranOf}
+use Rattle.rules.specs.Run.{ranOf, outputBlocks}
 use Rattle.rules.specs.Lent.{zoneF}
+use Rattle.rules.specs.ReelPlaces.{headerOf}
 use Rattle.rules.proofs.LentParts.{front-over}
-use Rattle.rules.proofs.RunParts.{outputBlocks}
 use Rattle.rules.proofs.SizeLaws.{length-over}
 use Rattle.rules.proofs.PlaceLaws.{over-behind}
 use Rattle.rules.proofs.WordLaws.{length-word}
 use Rattle.rules.proofs.ReelLaws.{length-reel}
-use Rattle.rules.proofs.ReelWriting.{headerOf, header-length, reel-parts}
+use Rattle.rules.proofs.ReelWriting.{header-length, reel-parts}
 use Rattle.terms.specs.Meaning.{TaskIs}
 use Rattle.terms.specs.declared.Task.{Task}
 use Rattle.reels.specs.Words.{written}

@@ -11,9 +11,8 @@ use Rattle.rules.specs.Reel.{ends, reelOf}
 use Rattle.rules.specs.Plan.{Plan, selects, isTC}
 use Rattle.rules.specs.Output.{blockOf, cost}
 use Rattle.rules.specs.Lent.{zoneF}
-use Rattle.rules.proofs.RunParts.{outputBlocks}
-use Rattle.rules.proofs.WordLaws.{wordAt}
-use Rattle.rules.proofs.ReelWriting.{headerOf}
+use Rattle.rules.specs.Run.{outputBlocks}
+use Rattle.rules.specs.ReelPlaces.{wordAt, headerOf}
 use Rattle.terms.specs.Meaning.{modeOf, formatOf, TaskIs}
 use Rattle.terms.specs.declared.Task.{Task}
 use Rattle.records.specs.Flat.{flatOf, FlatFair, Fielded}

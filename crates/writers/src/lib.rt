@@ -7,7 +7,7 @@ ghost use lib.Dec.{ltb};
 ghost use lib.ListN.{length};
 ghost use Rattle.rules.specs.Halves.{over};
 ghost use Rattle.rules.specs.Output.{cost};
-ghost use Rattle.rules.proofs.WordLaws.{wordAt};
+ghost use Rattle.rules.specs.ReelPlaces.{wordAt};
 ghost use Rattle.terms.specs.Meaning.{formatOf};
 ghost use Rattle.tasks.specs.Promise.{lengthOf};
 ghost use Rattle.writers.specs.Writing.{opensOf, Small, firstPlace, nextPlace, offsetPut, sizeWord};

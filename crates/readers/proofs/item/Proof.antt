@@ -4,7 +4,8 @@ use borrow.Author.Needs.{needs}
 use denote.Ref.{now}
 use lib.ListN.{getD}
 use native.Mathlib.Omega.{arith}
-use Rattle.rules.proofs.ChoiceLaws.{byte-inside, numberThen, item-is-CV, item-C-else}
+use Rattle.rules.specs.TextParts.{numberThen}
+use Rattle.rules.proofs.ChoiceLaws.{byte-inside, item-is-CV, item-C-else}
 use Rattle.readers.specs.Meaning.{NumberFrom, ReadsFrom}
 use Rattle.readers.proofs.Items.{item-goes, item-stops}
 use Rattle.readers.proofs.item.Statement.{statement}

@@ -5,7 +5,8 @@ use borrow.Author.Needs.{needs}
 use denote.Ref.{now}
 use lib.ListN.{getD}
 use native.Mathlib.Omega.{arith}
-use Rattle.rules.proofs.ChoiceLaws.{byte-inside, numberThen, size-close, size-neither}
+use Rattle.rules.specs.TextParts.{numberThen}
+use Rattle.rules.proofs.ChoiceLaws.{byte-inside, size-close, size-neither}
 use Rattle.readers.specs.Meaning.{NumberFrom}
 use Rattle.readers.proofs.Parameters.{second-read, second-stop}
 use Rattle.readers.proofs.size_behind.Statement.{statement}

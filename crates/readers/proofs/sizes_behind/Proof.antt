@@ -5,7 +5,8 @@ use borrow.Author.Needs.{needs}
 use denote.Ref.{now}
 use lib.ListN.{getD}
 use native.Mathlib.Omega.{arith}
-use Rattle.rules.proofs.ChoiceLaws.{byte-inside, numberThen}
+use Rattle.rules.specs.TextParts.{numberThen}
+use Rattle.rules.proofs.ChoiceLaws.{byte-inside}
 use Rattle.terms.specs.Meaning.{kindOf}
 use Rattle.readers.specs.Meaning.{NumberFrom, ReadsFrom}
 use Rattle.readers.proofs.Items.{one-size, no-comma, first-stops, second-stops, both-read}

@@ -1,7 +1,7 @@
 -- The number at a place is the number of the four bytes there, each of which is below 256.
 use borrow.Author.Needs.{needs}
 use native.Mathlib.Omega.{arith}
-use Rattle.rules.proofs.WordLaws.{wordAt}
+use Rattle.rules.specs.ReelPlaces.{wordAt}
 use Rattle.reels.proofs.word.Statement.{statement}
 use Rattle.reels.proofs.word.Tie as tie
 
