@@ -65,7 +65,7 @@ unfolding run
 finished-run deck reel before r after a w z = go (run (length before) deck reel) refl
   where
     go : (y : Answer RuleRan) → run (length before) deck reel ≡ y → (x : RuleRan) × (run (length before) deck reel ≡ fine x) × (reelIn r after ≡ x .reel) × (r .records ≡ x .records)
-    go (refuse q) d = absurd (run-never-0 zoneF (length before) deck reel a q d (sym (ap (λ (n : Ran). n .refusal) (w .answer ∙ ap (λ (y : Answer RuleRan). ranOf (runAnswer y)) d)) ∙ z))
+    go (refuse q) d = absurd (run-never-0 zoneF (length before) (omega arith) deck reel a q d (sym (ap (λ (n : Ran). n .refusal) (w .answer ∙ ap (λ (y : Answer RuleRan). ranOf (runAnswer y)) d)) ∙ z))
     go (fine x) d =
         let is : r ≡ ranOf (runAnswer (fine x)) = w .answer ∙ ap (λ (y : Answer RuleRan). ranOf (runAnswer y)) d in
         let out : after ≡ outputAfter before (fine x) = w .output ∙ ap (outputAfter before) d in (

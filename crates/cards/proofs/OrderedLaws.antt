@@ -8,14 +8,13 @@ use Prim.Native.Nat.{ℕ, suc, _+_, _-_, _≤_}
 use native.Mathlib.Omega.{arith}
 use lib.ListN.{length, drop, length-append}
 use lib.Seq.{slice}
-use Rattle.rules.specs.Places.{Found}
+use Rattle.rules.specs.Places.{Found, Both, none-left, both}
 use Rattle.rules.specs.Answer.{Refusal, Answer, fine, refuse, _>>=_, _>>_}
 use Rattle.rules.specs.Reader.{Read, read, stopped}
 use Rattle.rules.specs.Deck.{uCard, fsCard, endCard}
 use Rattle.rules.specs.Order.{Operands, operandsOf}
 use Rattle.rules.specs.Grammar.{Parameter, Item, uOperand, fsOperand}
 use Rattle.rules.specs.Asked.{grammatical, itemsFrom, Cards, cardsOf, once, Asked as RuleAsked, askedOf}
-use Rattle.rules.specs.Rows.{Both, none-left, both}
 use Rattle.rules.proofs.AnswerLaws.{fine-bind}
 use Rattle.rules.proofs.Given.{Outcome, found-low}
 use Rattle.rules.proofs.CardsOutcome.{Stops, items-outcome, items-fine}

@@ -28,10 +28,12 @@ pub mod PlaceLaws
 pub mod BytePlaces
 pub mod HalfBytes
 pub mod PermittedLaws
+pub mod AllowedWords
 pub mod PackHalves
 pub mod PackLaws
 pub mod FieldSteps
 pub mod SourceSteps
+pub mod SourceWords
 pub mod FieldChecks
 pub mod FieldTests
 pub mod KeepingSteps
@@ -52,6 +54,7 @@ pub mod PlanTable
 pub mod RunTable
 pub mod CardLaws
 pub mod ConvertsLaws
+pub mod OutputWords
 pub mod Twins
 pub mod Demand3
 pub mod BlockSteps
@@ -69,6 +72,8 @@ pub mod CardPlaces
 pub mod RunParts
 pub mod Never
 pub mod CopyLaws
+pub mod OutBlockWords
+pub mod FitWords
 pub mod FullBlocks
 pub mod ReadBack
 pub mod TakenRecords

@@ -19,6 +19,7 @@ pub mod TextParts
 pub mod ReelPlaces
 pub mod RecordParts
 pub mod Texts
+pub mod InWords
 pub mod Rows
 pub mod RunRows
 pub mod Taken
