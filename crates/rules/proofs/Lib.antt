@@ -77,6 +77,7 @@ pub mod FitWords
 pub mod FullBlocks
 pub mod ReadBack
 pub mod TakenRecords
+pub mod SaidLaws
 pub mod Apart
 pub mod Confused
 pub mod PlanSteps

@@ -25,4 +25,5 @@ pub mod RunRows
 pub mod Taken
 pub mod Accepted
 pub mod Demand
+pub mod Said
 pub mod Open

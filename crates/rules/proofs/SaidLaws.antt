@@ -1,0 +1,180 @@
+-- What callers are told is what the words say, for every deck, table, reel and output: the numbers are those of the answer, the answer is refused exactly as the
+-- table says, and where it is fine it is the plan that the deck asks for, with the records of the reel.
+use mathlib.Core.Path.{_≡_, refl, ap, sym, _∙_, subst}
+use mathlib.Core.Logic.{_↔_}
+use mathlib.Core.List.{List, [], _∷_, _++_, map}
+use Prim.Native.Nat.{ℕ, _≤_, _<_}
+use native.Mathlib.Omega.{arith}
+use lib.ListN.{length, take, drop, length-append, length-drop, length-map}
+use lib.Seq.{take-at, drop-at}
+use borrow.Author.Tests.{leb-true}
+use Rattle.rules.specs.Answer.{Refusal, Answer, fine, refuse, refused, refusalOf, placeOf}
+use Rattle.rules.specs.Places.{All, Both, none-left, both, Byte}
+use Rattle.rules.specs.Halves.{Kind, copy, pack, unpack, inputSize, outputSize, Field}
+use Rattle.rules.specs.Plan.{Plan, planOf, planAnswer}
+use Rattle.rules.specs.Run.{Ran, runOf, ranOf, outputBlocks}
+use Rattle.rules.specs.Reel.{blocksOf}
+use Rattle.rules.specs.Rows.{Row, Done, GivenBy, Answered}
+use Rattle.rules.specs.RunRows.{RowInto, RowRun}
+use Rattle.rules.specs.Lent.{zoneF, plan, planInto, Entry, kindNumber, entryOf, tableAfter, run, runAnswer, outputAfter}
+use Rattle.rules.specs.Said.{PlanSays, KindIs, EntryIs, TableSays, Wrote, RunSays}
+use Rattle.rules.proofs.AnswerLaws.{fine-same, refuse-same, not-fine, bind-fine, then-fine, unless-fine}
+use Rattle.rules.proofs.AcceptedLaws.{accepted, zone-of}
+use Rattle.rules.proofs.PlanTable.{plan-asks, asks-once, plan-table, plan-made, into-table, into-made}
+use Rattle.rules.proofs.ReelLaws.{reel-of, all-blocks}
+use Rattle.rules.proofs.BlocksOutcome.{holds-of}
+use Rattle.rules.proofs.OutBlockWords.{holds-whole, blocks-told}
+use Rattle.rules.proofs.RunTable.{run-table, run-finished}
+use Rattle.rules.proofs.RunParts.{finished}
+use Rattle.rules.proofs.Demand3.{demand3-of}
+
+-- ---- any table
+
+-- an answer that is refused as a table says is answered by it
+pub answered : {A : Type 0} (rows : ℕ → ℕ → Type 0) (x : Answer A) → ((n p : ℕ) → (x ≡ refused n p) ↔ GivenBy rows n p)
+    → ((a : A) × (x ≡ fine a)) ↔ ((n p : ℕ) → rows n p → ⊥) → ((p : ℕ) → rows 0 p → ⊥) → Answered rows (refusalOf x) (placeOf x)
+answered {A} rows (fine a) table made no-0 =
+    record {
+      given = λ n p l. (λ e. absurd (omega (arith, e .0)), λ g. absurd (not-fine _ a (sym (table n p .1 g))));
+      none = (λ e. made .0 (a, refl), λ h. refl);
+      at-0 = λ e. refl;
+    }
+answered {A} rows (refuse r) table made no-0 =
+    record {
+      given = λ n p l. (
+        λ e. subst (λ (m : ℕ). GivenBy rows m p) (e .0) (subst (GivenBy rows (r .number)) (e .1) (table (r .number) (r .place) .0 refl)),
+        λ g. let q = refuse-same r _ (table n p .1 g) in (ap (λ (z : Refusal). z .number) q, ap (λ (z : Refusal). z .place) q),
+      );
+      none = (λ e. absurd (never e), λ h. absurd (h (r .number) (r .place) (table (r .number) (r .place) .0 refl .0)));
+      at-0 = λ e. absurd (never e);
+    }
+  where
+    never : r .number ≡ 0 → ⊥
+    never e = no-0 (r .place) (subst (λ (m : ℕ). rows m (r .place)) e (table (r .number) (r .place) .0 refl .0))
+
+-- ---- a plan
+
+-- what a plan says of a deck, where it is the deck's own plan that is not refused
+plan-says-of : (deck : List ℕ) (rows : ℕ → ℕ → Type 0) (x : Answer Plan) → ((n p : ℕ) → (x ≡ refused n p) ↔ GivenBy rows n p)
+    → ((a : Plan) × (x ≡ fine a)) ↔ ((n p : ℕ) → rows n p → ⊥) → ((p : ℕ) → rows 0 p → ⊥) → ((p : Plan) → x ≡ fine p → planOf zoneF deck ≡ fine p)
+    → PlanSays rows deck (planAnswer x)
+plan-says-of deck rows (fine p) table made no-0 is =
+    let e = is p refl in
+    record {
+      table = answered rows (fine p) table made no-0;
+      refused = λ n. absurd (n refl);
+      made = λ z. (p, plan-asks zoneF deck Done p e, demand3-of p (rw (zone-of zoneF deck p e) (omega arith)) (accepted zoneF deck p e), refl);
+    }
+plan-says-of deck rows (refuse r) table made no-0 is =
+    let a = answered {A = Plan} rows (refuse r) table made no-0 in
+    record {
+      table = a;
+      refused = λ n. (refl, refl, refl);
+      made = λ z. absurd (a .none .0 z (r .number) (r .place) (table (r .number) (r .place) .0 refl .0));
+    }
+
+pub plan-says : (deck : List ℕ) → PlanSays (Row zoneF deck) deck (planAnswer (plan deck))
+unfolding plan
+plan-says deck = plan-says-of deck (Row zoneF deck) (planOf zoneF deck) (plan-table zoneF deck) (plan-made zoneF deck) (λ p r. r) (λ p e. e)
+
+-- ---- a lent table
+
+-- a plan that goes into a table is the deck's plan, and the table has room for its fields
+into-plan : (entries : ℕ) (deck : List ℕ) (p : Plan) → planInto entries deck ≡ fine p → (planOf zoneF deck ≡ fine p) × (length (p .fields) ≤ entries)
+unfolding planInto plan
+into-plan entries deck p e =
+    let s = bind-fine _ _ p e in
+    let t = then-fine _ _ p (s .2) in
+    let q = fine-same (s .0) p (t .1) in
+    (s .1 ∙ ap fine q, subst (λ (y : Plan). length (y .fields) ≤ entries) q (leb-true _ entries (unless-fine _ 15 _ (t .0))))
+
+kind-is : (c : Kind) → KindIs c (kindNumber c) (inputSize c) (outputSize c)
+kind-is (copy s) = (refl, refl, refl)
+kind-is (pack n m) = (refl, refl, refl)
+kind-is (unpack n m) = (refl, refl, refl)
+
+entries-are : (fs : List Field) → Both EntryIs fs (map entryOf fs)
+entries-are [] = none-left
+entries-are (f ∷ fs) = both (record { kind = kind-is (f .kind); r = refl; t = refl }) (entries-are fs)
+
+table-says-of : (deck : List ℕ) (before : List Entry) (x : Answer Plan) → ((p : Plan) → x ≡ fine p → (planOf zoneF deck ≡ fine p) × (length (p .fields) ≤ length before))
+    → (refusalOf x ≡ 0 → (p : Plan) × (x ≡ fine p)) → PlanSays (RowInto zoneF deck (length before)) deck (planAnswer x) → TableSays deck before (planAnswer x) (tableAfter before x)
+table-says-of deck before (fine p) is h says =
+    let w = is p refl in
+    let new = map entryOf (p .fields) in
+    let many : length new ≡ length (p .fields) = length-map (p .fields) entryOf in
+    record {
+      plan = says;
+      size = omega (arith, length-append new (drop (length (p .fields)) before), many, length-drop (length (p .fields)) before, w .1);
+      refused = λ n. absurd (n refl);
+      stored = λ z q a.
+          subst (λ (y : Plan). Both EntryIs (y .fields) (take (length (p .fields)) (new ++ drop (length (p .fields)) before))) (sym (asks-once zoneF deck Done p q (w .0) a))
+          (subst (Both EntryIs (p .fields)) (sym (take-at new (drop (length (p .fields)) before) (length (p .fields)) many)) (entries-are (p .fields)));
+      others = λ z. drop-at new (drop (length (p .fields)) before) (length (p .fields)) many;
+    }
+table-says-of deck before (refuse r) is h says =
+    record {
+      plan = says;
+      size = refl;
+      refused = λ n. refl;
+      stored = λ z q a. let w = h z in absurd (not-fine r (w .0) (w .1));
+      others = λ z. refl;
+    }
+
+pub table-says : (deck : List ℕ) (before : List Entry) → TableSays deck before (planAnswer (planInto (length before) deck)) (tableAfter before (planInto (length before) deck))
+table-says deck before =
+    let says = plan-says-of deck (RowInto zoneF deck (length before)) (planInto (length before) deck) (into-table (length before) deck) (into-made (length before) deck) (λ p r. r) (λ p e. into-plan (length before) deck p e .0) in
+    let a = answered (RowInto zoneF deck (length before)) (planInto (length before) deck) (into-table (length before) deck) (into-made (length before) deck) (λ p r. r) in
+    table-says-of deck before (planInto (length before) deck) (λ p e. into-plan (length before) deck p e) (λ z. into-made (length before) deck .1 (a .none .0 z)) says
+
+-- ---- a run
+
+module _ (deck reel : List ℕ) (bytes : All Byte reel) where
+  -- what a finished run wrote
+  wrote-of : (before : List ℕ) (x : Ran) → run (length before) deck reel ≡ fine x → Wrote deck reel before (runAnswer (fine x)) (outputAfter before (fine x))
+  unfolding run runOf ranOf
+  wrote-of before x d =
+      let s = bind-fine (planOf zoneF deck) _ x d in
+      let p = s .0 in
+      let ok = accepted zoneF deck p (s .1) in
+      let w = finished p (length before) reel x (s .2) in
+      let h = holds-of p ok 1 (all-blocks reel bytes) (w .recs) (w .reads) in
+      let z : p .zone < 16 = rw (zone-of zoneF deck p (s .1)) (omega arith) in
+      record {
+        p = p;
+        asks = plan-asks zoneF deck Done p (s .1);
+        recs = w .recs;
+        gives = (blocksOf reel, reel-of reel bytes (w .reel), h);
+        outs = outputBlocks p (w .recs);
+        blocks-out = blocks-told p z ok (w .recs) (holds-whole p ok (all-blocks reel bytes) h) (w .fit);
+        place = refl;
+        length-is = ap (λ (y : Ran). length (y .reel)) (w .writes);
+        records-are = ap (λ (y : Ran). y .records) (w .writes);
+        blocks-are = ap (λ (y : Ran). y .blocks) (w .writes);
+        front = take-at (x .reel) (drop (length (x .reel)) before) (length (x .reel)) refl ∙ ap (λ (y : Ran). y .reel) (w .writes);
+        rest = drop-at (x .reel) (drop (length (x .reel)) before) (length (x .reel)) refl;
+      }
+
+  roomy-of : (before : List ℕ) (x : Ran) → run (length before) deck reel ≡ fine x → length (x .reel) ≤ length before
+  unfolding run runOf
+  roomy-of before x d = let s = bind-fine (planOf zoneF deck) _ x d in finished (s .0) (length before) reel x (s .2) .roomy
+
+  run-says-of : (before : List ℕ) (x : Answer Ran) → run (length before) deck reel ≡ x → Answered (RowRun zoneF deck reel (length before)) (refusalOf x) (placeOf x)
+      → (refusalOf x ≡ 0 → (y : Ran) × (x ≡ fine y)) → RunSays deck reel before (runAnswer x) (outputAfter before x)
+  run-says-of before (fine x) d a h =
+      record {
+        table = a;
+        size = omega (arith, length-append (x .reel) (drop (length (x .reel)) before), length-drop (length (x .reel)) before, roomy-of before x d);
+        refused = λ n. absurd (n refl);
+        finished = λ z. wrote-of before x d;
+      }
+  run-says-of before (refuse r) d a h =
+      record { table = a; size = refl; refused = λ n. (refl, refl, refl, refl); finished = λ z. let w = h z in absurd (not-fine r (w .0) (w .1)) }
+
+  pub run-says : (before : List ℕ) → RunSays deck reel before (runAnswer (run (length before) deck reel)) (outputAfter before (run (length before) deck reel))
+  unfolding run
+  run-says before =
+      let room = length before in
+      let rows = RowRun zoneF deck reel room in
+      let a = answered rows (runOf zoneF room deck reel) (run-table zoneF (omega arith) deck reel bytes room) (run-finished zoneF (omega arith) deck reel bytes room) (λ p r. r) in
+      run-says-of before (runOf zoneF room deck reel) refl a (λ z. run-finished zoneF (omega arith) deck reel bytes room .1 (a .none .0 z))

@@ -1,0 +1,74 @@
+-- Document 01, after the table of refusals, in words: what a caller is told of a plan, of a plan with a lent table and of a run, and what the lent memory holds
+-- afterwards. It says nothing of how the answers are made.
+use mathlib.Core.Path.{_≡_}
+use mathlib.Core.List.{List}
+use Prim.Native.Nat.{ℕ}
+use lib.ListN.{length, take, drop}
+use Rattle.rules.specs.Base.{joined}
+use Rattle.rules.specs.Places.{Both}
+use Rattle.rules.specs.Halves.{Kind, copy, pack, unpack, Field}
+use Rattle.rules.specs.Plan.{Plan, PlanAnswer}
+use Rattle.rules.specs.Rows.{Asks, Row, Answered}
+use Rattle.rules.specs.InWords.{BlocksOut}
+use Rattle.rules.specs.RunRows.{Gives, outReel, RowRun, RowInto}
+use Rattle.rules.specs.Demand.{Judged}
+use Rattle.rules.specs.Lent.{zoneF, Entry, RunAnswer}
+
+-- ---- a plan
+
+-- by the rows of a table: refusal, place, keeping, lost place and field count
+pub record PlanSays (rows : ℕ → ℕ → Type 0) (deck : List ℕ) (n : PlanAnswer) : Type 0 where
+  pub table : Answered rows (n .refusal) (n .place)
+  -- the last three are 0 if refused
+  pub refused : (n .refusal ≡ 0 → ⊥) → (n .keeping ≡ 0) × (n .lost ≡ 0) × (n .fields ≡ 0)
+  -- else there is the plan that the deck asks for; keeping and lost place say of it what demand 3 asks, and its fields are counted
+  pub made : n .refusal ≡ 0 → (p : Plan) × Asks zoneF deck p × Judged p (n .keeping) (n .lost) × (n .fields ≡ length (p .fields))
+
+-- ---- a lent table
+
+-- an entry's kind, input size and output size: copy, pack or unpack; for a copy both sizes are s
+abbrev pub KindIs : Kind → ℕ → ℕ → ℕ → Type 0
+KindIs (copy s) kind input output = (kind ≡ 0) × (input ≡ s) × (output ≡ s)
+KindIs (pack n m) kind input output = (kind ≡ 1) × (input ≡ n) × (output ≡ m)
+KindIs (unpack n m) kind input output = (kind ≡ 2) × (input ≡ n) × (output ≡ m)
+
+-- an entry holds a field
+pub record EntryIs (f : Field) (e : Entry) : Type 0 where
+  pub kind : KindIs (f .kind) (e .kind) (e .input) (e .output)
+  pub r : e .r ≡ f .r
+  pub t : e .t ≡ f .t
+
+pub record TableSays (deck : List ℕ) (before : List Entry) (n : PlanAnswer) (after : List Entry) : Type 0 where
+  pub plan : PlanSays (RowInto zoneF deck (length before)) deck n
+  pub size : length after ≡ length before
+  -- a refusal changes no entry
+  pub refused : (n .refusal ≡ 0 → ⊥) → after ≡ before
+  -- each entry up to the field count holds its field, others stay
+  pub stored : n .refusal ≡ 0 → (p : Plan) → Asks zoneF deck p → Both EntryIs (p .fields) (take (n .fields) after)
+  pub others : n .refusal ≡ 0 → drop (n .fields) after ≡ drop (n .fields) before
+
+-- ---- a run
+
+-- what a finished run wrote: of the deck's plan and the records of the reel, the reel of the output blocks
+pub record Wrote (deck reel before : List ℕ) (n : RunAnswer) (after : List ℕ) : Type 0 where
+  pub p : Plan
+  pub asks : Asks zoneF deck p
+  pub recs : List (List (List ℕ))
+  pub gives : Gives p reel recs
+  pub outs : List (List (List ℕ))
+  pub blocks-out : BlocksOut p recs outs
+  pub place : n .place ≡ 0
+  -- the reel's length, records and blocks
+  pub length-is : n .reelLength ≡ length (outReel p outs)
+  pub records-are : n .records ≡ length (joined outs)
+  pub blocks-are : n .blocks ≡ length outs
+  -- the reel is at the front, and bytes past the length stay
+  pub front : take (n .reelLength) after ≡ outReel p outs
+  pub rest : drop (n .reelLength) after ≡ drop (n .reelLength) before
+
+pub record RunSays (deck reel before : List ℕ) (n : RunAnswer) (after : List ℕ) : Type 0 where
+  pub table : Answered (RowRun zoneF deck reel (length before)) (n .refusal) (n .place)
+  pub size : length after ≡ length before
+  -- refused, the three are 0 and no lent byte changes
+  pub refused : (n .refusal ≡ 0 → ⊥) → (n .reelLength ≡ 0) × (n .records ≡ 0) × (n .blocks ≡ 0) × (after ≡ before)
+  pub finished : n .refusal ≡ 0 → Wrote deck reel before n after
