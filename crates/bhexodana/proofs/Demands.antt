@@ -1,45 +1,73 @@
--- Demand 3 and the run together, of what the exported functions promise: where bhx_plan marks a deck as keeping, two runs of bhx_run that are not
--- refused and write the same reel took the same records. It holds since their promises are the rules' answers, of which it is proved.
+-- The demands, of what the three exported functions promise (specs/Promise), for every deck, reel, table and output. Each holds since the promise is the rules'
+-- answer, of which it is proved: the table of refusals, demand 3 and what the lent memory holds in rules/proofs/SaidLaws, what runs tell in Apart.
 use mathlib.Core.Path.{_≡_, refl, ap, sym, _∙_, subst}
 use mathlib.Core.Logic.{_⊎_, inl, inr}
 use mathlib.Core.Bool.{Bool, true, false}
-use mathlib.Core.List.{List}
+use mathlib.Core.List.{List, map}
 use Prim.Native.Nat.{ℕ}
 use native.Mathlib.Omega.{arith}
 use lib.Dec.{eqb}
-use lib.ListN.{length, take, drop}
+use lib.ListN.{length, take, drop, length-map}
 use lib.Seq.{take-at}
 use borrow.Author.Tests.{eqb-true, eqb-false}
 use Rattle.rules.specs.Answer.{Answer, fine, refuse}
 use Rattle.rules.specs.Places.{All, Byte}
 use Rattle.rules.specs.Plan.{Plan, planAnswer}
+use Rattle.rules.specs.Rows.{Row}
 use Rattle.rules.specs.Run.{Ran as RuleRan}
-use Rattle.rules.specs.Lent.{zoneF, plan, run, runAnswer, outputAfter}
+use Rattle.rules.specs.Lent.{zoneF, plan, planInto, tableAfter, run, runAnswer, outputAfter}
+use Rattle.rules.specs.Said.{PlanSays, TableSays, RunSays}
 use Rattle.rules.specs.Taken.{Takes}
 use Rattle.rules.proofs.AnswerLaws.{fine-same}
+use Rattle.rules.proofs.SaidLaws.{plan-says, table-says, run-says}
 use Rattle.rules.proofs.Apart.{run-never-0, took, same-taken}
-use Rattle.bhexodana.specs.Promise.{plannedOf, ranOf}
+use Rattle.terms.specs.Meaning.{entryMeans}
+use Rattle.terms.specs.declared.Entry.{Entry}
+use Rattle.terms.proofs.Entries.{entries-hold}
+use Rattle.bhexodana.specs.Promise.{plannedOf, numbersOf, ranOf, runNumbers, PlanOf, PlannedInto, RanInto}
 use Rattle.bhexodana.specs.declared.Planned.{Planned}
 use Rattle.bhexodana.specs.declared.Ran.{Ran}
 
--- ---- the promises
+-- ---- one outcome only
 
--- what bhx_plan promises of its answer
-abbrev pub PlanOf : List ℕ → Planned → Type 0
-PlanOf deck n = n ≡ plannedOf (planAnswer (plan deck))
+-- two outcomes that a promise allows are equal, the lent memory too
+pub only-one-plan : (deck : List ℕ) (r r′ : Planned) → PlanOf deck r → PlanOf deck r′ → r ≡ r′
+only-one-plan deck r r′ w w′ = w ∙ sym w′
 
--- what bhx_run promises of its answer, and of the lent output afterwards
-pub record RanInto (deck reel before : List ℕ) (r : Ran) (after : List ℕ) : Type 0 where
-  pub answer : r ≡ ranOf (runAnswer (run (length before) deck reel))
-  pub output : after ≡ outputAfter before (run (length before) deck reel)
-
--- two outcomes that they allow are equal
-pub only-one-plan : (deck : List ℕ) (n n′ : Planned) → PlanOf deck n → PlanOf deck n′ → n ≡ n′
-only-one-plan deck n n′ w w′ = w ∙ sym w′
+pub only-one-into : (deck : List ℕ) (before : List Entry) (r r′ : Planned) (after after′ : List Entry) → PlannedInto deck before r after → PlannedInto deck before r′ after′
+    → (r ≡ r′) × (after ≡ after′)
+only-one-into deck before r r′ after after′ w w′ = (w .answer ∙ sym (w′ .answer), w .table ∙ sym (w′ .table))
 
 pub only-one-run : (deck reel before : List ℕ) (r r′ : Ran) (after after′ : List ℕ) → RanInto deck reel before r after → RanInto deck reel before r′ after′
     → (r ≡ r′) × (after ≡ after′)
 only-one-run deck reel before r r′ after after′ w w′ = (w .answer ∙ sym (w′ .answer), w .output ∙ sym (w′ .output))
+
+-- ---- demands 1, 2 and 3, in words (rules/specs/Said)
+
+-- of bhx_plan: refusal and place by the table, given exactly if; refused, the other three are 0; else there is the plan that the deck asks for, and keeping and
+-- lost place are right for all pairs of records
+pub plan-demands : (deck : List ℕ) (r : Planned) → PlanOf deck r → PlanSays (Row zoneF deck) deck (numbersOf r)
+plan-demands deck r w = subst (λ (z : Planned). PlanSays (Row zoneF deck) deck (numbersOf z)) (sym w) (plan-says deck)
+
+-- of bhx_plan_into: the same, with row 15; a refusal changes no entry; else each entry up to the field count holds its field, and the others stay
+pub into-demands : (deck : List ℕ) (before : List Entry) (r : Planned) (after : List Entry) → PlannedInto deck before r after
+    → TableSays deck (map entryMeans before) (numbersOf r) (map entryMeans after)
+into-demands deck before r after w =
+    let many : length (map entryMeans before) ≡ length before = length-map before entryMeans in
+    let x : ℕ → Answer Plan = λ k. planInto k deck in
+    let table : map entryMeans after ≡ tableAfter (map entryMeans before) (x (length before)) = ap (map entryMeans) (w .table) ∙ entries-hold (tableAfter (map entryMeans before) (x (length before))) in
+    subst (λ (z : Planned). TableSays deck (map entryMeans before) (numbersOf z) (map entryMeans after)) (sym (w .answer))
+    (subst (TableSays deck (map entryMeans before) (planAnswer (x (length before)))) (sym table)
+    (subst (λ (k : ℕ). TableSays deck (map entryMeans before) (planAnswer (x k)) (tableAfter (map entryMeans before) (x k))) many (table-says deck (map entryMeans before))))
+
+-- of bhx_run: refusal and place by the table; refused, the other three are 0 and no lent byte changes; else the reel of the output blocks that the deck asks for
+-- stands at the front of the output, its length, records and blocks are told, and the bytes past it stay. What is lent as a reel are bytes
+pub run-demands : (deck reel before : List ℕ) (r : Ran) (after : List ℕ) → All Byte reel → RanInto deck reel before r after → RunSays deck reel before (runNumbers r) after
+run-demands deck reel before r after a w =
+    subst (λ (z : Ran). RunSays deck reel before (runNumbers z) after) (sym (w .answer))
+    (subst (RunSays deck reel before (runAnswer (run (length before) deck reel))) (sym (w .output)) (run-says deck reel a before))
+
+-- ---- what was written
 
 -- the reel that a run wrote
 abbrev pub reelIn : Ran → List ℕ → List ℕ

@@ -1,20 +1,53 @@
--- What is promised of the functions that users call: the rules' answers, as structs.
+-- What is promised of the functions that users call: the rules' answers, as structs, and what the lent memory holds afterwards. One predicate for each.
 use mathlib.Core.Path.{_≡_}
 use mathlib.Core.List.{List, map}
 use Prim.Native.Nat.{ℕ}
 use lib.ListN.{length}
 use Rattle.rules.specs.Plan.{PlanAnswer, planAnswer}
-use Rattle.rules.specs.Lent.{planInto, plannedInto, RunAnswer}
-use Rattle.terms.specs.Meaning.{entryMeans}
+use Rattle.rules.specs.Lent.{plan, planInto, tableAfter, run, RunAnswer, runAnswer, outputAfter}
+use Rattle.terms.specs.Meaning.{entryMeans, entryFor}
 use Rattle.terms.specs.declared.Entry.{Entry}
 use Rattle.plans.specs.Promise.{tableOf, stored}
 use Rattle.bhexodana.specs.declared.Filling.{Filling}
 use Rattle.bhexodana.specs.declared.Planned.{Planned}
 use Rattle.bhexodana.specs.declared.Ran.{Ran}
 
--- the five numbers
+-- ---- numbers
+
+-- the five numbers of a plan
 abbrev pub plannedOf : PlanAnswer → Planned
 plannedOf n = record { refusal = n .refusal; place = n .place; keeping = n .keeping; lost = n .lost; fields = n .fields }
+
+abbrev pub numbersOf : Planned → PlanAnswer
+numbersOf r = record { refusal = r .refusal; place = r .place; keeping = r .keeping; lost = r .lost; fields = r .fields }
+
+-- and of a run
+abbrev pub ranOf : RunAnswer → Ran
+ranOf x = record { refusal = x .refusal; place = x .place; length = x .reelLength; records = x .records; blocks = x .blocks }
+
+abbrev pub runNumbers : Ran → RunAnswer
+runNumbers r = record { refusal = r .refusal; place = r .place; reelLength = r .length; records = r .records; blocks = r .blocks }
+
+abbrev pub refusedRun : ℕ → ℕ → Ran
+refusedRun number place = record { refusal = number; place = place; length = 0; records = 0; blocks = 0 }
+
+-- ---- the promises
+
+-- bhx_plan
+abbrev pub PlanOf : List ℕ → Planned → Type 0
+PlanOf deck r = r ≡ plannedOf (planAnswer (plan deck))
+
+-- bhx_plan_into: the answer, and the lent table afterwards
+pub record PlannedInto (deck : List ℕ) (before : List Entry) (r : Planned) (after : List Entry) : Type 0 where
+  pub answer : r ≡ plannedOf (planAnswer (planInto (length before) deck))
+  pub table : after ≡ map entryFor (tableAfter (map entryMeans before) (planInto (length before) deck))
+
+-- bhx_run: the answer, and the lent output afterwards
+pub record RanInto (deck reel before : List ℕ) (r : Ran) (after : List ℕ) : Type 0 where
+  pub answer : r ≡ ranOf (runAnswer (run (length before) deck reel))
+  pub output : after ≡ outputAfter before (run (length before) deck reel)
+
+-- ---- for the private functions
 
 -- what is answered for a table of so many entries, and what goes into it
 unfoldable pub fillingOf : List ℕ → ℕ → Filling
@@ -24,15 +57,3 @@ fillingOf deck room =
       entries = tableOf (stored (planInto room deck));
       store = length (stored (planInto room deck));
     }
-
--- the whole outcome of planning into a lent table: the answer, and the table afterwards, entry by entry as the rules read it
-pub record PlannedInto (deck : List ℕ) (before : List Entry) (r : Planned) (after : List Entry) : Type 0 where
-  pub answer : r ≡ plannedOf (plannedInto (map entryMeans before) deck .0)
-  pub table : map entryMeans after ≡ plannedInto (map entryMeans before) deck .1
-
--- what a run answers
-abbrev pub ranOf : RunAnswer → Ran
-ranOf x = record { refusal = x .refusal; place = x .place; length = x .reelLength; records = x .records; blocks = x .blocks }
-
-abbrev pub refusedRun : ℕ → ℕ → Ran
-refusedRun number place = record { refusal = number; place = place; length = 0; records = 0; blocks = 0 }

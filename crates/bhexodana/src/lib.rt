@@ -5,9 +5,7 @@ ghost use mathlib.Core.Path.{_≡_};
 ghost use mathlib.Core.List.{_++_};
 ghost use Prim.Native.Nat.{_≤_};
 ghost use lib.ListN.{length, take, drop};
-ghost use Rattle.rules.specs.Plan.{planAnswer};
-ghost use Rattle.rules.specs.Lent.{plan, run, runAnswer, outputAfter};
-ghost use Rattle.bhexodana.specs.Promise.{plannedOf, fillingOf, ranOf, refusedRun};
+ghost use Rattle.bhexodana.specs.Promise.{refusedRun, PlanOf, PlannedInto, RanInto, fillingOf};
 
 // What a plan answers: refusal, place, 1 for keeping or 0, lost place or 0, field count.
 #[repr(C)]
@@ -60,7 +58,7 @@ fn store(table: &mut [Entry], entries: [Entry; 64], count: usize)
 // The plan of a deck.
 #[no_mangle]
 pub extern "C" fn bhx_plan(deck: &[u8]) -> Planned
-    ensures { λ r. ⌜ r ≡ plannedOf (planAnswer (plan (now (deck .entry)))) ⌝ }
+    ensures { λ r. ⌜ PlanOf (now (deck .entry)) r ⌝ }
 {
     let p = plans::plan_deck(deck);
     Planned {
@@ -75,12 +73,7 @@ pub extern "C" fn bhx_plan(deck: &[u8]) -> Planned
 // The plan of a deck, stored into a table that the caller lends. A refusal changes no entry.
 #[no_mangle]
 pub extern "C" fn bhx_plan_into(deck: &[u8], table: &mut [Entry]) -> Planned
-    ensures { λ r. ⌜
-        (r ≡ fillingOf (now (deck .entry)) (length (now (table .entry))) .answer) ×
-        (now (table .exit) ≡
-        take (fillingOf (now (deck .entry)) (length (now (table .entry))) .store) (fillingOf (now (deck .entry)) (length (now (table .entry))) .entries) ++
-        drop (fillingOf (now (deck .entry)) (length (now (table .entry))) .store) (now (table .entry)))
-        ⌝ }
+    ensures { λ r. ⌜ PlannedInto (now (deck .entry)) (now (table .entry)) r (now (table .exit)) ⌝ }
 {
     let p = fill(deck, table.len());
     let entries = p.entries;
@@ -113,8 +106,7 @@ fn refused(number: usize, place: usize) -> Ran
 // The run of a deck over a reel, into an output that the caller lends. A refusal changes no byte.
 #[no_mangle]
 pub extern "C" fn bhx_run(deck: &[u8], reel: &[u8], out: &mut [u8]) -> Ran
-    ensures answer { λ r. ⌜ r ≡ ranOf (runAnswer (run (length (now (out .entry))) (now (deck .entry)) (now (reel .entry)))) ⌝ }
-    ensures output { λ _. ⌜ now (out .exit) ≡ outputAfter (now (out .entry)) (run (length (now (out .entry))) (now (deck .entry)) (now (reel .entry))) ⌝ }
+    ensures { λ r. ⌜ RanInto (now (deck .entry)) (now (reel .entry)) (now (out .entry)) r (now (out .exit)) ⌝ }
 {
     let p = plans::plan_deck(deck);
     if p.refusal != 0 {

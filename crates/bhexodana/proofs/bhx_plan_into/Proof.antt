@@ -38,6 +38,7 @@ use denote.Triple.Table.{entered, cited}
 use denote.Triple.Walked.{says, Stays, stay-dropped, gave-slice, walkOf, AllGo, goes-dropped, goes-gave-slice, Walks, ends-at, walked, walk-meets}
 use denote.Exit.{yes}
 use Rattle.bhexodana.specs.Promise.{fillingOf}
+use Rattle.bhexodana.proofs.PlanLaws.{planned-into}
 use Rattle.terms.specs.declared.Entry.{Entry}
 use Rattle.bhexodana.specs.declared.Filling.{Filling}
 use Rattle.bhexodana.proofs.Rows.{count, R, Rows, pmakes, ptyped, of-field, inval}
@@ -148,7 +149,7 @@ module _ {M : Type 1} (𝓤 : URA M) (H : Heap 𝓤) (A : Atoms 𝓤) (W : Given
     exits ws e₂ l =
         qed W ((‵ (flft κ₀ q₀) ⊛ ‵ ftrue) ∷ (‵ (flft κ₁ q₁) ⊛ ‵ ftrue) ∷ ‵ (finally R γ ws) ∷ []) ∵
         suffices ! _ (ends-at 𝓤 H A into.ended stayed (into.clauses 𝓤 H A mem run) W (((κ₀, (κ₁, tt)), (q₀, (q₁, tt)), tt, a, av), tt) ans (p .answer) (tt, (ws, tt)) (tt, (l, tt))) $
-        says ! (ap (λ (r : Filling). r .answer) (e .0), e₂ ∙ ap (λ (r : Filling). take (r .store) (r .entries) ++ drop (r .store) ys) (e .0)) $
+        says ! (planned-into (deck .now) ys (p .answer) ws (ap (λ (r : Filling). r .answer) (e .0)) (e₂ ∙ ap (λ (r : Filling). take (r .store) (r .entries) ++ drop (r .store) ys) (e .0))) $
         split ! $ move ! (0 ∷ 2 ∷ []) $ join ! $ frame ! $ nothing ! $ move ! (2 ∷ 0 ∷ []) $ fjoin ! $ move ! (1 ∷ 0 ∷ []) $ fjoin ! $
         owned ! N.the-row (Is N.the-row) ((LL.makes N.the-type N′.the-plain) 𝓤 H A) (p .answer) _ is-ans $ move ! (1 ∷ 0 ∷ []) $ done !
 

@@ -27,7 +27,7 @@ returns c =
     let a = c .before .before .before .before .before .before .before .args in
     let p = c .before .before .before .plan-deck in
     let e = run-refused (now (a .deck)) (p .result) (p .ensures) (c .before .if1 .taken) (length (now (a .out))) (now (a .reel)) in
-    (c .refused .ensures ∙ ap (λ (x : Answer RuleRan). ranOf (runAnswer x)) (sym e), ap (outputAfter (now (a .out))) (sym e))
+    record { answer = c .refused .ensures ∙ ap (λ (x : Answer RuleRan). ranOf (runAnswer x)) (sym e); output = ap (outputAfter (now (a .out))) (sym e) }
 
 run-plan-requires : tie.Need-run-plan-requires
 run-plan-requires c κs =
@@ -43,7 +43,7 @@ returns-2 c =
     let p = c .before .before .before .before .before .before .before .plan-deck in
     let r = c .before .before .run-plan in
     let e = run-accepted (now (a .deck)) (p .result) (p .ensures) (c .before .before .before .before .before .if1 .left) (length (now (a .out))) (now (a .reel)) in
-    (ap ranFrom (r .ensures .0) ∙ ap (λ (x : Answer RuleRan). ranOf (runAnswer x)) (sym e), r .ensures .1 ∙ ap (outputAfter (now (a .out))) (sym e))
+    record { answer = ap ranFrom (r .ensures .0) ∙ ap (λ (x : Answer RuleRan). ranOf (runAnswer x)) (sym e); output = r .ensures .1 ∙ ap (outputAfter (now (a .out))) (sym e) }
 
 pub bhx-run-spec : {M : Type 1} → statement M
 bhx-run-spec =
