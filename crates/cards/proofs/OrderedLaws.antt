@@ -9,17 +9,16 @@ use native.Mathlib.Omega.{arith}
 use lib.ListN.{length, drop, length-append}
 use lib.Seq.{slice}
 use Rattle.rules.specs.Places.{Found, Both, none-left, both}
-use Rattle.rules.specs.Answer.{Refusal, Answer, fine, refuse, _>>=_, _>>_}
+use Rattle.rules.specs.Answer.{Refusal, Answer, fine, refuse, refused, _>>=_, _>>_}
 use Rattle.rules.specs.Reader.{Read, read, stopped}
 use Rattle.rules.specs.Deck.{uCard, fsCard, endCard}
 use Rattle.rules.specs.Order.{Operands, operandsOf}
 use Rattle.rules.specs.Grammar.{Parameter, Item, uOperand, fsOperand}
 use Rattle.rules.specs.Asked.{grammatical, itemsFrom, Cards, cardsOf, once, Asked as RuleAsked, askedOf}
-use Rattle.rules.proofs.AnswerLaws.{fine-bind}
+use Rattle.rules.proofs.AnswerLaws.{not-fine, fine-same, refuse-same, bind-fine, fine-bind}
 use Rattle.rules.proofs.Given.{Outcome, found-low}
 use Rattle.rules.proofs.CardsOutcome.{Stops, items-outcome, items-fine}
-use Rattle.lines.specs.declared.OrderRead.the-variants.{Refused, Ordered}
-use Rattle.lines.specs.Scanning.{orderOf}
+use Rattle.lines.specs.Scanning.{cardCount}
 use Rattle.cards.specs.declared.Selected.{Selected}
 use Rattle.cards.specs.declared.URead.{URead}
 use Rattle.cards.specs.declared.FsCards.{FsCards}
@@ -62,34 +61,29 @@ items-many i os cs e = both-length (items-fine i os cs e)
 -- ---- the deck
 
 operands-in : (deck : List ℕ) (fs : ℕ) → InOrder deck fs → (os : Operands) × (operandsOf deck ≡ fine os) × (length (os .fs) ≡ fs)
-operands-in deck fs e = go (operandsOf deck) refl e
-  where
-    go : (x : Answer Operands) → operandsOf deck ≡ x → orderOf x ≡ Ordered (2 + fs) → (os : Operands) × (operandsOf deck ≡ fine os) × (length (os .fs) ≡ fs)
-    go (fine os) q e = let n : 2 + length (os .fs) ≡ 2 + fs = cc in (os, q, omega arith)
-    go (refuse r) q e = let z : _≡_ {A = ℕ} 0 1 = cc in absurd (omega arith)
+operands-in deck fs e =
+    let b = bind-fine (operandsOf deck) _ (2 + fs) e in
+    let n : 2 + length (b .0 .fs) ≡ 2 + fs = fine-same _ _ (b .2) in
+    (b .0, b .1, omega arith)
 
 -- refusals 1 and 2
-pub order-refused : (deck : List ℕ) (number place : ℕ) → orderOf (operandsOf deck) ≡ Refused number place → DeckSays deck (refusedDeck number place)
+pub order-refused : (deck : List ℕ) (number place : ℕ) → cardCount (operandsOf deck) ≡ refused number place → DeckSays deck (refusedDeck number place)
 unfolding askedOf _>>=_
 order-refused deck number place e = go (operandsOf deck) refl e
   where
-    go : (x : Answer Operands) → operandsOf deck ≡ x → orderOf x ≡ Refused number place → DeckSays deck (refusedDeck number place)
-    go (fine os) q e = let z : _≡_ {A = ℕ} 0 1 = cc in absurd (omega arith)
-    go (refuse r) q e =
-        let a : number ≡ r .number = cc in
-        let b : place ≡ r .place = cc in
-        rw q (λ i. refusedDeck (a i) (b i))
+    go : (x : Answer Operands) → operandsOf deck ≡ x → cardCount x ≡ refused number place → DeckSays deck (refusedDeck number place)
+    go (fine os) q e = absurd (not-fine _ _ (sym e))
+    go (refuse r) q e = let s = refuse-same _ _ (sym e) in rw q (λ i. refusedDeck (s i .number) (s i .place))
 
 -- there are a U card and an END card
-pub order-many : (deck : List ℕ) (n : ℕ) → orderOf (operandsOf deck) ≡ Ordered n → 2 ≤ n
-order-many deck n e = go (operandsOf deck) e
-  where
-    go : (x : Answer Operands) → orderOf x ≡ Ordered n → 2 ≤ n
-    go (fine os) e = let m : 2 + length (os .fs) ≡ n = cc in omega arith
-    go (refuse r) e = let z : _≡_ {A = ℕ} 0 1 = cc in absurd (omega arith)
+pub order-many : (deck : List ℕ) (n : ℕ) → cardCount (operandsOf deck) ≡ fine n → 2 ≤ n
+order-many deck n e =
+    let b = bind-fine (operandsOf deck) _ n e in
+    let m : 2 + length (b .0 .fs) ≡ n = fine-same _ _ (b .2) in
+    omega arith
 
-pub in-order : (deck : List ℕ) (n : ℕ) → orderOf (operandsOf deck) ≡ Ordered n → InOrder deck (n - 2)
-in-order deck n e = let m : n ≡ 2 + (n - 2) = omega (arith, order-many deck n e) in e ∙ ap Ordered m
+pub in-order : (deck : List ℕ) (n : ℕ) → cardCount (operandsOf deck) ≡ fine n → InOrder deck (n - 2)
+in-order deck n e = let m : n ≡ 2 + (n - 2) = omega (arith, order-many deck n e) in e ∙ ap (λ (k : ℕ). fine k) m
 
 module _ (deck : List ℕ) (fs : ℕ) (order : InOrder deck fs) where
   abbrev operands : Operands

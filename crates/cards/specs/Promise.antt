@@ -1,5 +1,4 @@
 -- What `read_deck` promises of its answer, for every deck: the refusal of 1 to 7 that the rules give, or what they say that the cards ask for.
---
 use mathlib.Core.Path.{_≡_}
 use mathlib.Core.List.{List}
 use Prim.Native.Nat.{ℕ, _+_}
@@ -15,8 +14,7 @@ use Rattle.terms.specs.declared.Size.the-variants.{One}
 use Rattle.terms.specs.declared.Asked.{Asked}
 use Rattle.terms.specs.Meaning.{noField, Means}
 use Rattle.readers.specs.Meaning.{OneSize}
-use Rattle.lines.specs.declared.OrderRead.the-variants.{Ordered}
-use Rattle.lines.specs.Scanning.{orderOf}
+use Rattle.lines.specs.Scanning.{cardCount}
 use Rattle.cards.specs.declared.DeckRead.{DeckRead}
 
 unfoldable pub nothingAsked : Asked
@@ -55,4 +53,4 @@ DeckSays deck r = Said (askedOf deck) r
 
 -- the cards are in order, and so many are FS cards
 abbrev pub InOrder : List ℕ → ℕ → Type 0
-InOrder deck fs = orderOf (operandsOf deck) ≡ Ordered (2 + fs)
+InOrder deck fs = cardCount (operandsOf deck) ≡ fine (2 + fs)

@@ -5,12 +5,13 @@ use mathlib.Core.List.{List, _++_}
 use Prim.Native.Nat.{ℕ, _<_}
 use native.Mathlib.Omega.{arith}
 use lib.ListN.{length, length-append}
-use Rattle.lines.specs.Scanning.{start, scanFrom, scannedOf}
+use Rattle.rules.specs.Answer.{refusalOf, placeOf}
+use Rattle.lines.specs.Scanning.{start, scanFrom, scannedOf, answerOf}
 use Rattle.lines.specs.declared.Scanner.{Scanner}
 use Rattle.lines.specs.declared.OrderRead.{OrderRead}
 use Rattle.lines.proofs.DeckLaws.{scan-pieces}
 use Rattle.lines.proofs.LongLaws.{long-refused}
-use Rattle.inputs.specs.Reading.{Went, numberOf, placeOf, Judged}
+use Rattle.inputs.specs.Reading.{Went, Judged}
 use Rattle.inputs.specs.declared.DeckRead.{DeckRead}
 
 pub further : (first now next : Scanner) → Went first now → Went now next → Went first next
@@ -18,18 +19,18 @@ further first now next a b = (a .0 ++ b .0, b .1 ∙ ap (λ (s : Scanner). scanF
 
 -- the first bytes, and then what more was read: what the scan of it all comes to
 pub all-scanned : (bytes : List ℕ) (none begun fed : Scanner) (read case : OrderRead) →
-    none ≡ start → begun ≡ scanFrom none bytes → Went begun fed → read ≡ scannedOf fed → read ≡ case →
+    none ≡ start → begun ≡ scanFrom none bytes → Went begun fed → answerOf read ≡ scannedOf fed → read ≡ case →
     (rest : List ℕ) ×
-    (numberOf case ≡ numberOf (scannedOf (scanFrom start (bytes ++ rest)))) × (placeOf case ≡ placeOf (scannedOf (scanFrom start (bytes ++ rest))))
+    (refusalOf (answerOf case) ≡ refusalOf (scannedOf (scanFrom start (bytes ++ rest)))) × (placeOf (answerOf case) ≡ placeOf (scannedOf (scanFrom start (bytes ++ rest))))
 all-scanned bytes none begun fed read case n b w r k =
-    let whole : case ≡ scannedOf (scanFrom start (bytes ++ w .0))
-    = sym k ∙
+    let whole : answerOf case ≡ scannedOf (scanFrom start (bytes ++ w .0))
+    = ap answerOf (sym k) ∙
     r ∙
     ap scannedOf (w .1 ∙ ap (λ (s : Scanner). scanFrom s (w .0)) (b ∙ ap (λ (s : Scanner). scanFrom s bytes) n) ∙ scan-pieces start bytes (w .0)) in
-    (w .0, ap numberOf whole, ap placeOf whole)
+    (w .0, ap refusalOf whole, ap placeOf whole)
 
 -- so what is judged is never taken as right
 pub judged-refused : (bytes : List ℕ) (r : DeckRead) → 5184 < length bytes → Judged bytes r → (r .refusal ≡ 1) ⊎ (r .refusal ≡ 2)
 judged-refused bytes r h j =
     let l = long-refused (bytes ++ j .0) (omega (arith, length-append bytes (j .0))) in
-    ⊎-elim (λ e. inl (j .1 ∙ ap numberOf e)) (λ e. inr (j .1 ∙ ap numberOf e)) (l .1)
+    ⊎-elim (λ e. inl (j .1 ∙ ap refusalOf e)) (λ e. inr (j .1 ∙ ap refusalOf e)) (l .1)

@@ -3,30 +3,20 @@ use mathlib.Core.Path.{_≡_}
 use mathlib.Core.Logic.{_⊎_}
 use mathlib.Core.List.{List, _++_}
 use Prim.Native.Nat.{ℕ, _<_}
+use Rattle.rules.specs.Answer.{refusalOf, placeOf}
 use Rattle.lines.specs.Scanning.{start, scanFrom, scannedOf}
 use Rattle.lines.specs.declared.Scanner.{Scanner}
-use Rattle.lines.specs.declared.OrderRead.{OrderRead}
-use Rattle.lines.specs.declared.OrderRead.the-variants.{Refused, Ordered}
 use Rattle.inputs.specs.declared.DeckRead.{DeckRead}
 
 -- the scan went on over some bytes
 abbrev pub Went : Scanner → Scanner → Type 0
 Went before after = (bytes : List ℕ) × (after ≡ scanFrom before bytes)
 
--- the number and the place that a scan comes to; both are 0 where the cards are in order
-abbrev pub numberOf : OrderRead → ℕ
-numberOf (Refused number place) = number
-numberOf (Ordered cards) = 0
-
-abbrev pub placeOf : OrderRead → ℕ
-placeOf (Refused number place) = place
-placeOf (Ordered cards) = 0
-
 -- the answer is the scan's, of a deck that begins with these bytes and goes on with some others
 abbrev pub Judged : List ℕ → DeckRead → Type 0
 Judged bytes r =
     (rest : List ℕ) ×
-    (r .refusal ≡ numberOf (scannedOf (scanFrom start (bytes ++ rest)))) × (r .place ≡ placeOf (scannedOf (scanFrom start (bytes ++ rest))))
+    (r .refusal ≡ refusalOf (scannedOf (scanFrom start (bytes ++ rest)))) × (r .place ≡ placeOf (scannedOf (scanFrom start (bytes ++ rest))))
 
 -- the deck is whole in the room, and nothing is said against it yet
 abbrev pub Whole : DeckRead → Type 0

@@ -13,7 +13,7 @@ use Rattle.rules.specs.Deck.{lines, cardOf}
 use Rattle.rules.specs.Order.{operandsOf}
 use Rattle.rules.proofs.LineLaws.{Passed, passed-none, passed-byte, passed-end, passed-all, passed-last}
 use Rattle.rules.proofs.CardPlaces.{tidy-long, card-untidy}
-use Rattle.lines.specs.Scanning.{most, kindOf, begunKind, withLine, tallyOf, judgedOf, withByte, stepOf, start, scanFrom, verdictOf, scannedOf, orderOf}
+use Rattle.lines.specs.Scanning.{most, kindOf, begunKind, withLine, tallyOf, judgedOf, withByte, stepOf, start, scanFrom, verdictOf, scannedOf, cardCount}
 use Rattle.lines.specs.declared.CardKind.{CardKind}
 use Rattle.lines.specs.declared.Scanner.{Scanner}
 use Rattle.lines.specs.declared.Tally.{Tally}
@@ -151,13 +151,13 @@ held-lines x st h = go (h .line) refl
         ∙ rw (passed-last (h .passed) (omega (arith, ap length e))) (ap verdictOf (held-tally h))
 
 -- a state that holds a deck answers for it
-pub held-deck : (x : List ℕ) (st : Scanner) → Held x st → length x < most → scannedOf st ≡ orderOf (operandsOf x)
+pub held-deck : (x : List ℕ) (st : Scanner) → Held x st → length x < most → scannedOf st ≡ cardCount (operandsOf x)
 held-deck x st h few = held-lines x st h ∙ deck-tallied x few
 
 -- the scan of a deck
-pub scanned-deck : (x : List ℕ) → length x < most → scannedOf (scanFrom start x) ≡ orderOf (operandsOf x)
+pub scanned-deck : (x : List ℕ) → length x < most → scannedOf (scanFrom start x) ≡ cardCount (operandsOf x)
 scanned-deck x few = held-deck x (scanFrom start x) (held-piece x held-start) few
 
 -- in two pieces
-pub scanned-pieces : (x y : List ℕ) → length (x ++ y) < most → scannedOf (scanFrom (scanFrom start x) y) ≡ orderOf (operandsOf (x ++ y))
+pub scanned-pieces : (x y : List ℕ) → length (x ++ y) < most → scannedOf (scanFrom (scanFrom start x) y) ≡ cardCount (operandsOf (x ++ y))
 scanned-pieces x y few = ap scannedOf (scan-pieces start x y) ∙ scanned-deck (x ++ y) few

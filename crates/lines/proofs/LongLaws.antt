@@ -9,6 +9,7 @@ use native.Mathlib.Omega.{arith}
 use lib.Dec.{ltb, leb, eqb}
 use lib.ListN.{length, length-append}
 use borrow.Author.Tests.{eqb-true, eqb-false, leb-true, leb-false, ltb-false}
+use Rattle.rules.specs.Answer.{refused}
 use Rattle.rules.specs.Deck.{lines, cardOf}
 use Rattle.rules.proofs.LineLaws.{ended, lines-deck}
 use Rattle.rules.proofs.CardPlaces.{tidy-long, card-untidy}
@@ -16,7 +17,6 @@ use Rattle.lines.specs.Scanning.{counted, firstOf, kindOf, isOther, faul
 use Rattle.lines.specs.declared.CardKind.{CardKind}
 use Rattle.lines.specs.declared.CardKind.the-variants.{Utility, Select, End, Other}
 use Rattle.lines.specs.declared.Tally.{Tally}
-use Rattle.lines.specs.declared.OrderRead.the-variants.{Refused}
 use Rattle.lines.proofs.StepLaws.{verdict-bad, verdict-fault}
 use Rattle.lines.proofs.TallyLaws.{noLine, tallied, kinds, bad-stays, fault-stays, next-place}
 use Rattle.lines.proofs.DeckLaws.{held-start, held-piece, held-lines}
@@ -93,7 +93,7 @@ deck-ended x = ⊎-elim (λ e. omega (arith, ap length e)) (λ e. omega (arith, 
 
 -- a long deck is refused
 pub long-refused : (x : List ℕ) → 5184 < length x
-    → (p : ℕ) × ((scannedOf (scanFrom start x) ≡ Refused 1 p) ⊎ (scannedOf (scanFrom start x) ≡ Refused 2 p))
+    → (p : ℕ) × ((scannedOf (scanFrom start x) ≡ refused 1 p) ⊎ (scannedOf (scanFrom start x) ≡ refused 2 p))
 long-refused x h = go (zero-or (t .bad)) (zero-or (t .fault))
   where
     t : Tally
@@ -103,7 +103,7 @@ long-refused x h = go (zero-or (t .bad)) (zero-or (t .fault))
     is = held-lines x (scanFrom start x) (held-piece x held-start)
 
     go : (t .bad ≡ 0) ⊎ (t .bad ≡ 0 → ⊥) → (t .fault ≡ 0) ⊎ (t .fault ≡ 0 → ⊥)
-        → (p : ℕ) × ((scannedOf (scanFrom start x) ≡ Refused 1 p) ⊎ (scannedOf (scanFrom start x) ≡ Refused 2 p))
+        → (p : ℕ) × ((scannedOf (scanFrom start x) ≡ refused 1 p) ⊎ (scannedOf (scanFrom start x) ≡ refused 2 p))
     go (inr n) f = (t .bad, inl (is ∙ verdict-bad t n))
     go (inl e) (inr n) = (t .fault, inr (is ∙ verdict-fault t e n))
     go (inl e) (inl f) = let r = unmarked-short noLine 0 (lines x) refl (omega arith) e f in absurd (omega (arith, r .0, r .1, deck-ended x))

@@ -8,16 +8,19 @@ use native.Mathlib.Omega.{arith}
 use lib.ListN.{length, getD, take}
 use lib.Seq.{slice, getD-take, length-take-le, length-slice}
 use Rattle.rules.specs.Base.{ascii}
+use Rattle.rules.specs.Answer.{refusalOf, placeOf}
 use Rattle.rules.specs.Deck.{uCard, fsCard}
 use Rattle.rules.specs.Order.{operandsOf}
+use Rattle.rules.proofs.AnswerLaws.{not-fine, fine-same}
 use Rattle.lines.specs.Meaning.{CardSays, LineSays}
-use Rattle.lines.specs.Scanning.{start, scanFrom, scannedOf, orderOf}
+use Rattle.lines.specs.Scanning.{start, scanFrom, scannedOf, cardCount, answerOf}
 use Rattle.lines.specs.declared.CardRead.{CardRead}
 use Rattle.lines.specs.declared.CardRead.the-variants.{UCard, FsCard, EndCard, NoCard}
 use Rattle.lines.specs.declared.LineRead.{LineRead}
 use Rattle.lines.specs.declared.LineRead.the-variants.{Line, NoLine}
 use Rattle.lines.specs.declared.Scanner.{Scanner}
 use Rattle.lines.specs.declared.OrderRead.{OrderRead}
+use Rattle.lines.specs.declared.OrderRead.the-variants.{Refused, Ordered}
 
 never : _≡_ {A = ℕ} 0 1 → ⊥
 never z = omega arith
@@ -86,6 +89,18 @@ module _ (deck : List ℕ) (at : ℕ) where
   line-only-one NoLine (Line f m) x y = absurd (omega arith)
   line-only-one NoLine NoLine x y = refl
 
+-- ---- the order of the cards
+
+-- what an answer says decides it
+pub answer-once : (r q : OrderRead) → answerOf r ≡ answerOf q → r ≡ q
+answer-once (Refused n p) (Refused m q) e =
+    let x : n ≡ m = ap refusalOf e in
+    let y : p ≡ q = ap placeOf e in
+    cc
+answer-once (Refused n p) (Ordered c) e = absurd (not-fine _ c e)
+answer-once (Ordered c) (Refused m q) e = absurd (not-fine _ c (sym e))
+answer-once (Ordered c) (Ordered d) e = ap (λ (n : ℕ). Ordered n) (fine-same c d e)
+
 -- ---- the scan
 
 pub begin-only-one : {r q : Scanner} → r ≡ start → q ≡ start → r ≡ q
@@ -95,8 +110,8 @@ module _ (st : Scanner) where
   pub scan-only-one : (piece : List ℕ) {r q : Scanner} → r ≡ scanFrom st piece → q ≡ scanFrom st piece → r ≡ q
   scan-only-one piece e f = e ∙ sym f
 
-  pub scanned-only-one : {r q : OrderRead} → r ≡ scannedOf st → q ≡ scannedOf st → r ≡ q
-  scanned-only-one e f = e ∙ sym f
+  pub scanned-only-one : (r q : OrderRead) → answerOf r ≡ scannedOf st → answerOf q ≡ scannedOf st → r ≡ q
+  scanned-only-one r q e f = answer-once r q (e ∙ sym f)
 
-pub order-only-one : (deck : List ℕ) {r q : OrderRead} → r ≡ orderOf (operandsOf deck) → q ≡ orderOf (operandsOf deck) → r ≡ q
-order-only-one deck e f = e ∙ sym f
+pub order-only-one : (deck : List ℕ) (r q : OrderRead) → answerOf r ≡ cardCount (operandsOf deck) → answerOf q ≡ cardCount (operandsOf deck) → r ≡ q
+order-only-one deck r q e f = answer-once r q (e ∙ sym f)

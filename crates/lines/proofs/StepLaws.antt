@@ -8,6 +8,7 @@ use lib.Dec.{ltb, eqb}
 use lib.ListN.{length, getD, take, drop, set, drop-of-length-le}
 use lib.Seq.{drop-cons}
 use borrow.Author.Tests.{eq-eqb, ne-eqb, lt-ltb, le-ltb, le-leb, lt-leb}
+use Rattle.rules.specs.Answer.{fine, refused}
 use Rattle.rules.specs.Deck.{cardOf}
 use Rattle.lines.specs.Meaning.{CardSays}
 use Rattle.lines.specs.Scanning.{most, counted, firstOf, kindOf, isOther, closed, faulty, misplaced, withLine, tallyOf, begunKind, judgedOf, withByte, stepOf, scanFrom, verdictOf, scannedOf}
@@ -17,7 +18,6 @@ use Rattle.lines.specs.declared.CardKind.{CardKind}
 use Rattle.lines.specs.declared.CardKind.the-variants.{Utility, Select, End, Other}
 use Rattle.lines.specs.declared.Tally.{Tally}
 use Rattle.lines.specs.declared.Scanner.{Scanner}
-use Rattle.lines.specs.declared.OrderRead.the-variants.{Refused, Ordered}
 
 -- ---- places
 
@@ -137,19 +137,19 @@ module _ (st : Scanner) where
   scanned-inside n = rw (ne-eqb (st .size) 0 n)
 
 module _ (t : Tally) where
-  pub verdict-bad : (t .bad ≡ 0 → ⊥) → verdictOf t ≡ Refused 1 (t .bad)
+  pub verdict-bad : (t .bad ≡ 0 → ⊥) → verdictOf t ≡ refused 1 (t .bad)
   unfolding verdictOf
   verdict-bad n = rw (ne-eqb (t .bad) 0 n)
 
   module _ (good : t .bad ≡ 0) where
-    pub verdict-fault : (t .fault ≡ 0 → ⊥) → verdictOf t ≡ Refused 2 (t .fault)
+    pub verdict-fault : (t .fault ≡ 0 → ⊥) → verdictOf t ≡ refused 2 (t .fault)
     unfolding verdictOf
     verdict-fault n = rw (eq-eqb (t .bad) 0 good, ne-eqb (t .fault) 0 n)
 
-    pub verdict-ordered : t .fault ≡ 0 → t .ended ≡ true → verdictOf t ≡ Ordered (t .lines)
+    pub verdict-ordered : t .fault ≡ 0 → t .ended ≡ true → verdictOf t ≡ fine (t .lines)
     unfolding verdictOf
     verdict-ordered e f = rw (eq-eqb (t .bad) 0 good, eq-eqb (t .fault) 0 e, f)
 
-    pub verdict-open : t .fault ≡ 0 → t .ended ≡ false → verdictOf t ≡ Refused 2 (counted (t .lines))
+    pub verdict-open : t .fault ≡ 0 → t .ended ≡ false → verdictOf t ≡ refused 2 (counted (t .lines))
     unfolding verdictOf
     verdict-open e f = rw (eq-eqb (t .bad) 0 good, eq-eqb (t .fault) 0 e, f)

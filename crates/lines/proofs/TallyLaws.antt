@@ -10,20 +10,18 @@ use lib.Dec.{ltb, leb}
 use lib.ListN.{length, drop, length-map}
 use lib.Seq.{slice}
 use borrow.Author.Tests.{lt-ltb, le-ltb, leb-true, leb-false}
-use Rattle.rules.specs.Answer.{Answer, fine, refuse, Refusal, _>>=_}
+use Rattle.rules.specs.Answer.{Answer, fine, refuse, refused, Refusal, _>>=_}
 use Rattle.rules.specs.Deck.{lines, Card, uCard, fsCard, endCard, cardOf}
 use Rattle.rules.specs.Order.{cardsFrom, nothingFrom, fsFrom, ordered, operandsOf}
 use Rattle.rules.proofs.AnswerLaws.{not-fine}
 use Rattle.rules.proofs.LineLaws.{lines-most}
 use Rattle.rules.proofs.ScanLaws.{cards-each, made-refused}
 use Rattle.lines.specs.Meaning.{LineSays}
-use Rattle.lines.specs.Scanning.{most, counted, kindOf, isOther, closed, misplaced, withLine, verdictOf, orderOf}
+use Rattle.lines.specs.Scanning.{most, counted, kindOf, isOther, closed, misplaced, withLine, verdictOf, cardCount}
 use Rattle.lines.specs.declared.CardKind.{CardKind}
 use Rattle.lines.specs.declared.CardKind.the-variants.{Utility, Select, End, Other}
 use Rattle.lines.specs.declared.Tally.{Tally}
 use Rattle.lines.specs.declared.LineRead.the-variants.{Line, NoLine}
-use Rattle.lines.specs.declared.OrderRead.{OrderRead}
-use Rattle.lines.specs.declared.OrderRead.the-variants.{Refused, Ordered}
 use Rattle.lines.proofs.StepLaws.{counted-more, first-stays, first-place, first-unmarked, faulty-first, faulty-ended, faulty-past, verdict-bad, verdict-fault, verdict-ordered, verdict-open}
 
 -- no line has been judged
@@ -113,7 +111,7 @@ bad-first n (l ∷ ls) r t e g h f =
 
 -- the card is at fault, and is the first
 module _ {t : Tally} {n : ℕ} {e : Bool} (clear : Clear t n e) (less : n < most) where
-  at-fault : (c : Card) (cs : List Card) → misplaced (kindOf (some c)) (suc n) e ≡ true → verdictOf (tallied t (faces (c ∷ cs))) ≡ Refused 2 (suc n)
+  at-fault : (c : Card) (cs : List Card) → misplaced (kindOf (some c)) (suc n) e ≡ true → verdictOf (tallied t (faces (c ∷ cs))) ≡ refused 2 (suc n)
   at-fault c cs m =
       let k : CardKind = kindOf (some c) in
       let place : counted (t .lines) ≡ suc n = next-place t n (clear .count) less in
@@ -121,7 +119,7 @@ module _ {t : Tally} {n : ℕ} {e : Bool} (clear : Clear t n e) (less : n < most
       let f : withLine t k .fault ≡ suc n = first-place (t .fault) (misplaced k (counted (t .lines)) (t .ended)) (counted (t .lines)) (clear .right) marked ∙ place in
       let g : tallied (withLine t k) (faces cs) .fault ≡ suc n = fault-stays (withLine t k) (faces cs) (λ z. omega arith) ∙ f in
       let b : tallied (withLine t k) (faces cs) .bad ≡ 0 = cards-good (withLine t k) cs ∙ card-good t c ∙ clear .good in
-      verdict-fault (tallied (withLine t k) (faces cs)) b (λ z. omega arith) ∙ ap (λ (p : ℕ). Refused 2 p) g
+      verdict-fault (tallied (withLine t k) (faces cs)) b (λ z. omega arith) ∙ ap (λ (p : ℕ). refused 2 p) g
 
   -- the card is in its place
   in-place : (c : Card) → misplaced (kindOf (some c)) (suc n) e ≡ false → Clear (withLine t (kindOf (some c))) (suc n) (closed (kindOf (some c)) e)
@@ -136,18 +134,18 @@ module _ {t : Tally} {n : ℕ} {e : Bool} (clear : Clear t n e) (less : n < most
         end = ap (closed k) (clear .end);
       }
 
-  none-left : e ≡ false → verdictOf t ≡ Refused 2 (suc n)
-  none-left f = verdict-open t (clear .good) (clear .right) (clear .end ∙ f) ∙ ap (λ (p : ℕ). Refused 2 p) (next-place t n (clear .count) less)
+  none-left : e ≡ false → verdictOf t ≡ refused 2 (suc n)
+  none-left f = verdict-open t (clear .good) (clear .right) (clear .end ∙ f) ∙ ap (λ (p : ℕ). refused 2 p) (next-place t n (clear .count) less)
 
 -- what is read of the cards after the first, where n are before them
-abbrev answerFrom : ℕ → Answer (List (List ℕ)) → OrderRead
-answerFrom n (refuse r) = Refused (r .number) (r .place)
-answerFrom n (fine os) = Ordered (suc n + length os)
+abbrev answerFrom : ℕ → Answer (List (List ℕ)) → Answer ℕ
+answerFrom n (refuse r) = refuse r
+answerFrom n (fine os) = fine (suc n + length os)
 
 -- after an END card nothing may stand
 end-tallied : (t : Tally) (n : ℕ) (cs : List Card) → Clear t (suc n) true → suc n + length cs < most
     → verdictOf (tallied t (faces cs)) ≡ answerFrom n (nothingFrom (suc (suc n)) cs)
-end-tallied t n [] k h = verdict-ordered t (k .good) (k .right) (k .end) ∙ ap Ordered (let z : t .lines ≡ suc n + 0 = omega (arith, k .count) in z)
+end-tallied t n [] k h = verdict-ordered t (k .good) (k .right) (k .end) ∙ ap (λ (m : ℕ). fine m) (let z : t .lines ≡ suc n + 0 = omega (arith, k .count) in z)
 end-tallied t n (c ∷ cs) k h = at-fault k (omega arith) c cs (wrong c)
   where
     second : suc (suc n) ≡ 1 → ⊥
@@ -161,7 +159,7 @@ end-tallied t n (c ∷ cs) k h = at-fault k (omega arith) c cs (wrong c)
 fs-more : (n : ℕ) (o : List ℕ) (x : Answer (List (List ℕ))) → answerFrom (suc n) x ≡ answerFrom n (x >>= λ os. fine (o ∷ os))
 unfolding _>>=_
 fs-more n o (refuse r) = refl
-fs-more n o (fine os) = ap Ordered (let z : suc (suc n) + length os ≡ suc n + suc (length os) = omega arith in z)
+fs-more n o (fine os) = ap (λ (m : ℕ). fine m) (let z : suc (suc n) + length os ≡ suc n + suc (length os) = omega arith in z)
 
 -- after a U card
 fs-tallied : (t : Tally) (n : ℕ) (cs : List Card) → 1 ≤ n → Clear t n false → n + length cs < most
@@ -192,13 +190,14 @@ fs-tallied t n (endCard ∷ cs) one k h = go (leb (suc n) 64) refl
         (end-tallied (withLine t End) n cs (in-place k (omega arith) endCard (wrong ∙ le-ltb 64 (suc n) (leb-true (suc n) 64 b))) (omega arith))
     go false b = rw b (at-fault k (omega arith) endCard cs (wrong ∙ lt-ltb 64 (suc n) (leb-false (suc n) 64 b)))
 
-u-first : (o : List ℕ) (x : Answer (List (List ℕ))) → answerFrom 1 x ≡ orderOf (x >>= λ os. fine (record { u = o; fs = os }))
+u-first : (o : List ℕ) (x : Answer (List (List ℕ))) → answerFrom 1 x ≡ cardCount (x >>= λ os. fine (record { u = o; fs = os }))
 unfolding _>>=_
 u-first o (refuse r) = refl
 u-first o (fine os) = refl
 
 -- the cards
-ordered-tallied : (t : Tally) (cs : List Card) → Clear t 0 false → length cs < most → verdictOf (tallied t (faces cs)) ≡ orderOf (ordered cs)
+ordered-tallied : (t : Tally) (cs : List Card) → Clear t 0 false → length cs < most → verdictOf (tallied t (faces cs)) ≡ cardCount (ordered cs)
+unfolding _>>=_
 ordered-tallied t [] k h = none-left k (omega arith) refl
 ordered-tallied t (uCard o ∷ cs) k h =
     fs-tallied (withLine t Utility) 1 cs (omega arith) (in-place k (omega arith) (uCard o) (le-ltb 1 1 (omega arith))) (omega arith)
@@ -217,11 +216,11 @@ map-faces [] = refl
 map-faces (c ∷ cs) = ap (kindOf (some c) ∷_) (map-faces cs)
 
 lines-tallied : (t : Tally) (ls : List (List ℕ)) → Clear t 0 false → length ls < most
-    → verdictOf (tallied t (kinds ls)) ≡ orderOf (cardsFrom 1 ls >>= ordered)
+    → verdictOf (tallied t (kinds ls)) ≡ cardCount (cardsFrom 1 ls >>= ordered)
 unfolding _>>=_
 lines-tallied t ls k h = go (cardsFrom 1 ls) refl
   where
-    go : (x : Answer (List Card)) → cardsFrom 1 ls ≡ x → verdictOf (tallied t (kinds ls)) ≡ orderOf (x >>= ordered)
+    go : (x : Answer (List Card)) → cardsFrom 1 ls ≡ x → verdictOf (tallied t (kinds ls)) ≡ cardCount (x >>= ordered)
     go (refuse r) e =
         let w = bad-first 0 ls r t (k .count) (k .good) (omega arith) e in
         verdict-bad (tallied t (kinds ls)) (λ z. omega (arith, w .1, w .2)) ∙ rw (w .0, w .1) refl
@@ -232,7 +231,7 @@ lines-tallied t ls k h = go (cardsFrom 1 ls) refl
         ap (λ (ks : List CardKind). verdictOf (tallied t ks)) f ∙ ordered-tallied t cs k (omega arith)
 
 -- all lines of a deck
-pub deck-tallied : (x : List ℕ) → length x < most → verdictOf (tallied noLine (kinds (lines x))) ≡ orderOf (operandsOf x)
+pub deck-tallied : (x : List ℕ) → length x < most → verdictOf (tallied noLine (kinds (lines x))) ≡ cardCount (operandsOf x)
 unfolding operandsOf
 deck-tallied x few =
     lines-tallied noLine (lines x) (record { count = refl; good = refl; right = refl; end = refl }) (omega (arith, lines-most x))

@@ -6,7 +6,7 @@ use mathlib.Core.Option.{Option, none, some}
 use Prim.Native.Nat.{ℕ, _+_}
 use lib.Dec.{ltb, leb, eqb}
 use lib.ListN.{length, take, set, replicate}
-use Rattle.rules.specs.Answer.{Answer, fine, refuse}
+use Rattle.rules.specs.Answer.{Answer, fine, refused, _>>=_}
 use Rattle.rules.specs.Deck.{Card, uCard, fsCard, endCard, cardOf}
 use Rattle.rules.specs.Order.{Operands}
 use Rattle.lines.specs.declared.Scanner.{Scanner}
@@ -115,20 +115,26 @@ abbrev pub scanFrom : Scanner → List ℕ → Scanner
 scanFrom st [] = st
 scanFrom st (b ∷ bs) = scanFrom (stepOf st b) bs
 
--- the lowest refusal, or the cards
-unfoldable pub verdictOf : Tally → OrderRead
+-- the lowest refusal, or how many cards there are
+unfoldable pub verdictOf : Tally → Answer ℕ
 verdictOf t =
     cond (eqb (t .bad) 0)
     (cond (eqb (t .fault) 0)
-    (cond (t .ended) (Ordered (t .lines)) (Refused 2 (counted (t .lines))))
-    (Refused 2 (t .fault)))
-    (Refused 1 (t .bad))
+    (cond (t .ended) (fine (t .lines)) (refused 2 (counted (t .lines))))
+    (refused 2 (t .fault)))
+    (refused 1 (t .bad))
 
 -- a line that is begun where the deck ends is the last
-unfoldable pub scannedOf : Scanner → OrderRead
+unfoldable pub scannedOf : Scanner → Answer ℕ
 scannedOf st = verdictOf (tallyOf (cond (eqb (st .size) 0) st (judgedOf st)))
 
--- what the rules answer of the cards' order: a refusal, or one U card, the FS cards and one END card
-abbrev pub orderOf : Answer Operands → OrderRead
-orderOf (refuse r) = Refused (r .number) (r .place)
-orderOf (fine os) = Ordered (2 + length (os .fs))
+-- how many cards a deck in order has: one U card, the FS cards and one END card
+abbrev pub cardCount : Answer Operands → Answer ℕ
+cardCount answer = answer >>= λ os. fine (2 + length (os .fs))
+
+-- ---- answers
+
+-- what an answer about the cards' order says: a refusal with its number and place, or how many cards there are
+abbrev pub answerOf : OrderRead → Answer ℕ
+answerOf (Refused number place) = refused number place
+answerOf (Ordered cards) = fine cards

@@ -7,7 +7,7 @@ ghost use Rattle.rules.specs.Base.{ascii, within, every};
 ghost use Rattle.rules.specs.Deck.{tidy, cardOf};
 ghost use Rattle.rules.specs.Order.{operandsOf};
 ghost use Rattle.lines.specs.Meaning.{BeginsSays, OperandEnds, CardSays, inner, PassedSays, LineSays};
-ghost use Rattle.lines.specs.Scanning.{counted, kindOf, begunKind, firstOf, isOther, faulty, misplaced, closed, withLine, tallyOf, judgedOf, withByte, stepOf, start, scanFrom, verdictOf, scannedOf, orderOf};
+ghost use Rattle.lines.specs.Scanning.{counted, kindOf, begunKind, firstOf, isOther, faulty, misplaced, closed, withLine, tallyOf, judgedOf, withByte, stepOf, start, scanFrom, verdictOf, scannedOf, cardCount, answerOf};
 
 // The most bytes of a card.
 const LONGEST: usize = 80;
@@ -436,7 +436,7 @@ pub fn scan(state: Scanner, piece: &[u8]) -> Scanner
 
 // The lowest refusal: a line that is no card, before a card at fault, before an END card that is missing.
 fn verdict(tally: Tally) -> OrderRead
-    ensures { λ r. ⌜ r ≡ verdictOf tally ⌝ }
+    ensures { λ r. ⌜ answerOf r ≡ verdictOf tally ⌝ }
 {
     let bad = tally.bad;
     if bad != 0 {
@@ -463,7 +463,7 @@ fn verdict(tally: Tally) -> OrderRead
 
 // What the scan comes to, where the deck ends here. A line that is begun is the last.
 pub fn scanned(state: Scanner) -> OrderRead
-    ensures { λ r. ⌜ r ≡ scannedOf state ⌝ }
+    ensures { λ r. ⌜ answerOf r ≡ scannedOf state ⌝ }
 {
     if state.size == 0 {
         return verdict(tally_of(state));
@@ -473,7 +473,7 @@ pub fn scanned(state: Scanner) -> OrderRead
 
 // The order of a whole deck's cards. All of a line is here, so no byte is copied.
 pub fn order(deck: &[u8]) -> OrderRead
-    ensures { λ r. ⌜ r ≡ orderOf (operandsOf (now (deck .entry))) ⌝ }
+    ensures { λ r. ⌜ answerOf r ≡ cardCount (operandsOf (now (deck .entry))) ⌝ }
 {
     let mut tally = Tally {
         lines: 0,

@@ -2,7 +2,7 @@
 use mathlib.Core.Path.{sym, ap, _∙_}
 use Prim.Native.Nat.{ℕ}
 use borrow.Author.Needs.{needs}
-use Rattle.lines.specs.declared.OrderRead.the-variants.{Refused}
+use Rattle.rules.specs.Answer.{refused}
 use Rattle.lines.proofs.StepLaws.{verdict-bad, verdict-fault, verdict-ordered, verdict-open}
 use Rattle.lines.proofs.verdict.Statement.{statement}
 use Rattle.lines.proofs.verdict.Tie as tie
@@ -22,7 +22,7 @@ count-requires c κs = search needs
 returns-4 : tie.Need-returns-4
 returns-4 c =
     let b = c .before in
-    ap (λ (n : ℕ). Refused 2 n) (c .count .ensures)
+    ap (λ (n : ℕ). refused 2 n) (c .count .ensures)
     ∙ sym (verdict-open (b .before .before .before .args .tally) (b .before .before .if1 .left) (b .before .if2 .left) (b .if3 .left))
 
 pub verdict-spec : {M : Type 1} → statement M
