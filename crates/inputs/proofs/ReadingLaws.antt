@@ -1,36 +1,116 @@
--- A scan that goes on where another stopped is one scan of both pieces; and a deck that fills the room is refused, since it is too long to be right.
-use mathlib.Core.Path.{_≡_, ap, sym, _∙_}
+-- What filling a room comes to follows from what its reads answered, read by read. A scan that goes on where another stopped is one scan of both pieces;
+-- and a deck that fills the room is refused, since it is too long to be right.
+use mathlib.Core.Path.{_≡_, refl, ap, sym, _∙_, subst}
 use mathlib.Core.Logic.{_⊎_, inl, inr, ⊎-elim}
-use mathlib.Core.List.{List, _++_}
-use Prim.Native.Nat.{ℕ, _<_}
+use mathlib.Core.Bool.{Bool, false, cond}
+use mathlib.Core.List.{List, [], _∷_, _++_, append-assoc}
+use Prim.Native.Nat.{ℕ, zero-le, _+_, _-_, _≤_, _<_}
 use native.Mathlib.Omega.{arith}
-use lib.ListN.{length, length-append}
-use Rattle.rules.specs.Answer.{refusalOf, placeOf}
-use Rattle.lines.specs.Scanning.{start, scanFrom, scannedOf, answerOf}
+use lib.ListN.{length, take, drop, length-append, length-drop}
+use lib.Seq.{length-take-le}
+use lib.Dec.{eqb}
+use lib.IntN.{ℤ}
+use borrow.Author.Tests.{eq-eqb, ne-eqb}
+use Rattle.io.specs.Counts.{Counts}
+use Rattle.io.proofs.Counting.{counts}
+use Rattle.rules.specs.Answer.{Answer, fine, refuse, refusalOf}
+use Rattle.lines.specs.Scanning.{start, scanFrom, scannedOf}
 use Rattle.lines.specs.declared.Scanner.{Scanner}
-use Rattle.lines.specs.declared.OrderRead.{OrderRead}
 use Rattle.lines.proofs.DeckLaws.{scan-pieces}
 use Rattle.lines.proofs.LongLaws.{long-refused}
-use Rattle.inputs.specs.Reading.{Went, Judged}
+use Rattle.inputs.specs.Reading.{countedAs, ReadSays, filledFrom, FillSays, Went, FedSays, wholeDeck, lengthOf, longDeck, deckOf, Judged}
+use Rattle.inputs.specs.declared.Filled.{Filled}
+use Rattle.inputs.specs.declared.Fed.{Fed}
 use Rattle.inputs.specs.declared.DeckRead.{DeckRead}
 
-pub further : (first now next : Scanner) → Went first now → Went now next → Went first next
-further first now next a b = (a .0 ++ b .0, b .1 ∙ ap (λ (s : Scanner). scanFrom s (b .0)) (a .1) ∙ scan-pieces first (a .0) (b .0))
+-- ---- filling a room
 
--- the first bytes, and then what more was read: what the scan of it all comes to
-pub all-scanned : (bytes : List ℕ) (none begun fed : Scanner) (read case : OrderRead) →
-    none ≡ start → begun ≡ scanFrom none bytes → Went begun fed → answerOf read ≡ scannedOf fed → read ≡ case →
-    (rest : List ℕ) ×
-    (refusalOf (answerOf case) ≡ refusalOf (scannedOf (scanFrom start (bytes ++ rest)))) × (placeOf (answerOf case) ≡ placeOf (scannedOf (scanFrom start (bytes ++ rest))))
-all-scanned bytes none begun fed read case n b w r k =
-    let whole : answerOf case ≡ scannedOf (scanFrom start (bytes ++ w .0))
-    = ap answerOf (sym k) ∙
-    r ∙
-    ap scannedOf (w .1 ∙ ap (λ (s : Scanner). scanFrom s (w .0)) (b ∙ ap (λ (s : Scanner). scanFrom s bytes) n) ∙ scan-pieces start bytes (w .0)) in
-    (w .0, ap refusalOf whole, ap placeOf whole)
+-- so many bytes are filled after some reads, whatever is read then
+abbrev pub FilledTo : ℕ → ℕ → Type 0
+FilledTo room at = (gots : List ℤ) × ((more : List ℤ) → filledFrom room 0 (gots ++ more) ≡ filledFrom room at more)
 
--- so what is judged is never taken as right
-pub judged-refused : (bytes : List ℕ) (r : DeckRead) → 5184 < length bytes → Judged bytes r → (r .refusal ≡ 1) ⊎ (r .refusal ≡ 2)
+pub filled-none : (room : ℕ) → FilledTo room 0
+filled-none room = ([], λ more. refl)
+
+-- how many bytes are left of a room that keeps its length
+pub left-behind : (room : List ℕ) (at size : ℕ) → length room ≡ size → length (take (length room - at) (drop at room)) ≡ size - at
+left-behind room at size e = length-take-le (length room - at) (drop at room) (omega (arith, length-drop at room)) ∙ ap (λ (n : ℕ). n - at) e
+
+module _ (room at : ℕ) (filled : FilledTo room at) where
+  module _ (left : ℕ) (behind : left ≡ room - at) (read : Filled) (says : ReadSays left read) where
+    abbrev got : ℤ
+    got = says .0
+
+    is : read ≡ countedAs got (room - at)
+    is = says .1 ∙ ap (countedAs got) behind
+
+    -- what follows, by whether the read brought something
+    abbrev next : List ℤ → Filled → Filled
+    next more x = cond (eqb (x .length) 0) (record { length = at; failed = x .failed }) (filledFrom room (at + x .length) more)
+
+    went : (more : List ℤ) → filledFrom room 0 (filled .0 ++ (got ∷ more)) ≡ next more read
+    went more = filled .1 (got ∷ more) ∙ ap (next more) (sym is)
+
+    pub filled-more : (read .length ≡ 0 → ⊥) → FilledTo room (at + read .length)
+    filled-more n =
+        let on : (more : List ℤ) → next more read ≡ filledFrom room (at + read .length) more = λ more. rw (ne-eqb (read .length) 0 n) in
+        (filled .0 ++ (got ∷ []), λ more. ap (filledFrom room 0) (append-assoc (filled .0) (got ∷ []) more) ∙ went more ∙ on more)
+
+    pub filled-last : read .length ≡ 0 → FillSays room (record { length = at; failed = read .failed })
+    filled-last e =
+        let last : next [] read ≡ record { length = at; failed = read .failed } = rw (eq-eqb (read .length) 0 e) in
+        (filled .0 ++ (got ∷ []), sym (went [] ∙ last))
+
+  -- no room is left
+  pub filled-all : FillSays room (record { length = at; failed = false })
+  filled-all = (filled .0 ++ [], sym (filled .1 []))
+
+-- ---- a long deck
+
+fed-went : (first : Scanner) (fed : Fed) → FedSays first fed → Went first (fed .state)
+fed-went first fed f = (f .2 .0, ap (λ (g : Fed). g .state) (f .3) ∙ f .2 .1)
+
+went-on : (first now next : Scanner) → Went first now → Went now next → Went first next
+went-on first now next a b = (a .0 ++ b .0, b .1 ∙ ap (λ (s : Scanner). scanFrom s (b .0)) (a .1) ∙ scan-pieces first (a .0) (b .0))
+
+pub further : (first : Scanner) (now next : Fed) → FedSays first now → FedSays (now .state) next → FedSays first next
+further first now next a b = (b .0, b .1, went-on first (now .state) (b .0) (fed-went first now a) (b .2), b .3)
+
+-- the first bytes, and then what more was read: the answer is what the scan of it all comes to
+pub all-judged : (bytes : List ℕ) (none begun : Scanner) (fed : Fed) (answer : Answer ℕ) (r : DeckRead) → none ≡ start → begun ≡ scanFrom none bytes
+    → FedSays begun fed → answer ≡ scannedOf (fed .state) → r ≡ longDeck answer (fed .failed) → Judged bytes r
+all-judged bytes none begun fed answer r n b f a e =
+    let w = fed-went begun fed f in
+    let all : fed .state ≡ scanFrom start (bytes ++ w .0)
+    = w .1
+    ∙ ap (λ (s : Scanner). scanFrom s (w .0)) (b ∙ ap (λ (s : Scanner). scanFrom s bytes) n)
+    ∙ scan-pieces start bytes (w .0) in
+    (w .0, fed .failed, e ∙ ap (λ (x : Answer ℕ). longDeck x (fed .failed)) (a ∙ ap scannedOf all))
+
+-- a judged deck lies within a room of 65,536 bytes
+pub long-counts : (room : List ℕ) (answer : Answer ℕ) → 65536 ≤ length room → Counts (lengthOf answer) room
+long-counts room (refuse r) h = counts 0 room zero-le
+long-counts room (fine cards) h = counts 65536 room h
+
+-- so does whatever answers the same
+pub same-counts : (room : List ℕ) {r q : DeckRead} → r ≡ q → Counts (q .length) room → Counts (r .length) room
+same-counts room e h = subst (λ (d : DeckRead). Counts (d .length) room) (sym e) h
+
+module _ (room : List ℕ) (read : Filled) (rest : List ℕ) (failed : Bool) where
+  -- a room that is full
+  pub deck-long : read .length ≡ 65536 → deckOf room read rest failed ≡ longDeck (scannedOf (scanFrom start (room ++ rest))) failed
+  unfolding deckOf
+  deck-long e = rw (eq-eqb (read .length) 65536 e)
+
+  -- one that is not
+  pub deck-whole : (read .length ≡ 65536 → ⊥) → deckOf room read rest failed ≡ wholeDeck read
+  unfolding deckOf
+  deck-whole n = rw (ne-eqb (read .length) 65536 n)
+
+-- so what is judged is never taken as right, and none of its bytes is used
+pub judged-refused : (bytes : List ℕ) (r : DeckRead) → 5184 < length bytes → Judged bytes r → (r .length ≡ 0) × ((r .refusal ≡ 1) ⊎ (r .refusal ≡ 2))
 judged-refused bytes r h j =
     let l = long-refused (bytes ++ j .0) (omega (arith, length-append bytes (j .0))) in
-    ⊎-elim (λ e. inl (j .1 ∙ ap refusalOf e)) (λ e. inr (j .1 ∙ ap refusalOf e)) (l .1)
+    let n = ap (λ (d : DeckRead). d .length) (j .2) in
+    let s = ap (λ (d : DeckRead). d .refusal) (j .2) in
+    ⊎-elim (λ e. (n ∙ ap lengthOf e, inl (s ∙ ap refusalOf e))) (λ e. (n ∙ ap lengthOf e, inr (s ∙ ap refusalOf e))) (l .1)

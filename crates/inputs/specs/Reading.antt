@@ -1,27 +1,83 @@
--- What can be promised of a deck that is read piece by piece. No contract says which bytes a read brings: these say "some bytes". Assumes nothing.
+-- What can be promised of what is read. No contract says which bytes a read of C's brings, or how many: these say that there are some, and what the
+-- answer is then. Assumes nothing.
 use mathlib.Core.Path.{_≡_}
-use mathlib.Core.Logic.{_⊎_}
-use mathlib.Core.List.{List, _++_}
-use Prim.Native.Nat.{ℕ, _<_}
-use Rattle.rules.specs.Answer.{refusalOf, placeOf}
+use mathlib.Core.Bool.{Bool, false, cond}
+use mathlib.Core.List.{List, [], _∷_, _++_}
+use Prim.Native.Nat.{ℕ, _+_, _-_}
+use lib.Dec.{eqb}
+use lib.IntN.{ℤ, pos}
+use lib.Signed.{ltZ}
+use Rattle.io.specs.Counts.{Counts, clamped}
+use Rattle.rules.specs.Answer.{Answer, fine, refuse, refusalOf, placeOf}
 use Rattle.lines.specs.Scanning.{start, scanFrom, scannedOf}
 use Rattle.lines.specs.declared.Scanner.{Scanner}
+use Rattle.inputs.specs.declared.Filled.{Filled}
+use Rattle.inputs.specs.declared.Fed.{Fed}
 use Rattle.inputs.specs.declared.DeckRead.{DeckRead}
+
+-- ---- reads
+
+-- what a read into so many bytes of room came to, by what it answered: a number below 0 where it failed
+abbrev pub countedAs : ℤ → ℕ → Filled
+countedAs got room = record { length = clamped got room; failed = ltZ got (pos 0) }
+
+-- there is such an answer
+abbrev pub ReadSays : ℕ → Filled → Type 0
+ReadSays room r = (got : ℤ) × (r ≡ countedAs got room)
+
+-- what filling a room came to, where `at` of its bytes are filled, by what each further read answered: the first that brings nothing is the last
+abbrev pub filledFrom : ℕ → ℕ → List ℤ → Filled
+filledFrom room at [] = record { length = at; failed = false }
+filledFrom room at (got ∷ gots) =
+    let read = countedAs got (room - at) in
+    let later = filledFrom room (at + read .length) gots in
+    cond (eqb (read .length) 0) (record { length = at; failed = read .failed }) later
+
+-- there are such answers
+abbrev pub FillSays : ℕ → Filled → Type 0
+FillSays room r = (gots : List ℤ) × (r ≡ filledFrom room 0 gots)
+
+-- ---- the bytes behind a full room
 
 -- the scan went on over some bytes
 abbrev pub Went : Scanner → Scanner → Type 0
 Went before after = (bytes : List ℕ) × (after ≡ scanFrom before bytes)
 
--- the answer is the scan's, of a deck that begins with these bytes and goes on with some others
+-- what is known of a scan that was fed what filling a room came to: where the room was filled there may be more
+abbrev pub fedOf : Scanner → Filled → Fed
+fedOf state read = record { state = state; more = eqb (read .length) 65536; failed = read .failed }
+
+-- that is known, of a scan that went on
+abbrev pub FedSays : Scanner → Fed → Type 0
+FedSays before fed = (state : Scanner) × (read : Filled) × Went before state × (fed ≡ fedOf state read)
+
+-- ---- what is answered
+
+-- of a deck that leaves room: all that was read
+abbrev pub wholeDeck : Filled → DeckRead
+wholeDeck read = record { length = read .length; refusal = 0; place = 0; failed = read .failed }
+
+-- of a refused deck no byte is used
+abbrev pub lengthOf : Answer ℕ → ℕ
+lengthOf (refuse r) = 0
+lengthOf (fine cards) = 65536
+
+-- of a deck that fills the room: what the scan of it comes to
+abbrev pub longDeck : Answer ℕ → Bool → DeckRead
+longDeck answer failed = record { length = lengthOf answer; refusal = refusalOf answer; place = placeOf answer; failed = failed }
+
+-- of any deck, where `read` is what filling the room came to, `rest` are the bytes behind a full room, and `failed` says whether they could not be read
+unfoldable pub deckOf : List ℕ → Filled → List ℕ → Bool → DeckRead
+deckOf room read rest failed =
+    cond (eqb (read .length) 65536) (longDeck (scannedOf (scanFrom start (room ++ rest))) failed) (wholeDeck read)
+
+-- ---- promises
+
+-- the answer is that of a deck that begins with these bytes and goes on with some others
 abbrev pub Judged : List ℕ → DeckRead → Type 0
-Judged bytes r =
-    (rest : List ℕ) ×
-    (r .refusal ≡ refusalOf (scannedOf (scanFrom start (bytes ++ rest)))) × (r .place ≡ placeOf (scannedOf (scanFrom start (bytes ++ rest))))
+Judged bytes r = (rest : List ℕ) × (failed : Bool) × (r ≡ longDeck (scannedOf (scanFrom start (bytes ++ rest))) failed)
 
--- the deck is whole in the room, and nothing is said against it yet
-abbrev pub Whole : DeckRead → Type 0
-Whole r = (r .length < 65536) × (r .refusal ≡ 0) × (r .place ≡ 0)
-
--- a deck of fewer bytes than the room is here as a whole; any other is judged
+-- the answer is that of some reads into the room, and of some bytes behind a full room
 abbrev pub DeckSays : List ℕ → DeckRead → Type 0
-DeckSays room r = Whole r ⊎ Judged room r
+DeckSays room r =
+    (read : Filled) × (rest : List ℕ) × (failed : Bool) × Counts (read .length) room × FillSays 65536 read × (r ≡ deckOf room read rest failed)

@@ -1,6 +1,9 @@
 // What programs read: a deck of any length, and a reel, from a descriptor. A read that failed is told apart from the end of a file.
 ghost use Rattle.io.specs.Counts.{Counts};
-ghost use Rattle.inputs.specs.Reading.{Went, Judged, DeckSays};
+ghost use mathlib.Core.Path.{_≡_};
+ghost use lib.ListN.{length};
+ghost use Rattle.lines.specs.Scanning.{answerOf};
+ghost use Rattle.inputs.specs.Reading.{countedAs, ReadSays, FillSays, fedOf, FedSays, wholeDeck, longDeck, Judged, DeckSays};
 use lines::OrderRead;
 use lines::Scanner;
 
@@ -10,20 +13,30 @@ pub struct Filled {
     pub failed: bool,
 }
 
-// One read.
-fn some(fd: i32, room: &mut [u8]) -> Filled
-    ensures { λ r. ⌜ Counts (r .length) (now (room .exit)) ⌝ }
+// What a read into the room came to, by what it answered.
+fn counted(got: isize, room: &[u8]) -> Filled
+    ensures { λ r. ⌜ Counts (r .length) (now (room .entry)) ⌝ }
+    ensures { λ r. ⌜ r ≡ countedAs got (length (now (room .entry))) ⌝ }
 {
-    let got = libc::read(fd, room);
     Filled {
         length: io::count(got, room),
         failed: got < 0,
     }
 }
 
+// One read.
+fn some(fd: i32, room: &mut [u8]) -> Filled
+    ensures { λ r. ⌜ Counts (r .length) (now (room .exit)) ⌝ }
+    ensures { λ r. ⌜ ReadSays (length (now (room .entry))) r ⌝ }
+{
+    let got = libc::read(fd, room);
+    counted(got, room)
+}
+
 // Reads until the room is full, the file ends or a read fails.
 pub fn fill(fd: i32, room: &mut [u8]) -> Filled
     ensures { λ r. ⌜ Counts (r .length) (now (room .exit)) ⌝ }
+    ensures { λ r. ⌜ FillSays (length (now (room .entry))) r ⌝ }
 {
     let mut at = 0;
     while at < room.len() {
@@ -49,22 +62,29 @@ struct Fed {
     failed: bool,
 }
 
-fn feed(fd: i32, state: Scanner) -> Fed
-    ensures { λ r. ⌜ Went state (r .state) ⌝ }
+// What is known once a scan was fed what was read. A read that left room found the end, or failed.
+fn fed_with(state: Scanner, read: Filled) -> Fed
+    ensures { λ r. ⌜ r ≡ fedOf state read ⌝ }
 {
-    let mut room = io::large_buffer();
-    let read = fill(fd, &mut room);
-    let n = read.length;
     Fed {
-        state: lines::scan(state, &room[..n]),
-        more: n == 65536,
+        state,
+        more: read.length == 65536,
         failed: read.failed,
     }
 }
 
+fn feed(fd: i32, state: Scanner) -> Fed
+    ensures { λ r. ⌜ FedSays state r ⌝ }
+{
+    let mut room = io::large_buffer();
+    let read = fill(fd, &mut room);
+    let n = read.length;
+    fed_with(lines::scan(state, &room[..n]), read)
+}
+
 // A proved loop has to end, and nothing says that the input does: it counts its turns down, from a number that no run uses up.
 fn feed_all(fd: i32, state: Scanner) -> Fed
-    ensures { λ r. ⌜ Went state (r .state) ⌝ }
+    ensures { λ r. ⌜ FedSays state r ⌝ }
 {
     let mut fed = Fed {
         state,
@@ -91,29 +111,47 @@ pub struct DeckRead {
     pub failed: bool,
 }
 
-// The deck whose first 65,536 bytes are in the room. A right deck has at most 5,184 bytes, so a longer one is refused by 1 or 2, which the
-// scanner finds whatever its length; that its cards are in order does not arise (`judged-refused`).
+// A deck that left room is here as a whole, and nothing is said against it yet.
+fn whole(read: Filled) -> DeckRead
+    ensures { λ r. ⌜ r ≡ wholeDeck read ⌝ }
+{
+    DeckRead {
+        length: read.length,
+        refusal: 0,
+        place: 0,
+        failed: read.failed,
+    }
+}
+
+// A deck that filled the room, by what the scan of it comes to. A right deck has at most 5,184 bytes, so a longer one is refused by 1 or 2; that
+// its cards are in order does not arise (`judged-refused`).
+fn judged(read: OrderRead, failed: bool) -> DeckRead
+    ensures { λ r. ⌜ r ≡ longDeck (answerOf read) failed ⌝ }
+{
+    match read {
+        OrderRead::Refused { number, place } => DeckRead {
+            length: 0,
+            refusal: number,
+            place,
+            failed,
+        },
+        OrderRead::Ordered { cards: _ } => DeckRead {
+            length: 65536,
+            refusal: 0,
+            place: 0,
+            failed,
+        },
+    }
+}
+
+// The deck whose first 65,536 bytes are in the room. The scanner finds its refusal whatever its length.
 fn longer(fd: i32, room: &[u8; 65536]) -> DeckRead
     ensures { λ r. ⌜ Counts (r .length) (now (room .entry)) ⌝ }
     ensures { λ r. ⌜ Judged (now (room .entry)) r ⌝ }
 {
     let fed = feed_all(fd, lines::scan(lines::begin(), room));
     let state = fed.state;
-    let read = lines::scanned(state);
-    match read {
-        OrderRead::Refused { number, place } => DeckRead {
-            length: 0,
-            refusal: number,
-            place,
-            failed: fed.failed,
-        },
-        OrderRead::Ordered { cards: _ } => DeckRead {
-            length: 65536,
-            refusal: 0,
-            place: 0,
-            failed: fed.failed,
-        },
-    }
+    judged(lines::scanned(state), fed.failed)
 }
 
 // A deck of any length.
@@ -125,10 +163,5 @@ pub fn deck(fd: i32, room: &mut [u8; 65536]) -> DeckRead
     if read.length == 65536 {
         return longer(fd, room);
     }
-    DeckRead {
-        length: read.length,
-        refusal: 0,
-        place: 0,
-        failed: read.failed,
-    }
+    whole(read)
 }

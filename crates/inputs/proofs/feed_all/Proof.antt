@@ -1,20 +1,21 @@
 -- The turns are counted down, so the loop ends. Each turn goes on where the last one stopped.
 use mathlib.Core.Path.{refl}
+use mathlib.Core.Bool.{false}
 use mathlib.Core.List.{[]}
 use native.Mathlib.Omega.{arith}
-use Rattle.inputs.specs.Reading.{Went}
+use Rattle.inputs.specs.Reading.{FedSays}
 use Rattle.inputs.proofs.ReadingLaws.{further}
 use Rattle.inputs.proofs.feed_all.Statement.{statement}
 use Rattle.inputs.proofs.feed_all.Tie as tie
 
 abbrev Inv-loop : tie.InvT-loop
-Inv-loop fd fed₀ turns₀ fed turns = Went (fed₀ .state) (fed .state)
+Inv-loop fd fed₀ turns₀ fed turns = FedSays (fed₀ .state) fed
 
 abbrev μ-loop : tie.MeasureT-loop
 μ-loop fd fed₀ turns₀ fed turns = turns
 
 loop-holds : tie.Need-loop-holds Inv-loop μ-loop
-loop-holds c = ([], refl)
+loop-holds c = (_, record { length = 65536; failed = false }, ([], refl), refl)
 
 feed-requires : tie.Need-feed-requires Inv-loop μ-loop
 feed-requires c κs = tt
