@@ -10,11 +10,12 @@ use lib.ListN.{length, take}
 use borrow.Author.Tests.{eq-eqb, ne-eqb}
 use Rattle.rules.specs.Base.{_⇒_, every, isEmpty, joined}
 use Rattle.rules.specs.Places.{All, noMore, also}
-use Rattle.rules.specs.Answer.{Answer, _>>_, unless, each}
+use Rattle.rules.specs.Answer.{Answer, fine, refuse, refused, refusalOf, placeOf, _>>_, unless, each}
 use Rattle.rules.specs.Grammar.{Mode, tc, tf, tr, trf, Format, ff, fv, fu, Size, two, one, Item}
 use Rattle.rules.specs.Halves.{Field as RuleField}
 use Rattle.rules.specs.Asked.{Asked as RuleAsked, fieldsOf, cvs}
 use Rattle.rules.specs.Plan.{isTC, isTF, isTR, isFF, isFV, isFU, selects, numbers, wanted, recordLength, blockLength, whole, equal, roomy, combinations, sound, inside, inputHalves, barrenHalf, combined, assembled, Plan}
+use Rattle.rules.proofs.AnswerLaws.{fine-then, fine-unless}
 use Rattle.rules.specs.Rows.{Within, SizeWithin, UtilityWithin, KindWithin, FieldWithin}
 use Rattle.terms.specs.Meaning.{modeOf, formatOf, sizeOf, kindOf, fieldOf, OneSize, utilityOf, fieldsIn, cvCard, Means, planIn}
 use Rattle.terms.proofs.PlanOf.{plan-means}
@@ -147,26 +148,62 @@ outside-same a b i l (f ∷ fs) = go (outside-same a b (suc i) (omega arith) fs)
     go ih true t = rw t ih
     go ih false t = rw (t, ne-eqb i 0 (λ e. omega arith))
 
--- test after test
-in-turn : (s1 s2 s3 s4 : Bool) (cv i : ℕ) (next : Answer Unit) → (do
-  unless s1 8 1
-  unless s2 8 2
-  unless s3 8 cv
-  unless s4 9 i
-  next) ≡ answerOf (cond s1 (cond s2 (cond s3 (cond s4 Sound (Outside i)) (Broken cv)) (Broken 2)) (Broken 1)) next
-unfolding unless _>>_
-in-turn true true true true cv i next = refl
-in-turn true true true false cv i next = refl
-in-turn true true false s4 cv i next = refl
-in-turn true false s3 s4 cv i next = refl
-in-turn false s2 s3 s4 cv i next = refl
+-- the tests in turn
+module _ (x : Asked) where
+  abbrev pub rightLines : Bool
+  rightLines = allLines (modeOf (x .mode)) (formatOf (x .format)) (sizeOf (x .input)) (sizeOf (x .output)) (x .first) (x .fs)
+
+  abbrev pub rightCards : Bool
+  rightCards = selects (modeOf (x .mode)) || eqb (x .fs) 0
+
+  abbrev pub rightCV : Bool
+  rightCV = isFV (formatOf (x .format)) || eqb (x .cv) 0
+
+  pub broken-lines : rightLines ≡ false → refused 8 1 ≡ combinedOf x
+  unfolding combinedOf unless _>>_
+  broken-lines e = rw e
+
+  module _ (lines : rightLines ≡ true) where
+    pub broken-cards : rightCards ≡ false → refused 8 2 ≡ combinedOf x
+    unfolding combinedOf unless _>>_
+    broken-cards e = rw (lines, e)
+
+    module _ (cards : rightCards ≡ true) where
+      pub broken-cv : rightCV ≡ false → refused 8 (x .cv) ≡ combinedOf x
+      unfolding combinedOf unless _>>_
+      broken-cv e = rw (lines, cards, e)
+
+      -- past these the fields decide
+      module _ (cv : rightCV ≡ true) (i : ℕ) (first : i ≡ firstOutside (recordLength (sizeOf (x .input))) (recordLength (sizeOf (x .output))) 1 (fieldsIn x)) where
+        by-fields : combinedOf x ≡ unless (eqb i 0) 9 i
+        unfolding combinedOf
+        by-fields =
+            fine-then _ _ (fine-unless _ 8 1 lines)
+            ∙ fine-then _ _ (fine-unless _ 8 2 cards)
+            ∙ fine-then _ _ (fine-unless _ 8 (x .cv) cv)
+            ∙ outside-same (recordLength (sizeOf (x .input))) (recordLength (sizeOf (x .output))) 1 (omega arith) (fieldsIn x)
+            ∙ rw (← first)
+
+        pub outside-field : (i ≡ 0 → ⊥) → refused 9 i ≡ combinedOf x
+        unfolding unless
+        outside-field n = sym (by-fields ∙ rw (ne-eqb i 0 n))
+
+        pub none-outside : i ≡ 0 → fine tt ≡ combinedOf x
+        unfolding unless
+        none-outside z = sym (by-fields ∙ rw (eq-eqb i 0 z))
+
+-- what is asked after two tests is asked after the second
+pub then-assoc : {B : Type 0} (x y : Answer Unit) (z : Answer B) → ((x >> y) >> z) ≡ (x >> (y >> z))
+unfolding _>>_
+then-assoc (fine a) y z = refl
+then-assoc (refuse r) y z = refl
 
 -- what the rules ask after refusals 8 and 9
 abbrev pub refusal10 : Plan → Answer Unit
 refusal10 p = unless (eqb (barrenHalf p) (inputHalves p)) 10 (barrenHalf p)
 
 in-plan : (zone : ℕ) (x : Asked) (cards : List (List Item)) → x .fs ≡ length cards → x .cv ≡ cvCard 2 cards
-    → combined (planIn zone x) cards ≡ answerOf (combinedOf x) (refusal10 (planIn zone x))
+    → combined (planIn zone x) cards ≡ (combinedOf x >> refusal10 (planIn zone x))
 unfolding combined sound planIn combinedOf
 in-plan zone x cards fs cv =
     let t = modeOf (x .mode) in
@@ -179,14 +216,13 @@ in-plan zone x cards fs cv =
       ← (lines-same t f a b (x .first) (x .fs)),
       cv-same (isFV f) 2 (omega arith) cards,
       ← cv,
-      outside-same (recordLength a) (recordLength b) 1 (omega arith) (fieldsIn x),
-    ) (in-turn _ _ _ _ _ _ _)
+    ) (simp then-assoc)
 
--- where the struct says what the deck asks for, `combine` answers what the rules do
+-- where the struct says what the deck asks for, these are what the rules ask before refusal 10
 pub combined-same : (zone : ℕ) (x : Asked) (a : RuleAsked) → Means x a
-    → combined (assembled zone a) (a .cards) ≡ answerOf (combinedOf x) (refusal10 (assembled zone a))
+    → combined (assembled zone a) (a .cards) ≡ (combinedOf x >> refusal10 (assembled zone a))
 combined-same zone x a m =
-    subst (λ (p : Plan). combined p (a .cards) ≡ answerOf (combinedOf x) (refusal10 p)) (plan-means zone x a m) (in-plan zone x (a .cards) (m .fs) (m .cv))
+    subst (λ (p : Plan). combined p (a .cards) ≡ (combinedOf x >> refusal10 p)) (plan-means zone x a m) (in-plan zone x (a .cards) (m .fs) (m .cv))
 
 -- ---- what `combine` asks holds within the limits
 
@@ -242,8 +278,20 @@ asked-fair x a m u w e =
 
 -- ---- one outcome
 
-pub only-one : (x : Asked) (r s : Combined) → r ≡ combinedOf x → s ≡ combinedOf x → r ≡ s
-only-one x r s e q = e ∙ sym q
+-- no two cases answer the same
+pub answer-once : (r q : Combined) → answerOf r ≡ answerOf q → r ≡ q
+answer-once Sound Sound e = refl
+answer-once Sound (Broken place) e = cc
+answer-once Sound (Outside field) e = cc
+answer-once (Broken place) Sound e = cc
+answer-once (Broken place) (Broken place′) e = ap Broken (ap placeOf e)
+answer-once (Broken place) (Outside field) e = absurd (omega (arith, ap refusalOf e))
+answer-once (Outside field) Sound e = cc
+answer-once (Outside field) (Broken place) e = absurd (omega (arith, ap refusalOf e))
+answer-once (Outside field) (Outside field′) e = ap Outside (ap placeOf e)
+
+pub only-one : (x : Asked) (r q : Combined) → answerOf r ≡ combinedOf x → answerOf q ≡ combinedOf x → r ≡ q
+only-one x r q e f = answer-once r q (e ∙ sym f)
 
 -- and of what is asked of a mode, a format or a size
 pub selects-only-one : (m : DeclaredMode) (r s : Bool) → r ≡ selects (modeOf m) → s ≡ selects (modeOf m) → r ≡ s

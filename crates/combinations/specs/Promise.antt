@@ -5,7 +5,7 @@ use Prim.Native.Nat.{ℕ, suc, _≤_}
 use lib.Dec.{eqb}
 use lib.ListN.{take}
 use Rattle.rules.specs.Places.{All}
-use Rattle.rules.specs.Answer.{Answer, refused}
+use Rattle.rules.specs.Answer.{Answer, fine, refused, _>>_, unless, each}
 use Rattle.rules.specs.Halves.{Field as RuleField}
 use Rattle.rules.specs.Plan.{selects, isFV, recordLength, inside}
 use Rattle.terms.specs.Meaning.{modeOf, formatOf, sizeOf, OneSize, fieldsIn}
@@ -15,28 +15,24 @@ use Rattle.combinations.specs.Lines.{FormatFair, allLines}
 use Rattle.combinations.specs.declared.Combined.{Combined}
 use Rattle.combinations.specs.declared.Combined.the-variants.{Sound, Broken, Outside}
 
+-- what each case answers in the rules
+abbrev pub answerOf : Combined → Answer Unit
+answerOf Sound = fine tt
+answerOf (Broken place) = refused 8 place
+answerOf (Outside field) = refused 9 field
+
 -- the number of the first field, the first of which has number i, that is outside its records, or 0
 abbrev pub firstOutside : ℕ → ℕ → ℕ → List RuleField → ℕ
 firstOutside a b i [] = 0
 firstOutside a b i (f ∷ fs) = let later = firstOutside a b (suc i) fs in cond (inside a b f) later i
 
-unfoldable pub combinedOf : Asked → Combined
-combinedOf x =
-    cond (allLines (modeOf (x .mode)) (formatOf (x .format)) (sizeOf (x .input)) (sizeOf (x .output)) (x .first) (x .fs))
-    (cond (selects (modeOf (x .mode)) || eqb (x .fs) 0)
-    (cond (isFV (formatOf (x .format)) || eqb (x .cv) 0)
-    (cond (eqb (firstOutside (recordLength (sizeOf (x .input))) (recordLength (sizeOf (x .output))) 1 (fieldsIn x)) 0)
-    Sound
-    (Outside (firstOutside (recordLength (sizeOf (x .input))) (recordLength (sizeOf (x .output))) 1 (fieldsIn x))))
-    (Broken (x .cv)))
-    (Broken 2))
-    (Broken 1)
-
--- what it answers in the rules, where next is what they ask after refusals 8 and 9
-abbrev pub answerOf : Combined → Answer Unit → Answer Unit
-answerOf Sound next = next
-answerOf (Broken place) next = refused 8 place
-answerOf (Outside field) next = refused 9 field
+-- what the rules answer: the lines whose place is 1, an FS card in TC or TR, CV outside FV, and then the first field outside its records
+unfoldable pub combinedOf : Asked → Answer Unit
+combinedOf x = do
+  unless (allLines (modeOf (x .mode)) (formatOf (x .format)) (sizeOf (x .input)) (sizeOf (x .output)) (x .first) (x .fs)) 8 1
+  unless (selects (modeOf (x .mode)) || eqb (x .fs) 0) 8 2
+  unless (isFV (formatOf (x .format)) || eqb (x .cv) 0) 8 (x .cv)
+  each 9 (inside (recordLength (sizeOf (x .input))) (recordLength (sizeOf (x .output)))) 1 (fieldsIn x)
 
 -- a field whose numbers are within their limits
 pub record FieldFair (f : Field) : Type 0 where

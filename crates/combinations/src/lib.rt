@@ -13,7 +13,7 @@ ghost use lib.ListN.{take};
 ghost use Rattle.rules.specs.Plan.{isTC, selects as ruleSelects, isFV, isFU, numbers as ruleNumbers, wanted as ruleWanted, recordLength, blockLength, inside};
 ghost use Rattle.terms.specs.Meaning.{modeOf, formatOf, sizeOf, fieldOf};
 ghost use Rattle.combinations.specs.Lines.{copyLines, countLine, lengthsEqual, fixedLines, FormatFair, formatLines, copyEqual, cardLine, allLines};
-ghost use Rattle.combinations.specs.Promise.{firstOutside, combinedOf, FieldFair, FieldsFair, AskedFair};
+ghost use Rattle.combinations.specs.Promise.{firstOutside, answerOf, combinedOf, FieldFair, FieldsFair, AskedFair};
 
 // ---- what the letters say
 
@@ -289,7 +289,7 @@ pub enum Combined {
 // Place 1 before an FS card in TC or TR before CV outside FV; then the fields.
 pub fn combine(asked: Asked) -> Combined
     requires { ⌜ AskedFair asked ⌝ }
-    ensures { λ r. ⌜ r ≡ combinedOf asked ⌝ }
+    ensures { λ r. ⌜ answerOf r ≡ combinedOf asked ⌝ }
 {
     let mode = asked.mode;
     let format = asked.format;

@@ -6,19 +6,17 @@ use Prim.Native.Nat.{ℕ, _*_, _<_}
 use native.Mathlib.Omega.{arith}
 use lib.ListN.{length, take, length-map}
 use lib.Seq.{length-take-le}
-use Rattle.rules.specs.Answer.{Answer, fine, refuse, _>>_}
+use Rattle.rules.specs.Answer.{Answer, fine, refuse, refused, _>>_}
 use Rattle.rules.specs.Asked.{Asked as RuleAsked}
 use Rattle.rules.specs.Plan.{Plan, assembled, selects, recordLength, blockLength, inputHalves, barrenHalf, lostAt, tailKept, keeps, planAnswer, bit, PlanAnswer}
 use Rattle.rules.specs.Lent.{zoneF}
-use Rattle.rules.proofs.AnswerLaws.{fine-same, then-fine}
+use Rattle.rules.proofs.AnswerLaws.{fine-same, then-fine, fine-then}
 use Rattle.rules.proofs.PlanSteps.{no-barren, refused-10, passed-10, keeps-carried, loses-half, keeps-tail}
 use Rattle.terms.specs.Meaning.{modeOf, formatOf, sizeOf, fieldOf, fieldsIn, Means, planIn}
 use Rattle.terms.proofs.PlanOf.{plan-means}
 use Rattle.terms.specs.declared.Asked.{Asked}
-use Rattle.combinations.specs.Promise.{combinedOf, answerOf}
-use Rattle.combinations.proofs.CombineLaws.{refusal10, combined-same}
-use Rattle.combinations.specs.declared.Combined.{Combined}
-use Rattle.combinations.specs.declared.Combined.the-variants.{Sound, Broken, Outside}
+use Rattle.combinations.specs.Promise.{combinedOf}
+use Rattle.combinations.proofs.CombineLaws.{then-assoc, refusal10, combined-same}
 use Rattle.judges.specs.Promise.{planned, verdictOf, numbersOf, Judges, Asks, tailOf}
 use Rattle.judges.specs.declared.Verdict.{Verdict}
 use Rattle.judges.specs.declared.Verdict.the-variants.{Refused, Keeping, Losing}
@@ -28,31 +26,29 @@ module _ (x : Asked) (a : RuleAsked) (m : Means x a) where
   abbrev p : Plan
   p = planIn zoneF x
 
-  -- what the rules answer, by what `combine` answers
-  abbrev next : Combined → Answer Plan
-  next c = answerOf c (refusal10 p) >> fine p
-
-  answered : planned zoneF a ≡ next (combinedOf x)
+  -- refusals 8 and 9, and then refusal 10
+  answered : planned zoneF a ≡ (combinedOf x >> (refusal10 p >> fine p))
   answered =
       ap (λ (z : Answer Unit). z >> fine (assembled zoneF a)) (combined-same zoneF x a m)
-      ∙ ap (λ (q : Plan). answerOf (combinedOf x) (refusal10 q) >> fine q) (sym (plan-means zoneF x a m))
+      ∙ then-assoc (combinedOf x) (refusal10 (assembled zoneF a)) (fine (assembled zoneF a))
+      ∙ ap (λ (q : Plan). combinedOf x >> (refusal10 q >> fine q)) (sym (plan-means zoneF x a m))
 
-  pub broken : (place : ℕ) → combinedOf x ≡ Broken place → Refused 8 place ≡ verdictOf (planned zoneF a)
+  pub combined-refused : (number place : ℕ) → refused number place ≡ combinedOf x → Refused number place ≡ verdictOf (planned zoneF a)
   unfolding _>>_
-  broken place e = sym (ap verdictOf (answered ∙ ap next e))
+  combined-refused number place e = sym (ap verdictOf (answered ∙ ap (λ (z : Answer Unit). z >> (refusal10 p >> fine p)) (sym e)))
 
-  pub outside : (field : ℕ) → combinedOf x ≡ Outside field → Refused 9 field ≡ verdictOf (planned zoneF a)
-  unfolding _>>_
-  outside field e = sym (ap verdictOf (answered ∙ ap next e))
+  module _ (sound : combinedOf x ≡ fine tt) where
+    -- refusal 10 decides
+    on-plan : planned zoneF a ≡ (refusal10 p >> fine p)
+    on-plan = answered ∙ fine-then (combinedOf x) (refusal10 p >> fine p) sound
 
-  module _ (sound : combinedOf x ≡ Sound) where
     pub barren : (h : ℕ) → barrenHalf p ≡ h → h < inputHalves p → Refused 10 h ≡ verdictOf (planned zoneF a)
-    barren h e l = sym (ap verdictOf (answered ∙ ap next sound ∙ refused-10 p h e l))
+    barren h e l = sym (ap verdictOf (on-plan ∙ refused-10 p h e l))
 
     -- where every half has a value, keeping decides
     by-keeping : barrenHalf p ≡ inputHalves p → (k : Bool) → keeps p ≡ k → cond k Keeping (Losing (lostAt p)) ≡ verdictOf (planned zoneF a)
     by-keeping e k q =
-        sym (ap verdictOf (answered ∙ ap next sound ∙ passed-10 p e) ∙ ap (λ (z : Bool). cond z Keeping (Losing (lostAt p))) q)
+        sym (ap verdictOf (on-plan ∙ passed-10 p e) ∙ ap (λ (z : Bool). cond z Keeping (Losing (lostAt p))) q)
 
     pub carried : selects (modeOf (x .mode)) ≡ false → Keeping ≡ verdictOf (planned zoneF a)
     unfolding planIn

@@ -6,6 +6,7 @@ use terms::Format;
 ghost use mathlib.Core.Path.{_≡_};
 ghost use mathlib.Core.Bool.{cond};
 ghost use Prim.Native.Nat.{_*_, _≤_};
+ghost use Rattle.rules.specs.Answer.{fine};
 ghost use Rattle.terms.specs.Meaning.{formatOf};
 ghost use Rattle.combinations.specs.Promise.{AskedFair, combinedOf};
 ghost use Rattle.judges.specs.Promise.{tailOf, Asks, Judges};
@@ -44,7 +45,7 @@ fn by_tail(format: Format, cv: usize, n: usize, m: usize) -> Verdict
 // Where combinations and fields are right. TC and TR plans keep: they have no fields, and carry records unchanged.
 fn by_halves(asked: Asked) -> Verdict
     requires { ⌜ AskedFair asked ⌝ }
-    requires { ⌜ combinedOf asked ≡ Combined.Sound ⌝ }
+    requires { ⌜ combinedOf asked ≡ fine tt ⌝ }
     ensures { λ r. ⌜ Judges asked r ⌝ }
 {
     let mode = asked.mode;

@@ -1,43 +1,54 @@
 -- Each test in turn, the first that fails being the answer: the lines of place 1, the cards, CV, and then the fields.
-use borrow.Author.Tests.{eq-eqb, ne-eqb, not-true, not-false}
+use mathlib.Core.Path.{_≡_, sym, _∙_}
+use mathlib.Core.Bool.{true}
+use borrow.Author.Tests.{not-true, not-false}
 use borrow.Author.Needs.{needs}
-use Rattle.terms.specs.Meaning.{fieldsIn}
-use Rattle.combinations.specs.Promise.{combinedOf}
+use Rattle.rules.specs.Plan.{recordLength}
+use Rattle.terms.specs.Meaning.{sizeOf, fieldsIn}
+use Rattle.combinations.specs.Promise.{firstOutside}
+use Rattle.combinations.proofs.CombineLaws.{rightLines, rightCards, rightCV, broken-lines, broken-cards, broken-cv, outside-field, none-outside}
 use Rattle.combinations.proofs.combine.Statement.{statement}
 use Rattle.combinations.proofs.combine.Tie as tie
+
+-- past each test it holds
+lines : (c : tie.Else1) → rightLines (c .before .before .args .asked) ≡ true
+lines c = sym (c .before .sound .ensures) ∙ not-false (c .before .sound .result) (c .if1 .left)
+
+cards : (c : tie.Else2) → rightCards (c .before .before .before .before .args .asked) ≡ true
+cards c = sym (c .before .cards-allowed .ensures) ∙ not-false (c .before .cards-allowed .result) (c .if2 .left)
+
+cv : (c : tie.Else3) → rightCV (c .before .before .before .before .before .before .args .asked) ≡ true
+cv c = sym (c .before .cv-allowed .ensures) ∙ not-false (c .before .cv-allowed .result) (c .if3 .left)
+
+-- the first field outside the records of what is asked for
+field : (c : tie.After-first-outside)
+    → let x = c .before .before .before .before .before .before .before .before .before .before .args .asked in
+    c .first-outside .result ≡ firstOutside (recordLength (sizeOf (x .input))) (recordLength (sizeOf (x .output))) 1 (fieldsIn x)
+unfolding fieldsIn
+field c = rw (c .before .before .record-length .ensures, c .before .record-length2 .ensures) at (c .first-outside .ensures)
 
 sound-requires : tie.Need-sound-requires
 sound-requires c κs = search needs
 
 returns : tie.Need-returns
-unfolding combinedOf
-returns c = rw (← (c .before .sound .ensures), not-true (c .before .sound .result) (c .if1 .taken))
+returns c = broken-lines (c .before .before .args .asked) (sym (c .before .sound .ensures) ∙ not-true (c .before .sound .result) (c .if1 .taken))
 
 cards-allowed-requires : tie.Need-cards-allowed-requires
 cards-allowed-requires c κs = search needs
 
 returns-2 : tie.Need-returns-2
-unfolding combinedOf
-returns-2 c = rw (
-  ← (c .before .before .before .sound .ensures),
-  not-false (c .before .before .before .sound .result) (c .before .before .if1 .left),
-  ← (c .before .cards-allowed .ensures),
-  not-true (c .before .cards-allowed .result) (c .if2 .taken),
-)
+returns-2 c =
+    let e = c .before .before in
+    broken-cards (e .before .before .args .asked) (lines e) (sym (c .before .cards-allowed .ensures) ∙ not-true (c .before .cards-allowed .result) (c .if2 .taken))
 
 cv-allowed-requires : tie.Need-cv-allowed-requires
 cv-allowed-requires c κs = search needs
 
 returns-3 : tie.Need-returns-3
-unfolding combinedOf
-returns-3 c = rw (
-  ← (c .before .before .before .before .before .sound .ensures),
-  not-false (c .before .before .before .before .before .sound .result) (c .before .before .before .before .if1 .left),
-  ← (c .before .before .before .cards-allowed .ensures),
-  not-false (c .before .before .before .cards-allowed .result) (c .before .before .if2 .left),
-  ← (c .before .cv-allowed .ensures),
-  not-true (c .before .cv-allowed .result) (c .if3 .taken),
-)
+returns-3 c =
+    let e = c .before .before in
+    let f = e .before .before in
+    broken-cv (f .before .before .args .asked) (lines f) (cards e) (sym (c .before .cv-allowed .ensures) ∙ not-true (c .before .cv-allowed .result) (c .if3 .taken))
 
 record-length-requires : tie.Need-record-length-requires
 record-length-requires c κs = search needs
@@ -49,34 +60,18 @@ first-outside-requires : tie.Need-first-outside-requires
 first-outside-requires c κs = search needs
 
 returns-4 : tie.Need-returns-4
-unfolding combinedOf fieldsIn
-returns-4 c = rw (
-  ← (c .before .before .before .before .before .before .before .before .before .before .sound .ensures),
-  not-false (c .before .before .before .before .before .before .before .before .before .before .sound .result) (c .before .before .before .before .before .before .before .before .before .if1 .left),
-  ← (c .before .before .before .before .before .before .before .before .cards-allowed .ensures),
-  not-false (c .before .before .before .before .before .before .before .before .cards-allowed .result) (c .before .before .before .before .before .before .before .if2 .left),
-  ← (c .before .before .before .before .before .before .cv-allowed .ensures),
-  not-false (c .before .before .before .before .before .before .cv-allowed .result) (c .before .before .before .before .before .if3 .left),
-  ← (c .before .before .before .record-length .ensures),
-  ← (c .before .before .record-length2 .ensures),
-  ← (c .before .first-outside .ensures),
-  ne-eqb (c .before .first-outside .result) 0 (c .if4 .taken),
-)
+returns-4 c =
+    let e = c .before .before .before .before .before in
+    let f = e .before .before in
+    let g = f .before .before in
+    outside-field (g .before .before .args .asked) (lines g) (cards f) (cv e) _ (field (c .before)) (c .if4 .taken)
 
 returns-5 : tie.Need-returns-5
-unfolding combinedOf fieldsIn
-returns-5 c = rw (
-  ← (c .before .before .before .before .before .before .before .before .before .before .sound .ensures),
-  not-false (c .before .before .before .before .before .before .before .before .before .before .sound .result) (c .before .before .before .before .before .before .before .before .before .if1 .left),
-  ← (c .before .before .before .before .before .before .before .before .cards-allowed .ensures),
-  not-false (c .before .before .before .before .before .before .before .before .cards-allowed .result) (c .before .before .before .before .before .before .before .if2 .left),
-  ← (c .before .before .before .before .before .before .cv-allowed .ensures),
-  not-false (c .before .before .before .before .before .before .cv-allowed .result) (c .before .before .before .before .before .if3 .left),
-  ← (c .before .before .before .record-length .ensures),
-  ← (c .before .before .record-length2 .ensures),
-  ← (c .before .first-outside .ensures),
-  eq-eqb (c .before .first-outside .result) 0 (c .if4 .left),
-)
+returns-5 c =
+    let e = c .before .before .before .before .before in
+    let f = e .before .before in
+    let g = f .before .before in
+    none-outside (g .before .before .args .asked) (lines g) (cards f) (cv e) _ (field (c .before)) (c .if4 .left)
 
 pub combine-spec : {M : Type 1} → statement M
 combine-spec =

@@ -1,10 +1,10 @@
 -- By what the combinations answer; what they ask holds of all that some deck asks for.
-use mathlib.Core.Path.{sym, _∙_}
+use mathlib.Core.Path.{ap, sym, _∙_}
 use borrow.Author.Needs.{needs}
-use Rattle.combinations.specs.Promise.{AskedFair}
+use Rattle.combinations.specs.Promise.{answerOf, AskedFair}
 use Rattle.combinations.proofs.CombineLaws.{asked-fair}
 use Rattle.judges.specs.Promise.{Judges}
-use Rattle.judges.proofs.JudgeLaws.{broken, outside}
+use Rattle.judges.proofs.JudgeLaws.{combined-refused}
 use Rattle.judges.proofs.judge.Statement.{statement}
 use Rattle.judges.proofs.judge.Tie as tie
 
@@ -24,15 +24,15 @@ enum-told : tie.Need-enum-told
 enum-told c = search needs
 
 by-halves-requires : tie.Need-by-halves-requires
-by-halves-requires c κs = (fair (c .before .before .before), sym (c .before .before .combine .ensures) ∙ c .enum-told .given .1)
+by-halves-requires c κs = (fair (c .before .before .before), sym (ap answerOf (sym (c .enum-told .given .1)) ∙ c .before .before .combine .ensures))
 
 returns : tie.Need-returns
 unfolding Judges
-returns c = λ a m. broken _ a m _ (sym (c .before .before .before .combine .ensures) ∙ c .before .combined .given .1)
+returns c = λ a m. combined-refused _ a m 8 _ (ap answerOf (sym (c .before .combined .given .1)) ∙ c .before .before .before .combine .ensures)
 
 returns-2 : tie.Need-returns-2
 unfolding Judges
-returns-2 c = λ a m. outside _ a m _ (sym (c .before .before .before .combine .ensures) ∙ c .before .combined2 .given .1)
+returns-2 c = λ a m. combined-refused _ a m 9 _ (ap answerOf (sym (c .before .combined2 .given .1)) ∙ c .before .before .before .combine .ensures)
 
 returns-3 : tie.Need-returns-3
 returns-3 c = search needs
