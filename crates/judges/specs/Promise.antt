@@ -6,10 +6,10 @@ use lib.Dec.{eqb}
 use lib.ListN.{take}
 use Rattle.rules.specs.Base.{_⇒_, joined}
 use Rattle.rules.specs.Places.{All}
-use Rattle.rules.specs.Answer.{Answer, fine, refuse, _>>_}
+use Rattle.rules.specs.Answer.{Answer, fine, refused, _>>=_, _>>_}
 use Rattle.rules.specs.Grammar.{Format}
 use Rattle.rules.specs.Asked.{fieldsOf, Asked as RuleAsked}
-use Rattle.rules.specs.Plan.{Plan, assembled, combined, isFV, lostAt, keeps, PlanAnswer}
+use Rattle.rules.specs.Plan.{Plan, assembled, combined, isFV, lostAt, keeps, bit}
 use Rattle.rules.specs.Rows.{UtilityWithin, FieldWithin}
 use Rattle.rules.specs.Lent.{zoneF}
 use Rattle.terms.specs.Meaning.{OneSize, Means}
@@ -23,19 +23,19 @@ use Rattle.judges.specs.declared.Verdict.the-variants.{Refused, Keeping,
 abbrev pub planned : ℕ → RuleAsked → Answer Plan
 planned zone a = combined (assembled zone a) (a .cards) >> fine (assembled zone a)
 
-abbrev pub verdictOf : Answer Plan → Verdict
-verdictOf (fine p) = cond (keeps p) Keeping (Losing (lostAt p))
-verdictOf (refuse r) = Refused (r .number) (r .place)
+-- of a plan the mark of keeping and the lost place, as it answers them
+unfoldable pub judgedOf : Answer Plan → Answer (ℕ × ℕ)
+judgedOf x = x >>= λ p. fine (bit (keeps p), cond (keeps p) 0 (lostAt p))
 
--- the paper's numbers for a verdict on a plan of so many fields
-abbrev pub numbersOf : ℕ → Verdict → PlanAnswer
-numbersOf fields (Refused number place) = record { refusal = number; place = place; keeping = 0; lost = 0; fields = 0 }
-numbersOf fields Keeping = record { refusal = 0; place = 0; keeping = 1; lost = 0; fields = fields }
-numbersOf fields (Losing half) = record { refusal = 0; place = 0; keeping = 0; lost = half; fields = fields }
+-- what each verdict answers: its refusal, or these two numbers
+abbrev pub answerOf : Verdict → Answer (ℕ × ℕ)
+answerOf (Refused number place) = refused number place
+answerOf Keeping = fine (1, 0)
+answerOf (Losing half) = fine (0, half)
 
 -- the struct is judged as what it means is in the rules
 unfoldable pub Judges : Asked → Verdict → Type 0
-Judges x r = (a : RuleAsked) → Means x a → r ≡ verdictOf (planned zoneF a)
+Judges x r = (a : RuleAsked) → Means x a → answerOf r ≡ judgedOf (planned zoneF a)
 
 -- ---- what it asks
 

@@ -9,7 +9,7 @@ ghost use Prim.Native.Nat.{_*_, _≤_};
 ghost use Rattle.rules.specs.Answer.{fine};
 ghost use Rattle.terms.specs.Meaning.{formatOf};
 ghost use Rattle.combinations.specs.Promise.{AskedFair, combinedOf};
-ghost use Rattle.judges.specs.Promise.{tailOf, Asks, Judges};
+ghost use Rattle.judges.specs.Promise.{answerOf, tailOf, Asks, Judges};
 
 pub enum Verdict {
     Refused { number: usize, place: usize },
@@ -34,7 +34,7 @@ fn tail_kept(format: Format, cv: usize, n: usize, m: usize) -> bool
 // Where no half of the first n bytes is missing, the tail decides; its lost place is 2n.
 fn by_tail(format: Format, cv: usize, n: usize, m: usize) -> Verdict
     requires { ⌜ n ≤ 4096 ⌝ }
-    ensures { λ r. ⌜ r ≡ cond (tailOf (formatOf format) cv n m) Verdict.Keeping (Verdict.Losing (2 * n)) ⌝ }
+    ensures { λ r. ⌜ answerOf r ≡ fine (cond (tailOf (formatOf format) cv n m) (1, 0) (0, 2 * n)) ⌝ }
 {
     if !tail_kept(format, cv, n, m) {
         return Verdict::Losing { half: 2 * n };

@@ -1,24 +1,21 @@
 -- From what a deck asks for to its plan: the verdict's numbers are those of the rules, and an accepted plan is what was read.
 use mathlib.Core.Path.{_≡_, refl, ap, sym, subst, _∙_}
-use mathlib.Core.Bool.{Bool, true, false, cond}
 use mathlib.Core.List.{List}
 use Prim.Native.Nat.{ℕ}
 use lib.ListN.{length, take}
 use Rattle.rules.specs.Places.{All}
-use Rattle.rules.specs.Answer.{Refusal, Answer, fine, refuse}
+use Rattle.rules.specs.Answer.{Refusal, Answer, fine, refuse, _>>=_}
 use Rattle.rules.specs.Asked.{Asked as RuleAsked, askedOf}
 use Rattle.rules.specs.Accepted.{Accepted}
-use Rattle.rules.specs.Plan.{Plan, planAnswer, lostAt, keeps}
+use Rattle.rules.specs.Plan.{Plan, planAnswer}
 use Rattle.rules.specs.Lent.{zoneF, plan}
 use Rattle.rules.proofs.AnswerLaws.{fine-same}
 use Rattle.rules.proofs.AcceptedLaws.{accepted, limited-of, limits-utility, limits-fields}
 use Rattle.rules.proofs.PlanSteps.{deck-refused, deck-asks}
 use Rattle.terms.specs.Meaning.{OneSize, Means}
 use Rattle.terms.specs.declared.Asked.{Asked}
-use Rattle.judges.specs.Promise.{planned, verdictOf, numbersOf, Asks}
-use Rattle.judges.proofs.JudgeLaws.{plan-same, numbers-same}
-use Rattle.judges.specs.declared.Verdict.{Verdict}
-use Rattle.judges.specs.declared.Verdict.the-variants.{Refused, Keeping, Losing}
+use Rattle.judges.specs.Promise.{planned, judgedOf, Asks}
+use Rattle.judges.proofs.JudgeLaws.{plan-same, fields-same}
 use Rattle.cards.specs.Promise.{nothingAsked}
 use Rattle.plans.specs.Promise.{refusedWith, plannedBy, Verdicts, numbersIn, Holds, HoldsFor, Plans}
 use Rattle.plans.specs.declared.Planned.{Planned}
@@ -33,14 +30,11 @@ refused-deck deck q e =
 
 -- ---- a deck that asks for something
 
-numbers-by : (x : Asked) (v : Verdict) → numbersIn (plannedBy x v) ≡ numbersOf (x .count) v
-numbers-by x (Refused number place) = refl
-numbers-by x Keeping = refl
-numbers-by x (Losing half) = refl
-
-asked-by : (x : Asked) (k : Bool) (h : ℕ) → plannedBy x (cond k Keeping (Losing h)) .asked ≡ x
-asked-by x true h = refl
-asked-by x false h = refl
+-- the numbers of the verdict are those that the rules answer
+numbers-by : (x : Asked) (q : Answer Plan) → ((p : Plan) → q ≡ fine p → x .count ≡ length (p .fields)) → numbersIn (plannedBy x (judgedOf q)) ≡ planAnswer q
+unfolding judgedOf _>>=_
+numbers-by x (refuse r) many = refl
+numbers-by x (fine p) many = rw (many p refl)
 
 module _ (deck : List ℕ) (a : RuleAsked) (asks : askedOf deck ≡ fine a) (x : Asked) (m : Means x a) (one : All OneSize (take (x .count) (x .fields))) where
   -- it can be judged
@@ -64,9 +58,10 @@ module _ (deck : List ℕ) (a : RuleAsked) (asks : askedOf deck ≡ fine a) (x :
           means = λ b q. subst (Means x) (fine-same a b (sym asks ∙ q)) m;
         }
 
-    held : (q : Answer Plan) → planned zoneF a ≡ q → HoldsFor deck q (plannedBy x (verdictOf q) .asked)
+    held : (q : Answer Plan) → planned zoneF a ≡ q → HoldsFor deck q (plannedBy x (judgedOf q) .asked)
+    unfolding judgedOf _>>=_
     held (refuse r) e = refl
-    held (fine p) e = subst (Holds deck p) (sym (asked-by x (keeps p) (lostAt p))) (holds p e)
+    held (fine p) e = holds p e
 
     pub asked-deck : (r : Planned) → Verdicts x r → Plans deck r
     unfolding Verdicts
@@ -74,11 +69,8 @@ module _ (deck : List ℕ) (a : RuleAsked) (asks : askedOf deck ≡ fine a) (x :
         let e = v a m in
         record {
           numbers =
-              ap numbersIn e
-              ∙ numbers-by x (verdictOf (planned zoneF a))
-              ∙ sym (numbers-same x a m many)
-              ∙ ap planAnswer (sym is-planned);
+              ap numbersIn e ∙ numbers-by x (planned zoneF a) (fields-same x a m many) ∙ ap planAnswer (sym is-planned);
           held =
               subst (λ (s : Planned). HoldsFor deck (plan deck) (s .asked)) (sym e)
-              (subst (λ (z : Answer Plan). HoldsFor deck z (plannedBy x (verdictOf (planned zoneF a)) .asked)) (sym is-planned) (held (planned zoneF a) refl));
+              (subst (λ (z : Answer Plan). HoldsFor deck z (plannedBy x (judgedOf (planned zoneF a)) .asked)) (sym is-planned) (held (planned zoneF a) refl));
         }

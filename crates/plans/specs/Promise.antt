@@ -13,9 +13,7 @@ use Rattle.terms.specs.Fair.{PlanFair}
 use Rattle.terms.specs.declared.Asked.{Asked}
 use Rattle.terms.specs.declared.Entry.{Entry}
 use Rattle.cards.specs.Promise.{nothingAsked}
-use Rattle.judges.specs.Promise.{planned, verdictOf}
-use Rattle.judges.specs.declared.Verdict.{Verdict}
-use Rattle.judges.specs.declared.Verdict.the-variants.{Refused, Keeping, Losing}
+use Rattle.judges.specs.Promise.{planned, judgedOf}
 use Rattle.plans.specs.declared.Planned.{Planned}
 use Rattle.plans.specs.declared.Filled.{Filled}
 
@@ -27,14 +25,13 @@ refusedWith number place = record { refusal = number; place = place; keeping = 0
 abbrev pub keptAs : Asked → ℕ → ℕ → Planned
 keptAs x keeping lost = record { refusal = 0; place = 0; keeping = keeping; lost = lost; fields = x .count; asked = x }
 
--- the verdict on what a deck asks for, with the plan
-abbrev pub plannedBy : Asked → Verdict → Planned
-plannedBy x (Refused number place) = refusedWith number place
-plannedBy x Keeping = keptAs x 1 0
-plannedBy x (Losing half) = keptAs x 0 half
+-- the verdict on what a deck asks for, with the plan: its refusal, or the mark of keeping and the lost place
+abbrev pub plannedBy : Asked → Answer (ℕ × ℕ) → Planned
+plannedBy x (fine n) = keptAs x (n .0) (n .1)
+plannedBy x (refuse r) = refusedWith (r .number) (r .place)
 
 unfoldable pub Verdicts : Asked → Planned → Type 0
-Verdicts x r = (a : RuleAsked) → Means x a → r ≡ plannedBy x (verdictOf (planned zoneF a))
+Verdicts x r = (a : RuleAsked) → Means x a → r ≡ plannedBy x (judgedOf (planned zoneF a))
 
 -- the five numbers
 abbrev pub numbersIn : Planned → PlanAnswer

@@ -1,7 +1,7 @@
 -- By the verdict, in each of its three cases.
 use mathlib.Core.Path.{ap, sym, _∙_}
 use borrow.Author.Needs.{needs}
-use Rattle.judges.specs.Promise.{Judges}
+use Rattle.judges.specs.Promise.{answerOf, Judges}
 use Rattle.plans.specs.Promise.{plannedBy, Verdicts}
 use Rattle.plans.proofs.judged.Statement.{statement}
 use Rattle.plans.proofs.judged.Tie as tie
@@ -29,15 +29,15 @@ accepted-requires-2 c κs = search needs
 
 returns : tie.Need-returns
 unfolding Verdicts Judges
-returns c = λ a m. c .refused .ensures ∙ ap (plannedBy (c .before .before .before .before .before .args .asked)) (sym (c .before .before .verdict .given .1) ∙ c .before .before .before .before .judge .ensures a m)
+returns c = λ a m. c .refused .ensures ∙ ap (plannedBy (c .before .before .before .before .before .args .asked)) (ap answerOf (sym (c .before .before .verdict .given .1)) ∙ c .before .before .before .before .judge .ensures a m)
 
 returns-2 : tie.Need-returns-2
 unfolding Verdicts Judges
-returns-2 c = λ a m. c .accepted .ensures ∙ ap (plannedBy (c .before .before .before .before .args .asked)) (sym (c .before .enum-told .given .1) ∙ c .before .before .before .judge .ensures a m)
+returns-2 c = λ a m. c .accepted .ensures ∙ ap (plannedBy (c .before .before .before .before .args .asked)) (ap answerOf (sym (c .before .enum-told .given .1)) ∙ c .before .before .before .judge .ensures a m)
 
 returns-3 : tie.Need-returns-3
 unfolding Verdicts Judges
-returns-3 c = λ a m. c .accepted2 .ensures ∙ ap (plannedBy (c .before .before .before .before .before .args .asked)) (sym (c .before .before .verdict2 .given .1) ∙ c .before .before .before .before .judge .ensures a m)
+returns-3 c = λ a m. c .accepted2 .ensures ∙ ap (plannedBy (c .before .before .before .before .before .args .asked)) (ap answerOf (sym (c .before .before .verdict2 .given .1)) ∙ c .before .before .before .before .judge .ensures a m)
 
 pub judged-spec : {M : Type 1} → statement M
 judged-spec =
