@@ -192,7 +192,7 @@ module _ (x : Asked) where
         unfolding unless
         none-outside z = sym (by-fields ∙ rw (eq-eqb i 0 z))
 
--- what is asked after two tests is asked after the second
+-- what is asked after two tests is asked after the second of them
 pub then-assoc : {B : Type 0} (x y : Answer Unit) (z : Answer B) → ((x >> y) >> z) ≡ (x >> (y >> z))
 unfolding _>>_
 then-assoc (fine a) y z = refl

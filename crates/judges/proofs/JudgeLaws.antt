@@ -1,30 +1,57 @@
--- The verdicts are those of the rules, where the struct says what a deck asks for: first by what `combine` answers, then by refusal 10, then by
--- the lost half, then by the tail. And the promise allows one verdict alone.
+-- The verdicts are those of the rules, where the struct says what a deck asks for: first what `combine` answers, then what weighing
+-- answers, then the tail. And the promise allows one verdict alone.
 use mathlib.Core.Path.{_≡_, refl, ap, ap₂, sym, _∙_}
-use mathlib.Core.Bool.{Bool, true, false, cond}
-use Prim.Native.Nat.{ℕ, _*_, _<_}
+use mathlib.Core.Bool.{Bool, true, false, cond, _&&_}
+use Prim.Native.Nat.{ℕ, _*_}
 use native.Mathlib.Omega.{arith}
+use lib.Dec.{eqb}
 use lib.ListN.{length, take, length-map}
 use lib.Seq.{length-take-le}
-use Rattle.rules.specs.Answer.{Answer, fine, refused, refusalOf, placeOf, _>>=_, _>>_}
+use borrow.Author.Tests.{eqb-true, eq-eqb}
+use Rattle.rules.specs.Answer.{Answer, fine, refuse, refused, refusalOf, placeOf, _>>=_, _>>_}
 use Rattle.rules.specs.Asked.{Asked as RuleAsked}
-use Rattle.rules.specs.Plan.{Plan, assembled, selects, recordLength, blockLength, inputHalves, barrenHalf, lostAt, tailKept, keeps, bit}
+use Rattle.rules.specs.Plan.{Plan, assembled, selects, recordLength, blockLength, inputHalves, lostAt, tailKept, keeps, bit}
 use Rattle.rules.specs.Lent.{zoneF}
-use Rattle.rules.proofs.AnswerLaws.{fine-same, then-fine, fine-then}
-use Rattle.rules.proofs.PlanSteps.{no-barren, refused-10, passed-10, keeps-carried, loses-half, keeps-tail}
+use Rattle.rules.proofs.AnswerLaws.{fine-same, then-fine, fine-then, fine-unless}
+use Rattle.rules.proofs.PlanSteps.{no-barren, keeps-carried}
 use Rattle.terms.specs.Meaning.{modeOf, formatOf, sizeOf, fieldOf, fieldsIn, Means, planIn}
 use Rattle.terms.proofs.PlanOf.{plan-means}
 use Rattle.terms.specs.declared.Asked.{Asked}
 use Rattle.combinations.specs.Promise.{combinedOf}
 use Rattle.combinations.proofs.CombineLaws.{then-assoc, refusal10, combined-same}
+use Rattle.keeping.specs.Promise.{weighedOf, answerOf as weighed}
+use Rattle.keeping.specs.declared.Weighed.{Weighed}
+use Rattle.keeping.proofs.PlanLaws.{weighed-is}
 use Rattle.judges.specs.Promise.{planned, judgedOf, answerOf, Judges, Asks, tailOf}
 use Rattle.judges.specs.declared.Verdict.{Verdict}
 use Rattle.judges.specs.declared.Verdict.the-variants.{Refused, Keeping, Losing}
 use Rattle.judges.proofs.FairLaws.{no-field}
 
+-- what is made of a value that stands after a test is made after the test
+then-bind : {A B : Type 0} (t : Answer Unit) (a : A) (f : A → Answer B) → ((t >> fine a) >>= f) ≡ (t >> f a)
+unfolding _>>=_ _>>_
+then-bind (fine u) a f = refl
+then-bind (refuse r) a f = refl
+
+-- where no half is lost, the tail decides; its lost place is 2n
+abbrev pub byTail : Bool → ℕ → ℕ × ℕ → Answer (ℕ × ℕ)
+byTail tail halves n = fine (cond (eqb (n .0) 1) (cond tail (1, 0) (0, halves)) n)
+
+with-tail : (tail : Bool) (lost halves : ℕ)
+    → byTail tail halves (cond (eqb lost halves) (1, 0) (0, lost)) ≡ fine (bit (eqb lost halves && tail), cond (eqb lost halves && tail) 0 lost)
+with-tail tail lost halves = go tail (eqb lost halves) refl
+  where
+    go : (t k : Bool) → eqb lost halves ≡ k → byTail t halves (cond k (1, 0) (0, lost)) ≡ fine (bit (k && t), cond (k && t) 0 lost)
+    go t false e = refl
+    go true true e = refl
+    go false true e = rw (eqb-true lost halves e)
+
 module _ (x : Asked) (a : RuleAsked) (m : Means x a) where
   abbrev p : Plan
   p = planIn zoneF x
+
+  abbrev n : ℕ
+  n = recordLength (sizeOf (x .input))
 
   -- refusals 8 and 9, and then refusal 10
   answered : planned zoneF a ≡ (combinedOf x >> (refusal10 p >> fine p))
@@ -38,38 +65,21 @@ module _ (x : Asked) (a : RuleAsked) (m : Means x a) where
   combined-refused number place e = sym (ap judgedOf (answered ∙ ap (λ (z : Answer Unit). z >> (refusal10 p >> fine p)) (sym e)))
 
   module _ (sound : combinedOf x ≡ fine tt) where
-    -- refusal 10 decides
-    on-plan : planned zoneF a ≡ (refusal10 p >> fine p)
-    on-plan = answered ∙ fine-then (combinedOf x) (refusal10 p >> fine p) sound
-
-    pub barren : (h : ℕ) → barrenHalf p ≡ h → h < inputHalves p → refused 10 h ≡ judgedOf (planned zoneF a)
-    unfolding _>>=_ judgedOf
-    barren h e l = sym (ap judgedOf (on-plan ∙ refused-10 p h e l))
-
-    -- where every half has a value, keeping decides
-    by-keeping : barrenHalf p ≡ inputHalves p → (k : Bool) → keeps p ≡ k → fine (bit k, cond k 0 (lostAt p)) ≡ judgedOf (planned zoneF a)
-    unfolding _>>=_ judgedOf
-    by-keeping e k q =
-        sym (ap judgedOf (on-plan ∙ passed-10 p e) ∙ ap (λ (z : Bool). fine (bit z, cond z 0 (lostAt p))) q)
+    -- refusal 10, and then keeping
+    on-plan : judgedOf (planned zoneF a) ≡ (refusal10 p >> fine (bit (keeps p), cond (keeps p) 0 (lostAt p)))
+    unfolding judgedOf
+    on-plan = ap judgedOf (answered ∙ fine-then (combinedOf x) (refusal10 p >> fine p) sound) ∙ then-bind (refusal10 p) p _
 
     pub carried : selects (modeOf (x .mode)) ≡ false → fine (1, 0) ≡ judgedOf (planned zoneF a)
     unfolding planIn
-    carried s = by-keeping (no-barren p (no-field x a m sound s)) true (keeps-carried p s)
+    carried s = sym (on-plan ∙ fine-then (refusal10 p) _ (fine-unless _ 10 _ (eq-eqb _ _ (no-barren p (no-field x a m sound s)))) ∙ rw (keeps-carried p s))
 
-    module _ (valued : barrenHalf p ≡ inputHalves p) (s : selects (modeOf (x .mode)) ≡ true) where
-      pub lost : (h : ℕ) → lostAt p ≡ h → h < inputHalves p → fine (0, h) ≡ judgedOf (planned zoneF a)
-      unfolding planIn
-      lost h e l = ap (λ (g : ℕ). fine (0, g)) (sym e) ∙ by-keeping valued false (loses-half p s (rw e l))
-
-      pub kept : lostAt p ≡ inputHalves p
-          → fine (cond (tailOf (formatOf (x .format)) (x .cv) (recordLength (sizeOf (x .input))) (blockLength (sizeOf (x .input)))) (1, 0) (0, 2 * recordLength (sizeOf (x .input))))
-          ≡ judgedOf (planned zoneF a)
-      unfolding planIn tailKept inputHalves
-      kept e = mark (tailKept p) ∙ by-keeping valued (tailKept p) (keeps-tail p s e)
-        where
-          mark : (t : Bool) → _≡_ {A = Answer (ℕ × ℕ)} (fine (cond t (1, 0) (0, inputHalves p))) (fine (bit t, cond t 0 (lostAt p)))
-          mark true = refl
-          mark false = rw e
+    -- in TF and TRF: what weighing answers, and then the tail
+    pub by-weighing : selects (modeOf (x .mode)) ≡ true → (w : Weighed) → weighed w ≡ weighedOf zoneF (fieldsIn x) n (recordLength (sizeOf (x .output)))
+        → (weighed w >>= byTail (tailOf (formatOf (x .format)) (x .cv) n (blockLength (sizeOf (x .input)))) (2 * n)) ≡ judgedOf (planned zoneF a)
+    unfolding planIn keeps tailKept inputHalves
+    by-weighing s w e =
+        rw (e ∙ weighed-is p) (then-bind (refusal10 p) _ _ ∙ ap (refusal10 p >>_) (with-tail (tailKept p) (lostAt p) (inputHalves p)) ∙ sym (on-plan ∙ rw s))
 
 pub plan-same : (x : Asked) (a : RuleAsked) → Means x a → (p : Plan) → planned zoneF a ≡ fine p → planIn zoneF x ≡ p
 plan-same x a m p e = plan-means zoneF x a m ∙ fine-same (assembled zoneF a) p (then-fine _ (fine (assembled zoneF a)) p e .1)

@@ -1,22 +1,24 @@
 -- What `weigh` answers is what the rules say: the marks permit what the fields permit, and the numbers stand for the sources, so the searches
 -- over the arrays end where those of the rules end. And the promise allows one answer alone.
-use mathlib.Core.Path.{_≡_, ap, sym, _∙_}
+use mathlib.Core.Path.{_≡_, refl, ap, sym, _∙_}
 use mathlib.Core.List.{List}
 use Prim.Native.Nat.{ℕ, _*_, _≤_, _<_}
 use native.Mathlib.Omega.{arith}
 use lib.Dec.{eqb}
 use lib.ListN.{getD}
-use borrow.Author.Tests.{lt-ltb, le-ltb, eq-eqb, ne-eqb}
+use borrow.Author.Tests.{eq-eqb, ne-eqb}
+use Rattle.rules.specs.Answer.{fine, refused, placeOf, _>>_, unless}
 use Rattle.rules.specs.Halves.{Field as RuleField, sources}
 use Rattle.rules.specs.Permitted.{permitted, choices}
 use Rattle.rules.specs.Keeping.{missing, lostHalf}
 use Rattle.rules.specs.Lent.{zoneF}
+use Rattle.rules.proofs.AnswerLaws.{fine-same}
 use Rattle.rules.proofs.Search.{first-most}
 use Rattle.rules.proofs.MarkLaws.{choices-alike, first-alike, lost-alike}
 use Rattle.terms.specs.Meaning.{noField}
 use Rattle.terms.specs.declared.Field.{Field}
 use Rattle.keeping.specs.Marks.{decodedOf, Says, permitsIn}
-use Rattle.keeping.specs.Promise.{Fair, barrenOf, lostOf, weighedOf}
+use Rattle.keeping.specs.Promise.{Fair, answerOf, barrenOf, lostOf, weighedOf}
 use Rattle.keeping.specs.declared.Weighed.{Weighed}
 use Rattle.keeping.specs.declared.Weighed.the-variants.{Barren, Kept, Lost}
 use Rattle.keeping.proofs.Fields.{fair-longer}
@@ -50,24 +52,40 @@ module _ (marks : List ℕ) (fs : List RuleField) (n : ℕ) (small : n ≤ 4096)
 -- ---- the answer
 
 module _ (zone : ℕ) (fs : List RuleField) (n m b : ℕ) (barren : b ≡ barrenOf (permitted zone fs) n) where
-  pub weighed-barren : b < 2 * n → Barren b ≡ weighedOf zone fs n m
-  unfolding weighedOf
-  weighed-barren l = rw (← barren, lt-ltb b (2 * n) l)
+  pub weighed-barren : b < 2 * n → refused 10 b ≡ weighedOf zone fs n m
+  unfolding weighedOf unless _>>_
+  weighed-barren l = rw (← barren, ne-eqb b (2 * n) (λ e. omega arith))
+
+  barren-most : b ≤ 2 * n
+  unfolding barrenOf
+  barren-most = omega (arith, first-most (λ i. eqb (choices (permitted zone fs) i) 0) 0 (2 * n))
 
   module _ (none : 2 * n ≤ b) (h : ℕ) (lost : h ≡ lostOf zone fs n m) where
-    pub weighed-lost : h < 2 * n → Lost h ≡ weighedOf zone fs n m
-    unfolding weighedOf
-    weighed-lost l = rw (← barren, le-ltb b (2 * n) none, ← lost, ne-eqb h (2 * n) (λ e. omega arith))
+    pub weighed-lost : h < 2 * n → fine (0, h) ≡ weighedOf zone fs n m
+    unfolding weighedOf unless _>>_
+    weighed-lost l = rw (← barren, eq-eqb b (2 * n) (omega (arith, barren-most)), ← lost, ne-eqb h (2 * n) (λ e. omega arith))
 
-    no-more : h ≤ 2 * n
+    lost-most : h ≤ 2 * n
     unfolding lostOf lostHalf
-    no-more = omega (arith, first-most (missing (permitted zone fs) (sources zone m fs (2 * n))) 0 (2 * n))
+    lost-most = omega (arith, first-most (missing (permitted zone fs) (sources zone m fs (2 * n))) 0 (2 * n))
 
-    pub weighed-kept : 2 * n ≤ h → Kept ≡ weighedOf zone fs n m
-    unfolding weighedOf
-    weighed-kept l = rw (← barren, le-ltb b (2 * n) none, ← lost, eq-eqb h (2 * n) (omega (arith, no-more)))
+    pub weighed-kept : 2 * n ≤ h → fine (1, 0) ≡ weighedOf zone fs n m
+    unfolding weighedOf unless _>>_
+    weighed-kept l = rw (← barren, eq-eqb b (2 * n) (omega (arith, barren-most)), ← lost, eq-eqb h (2 * n) (omega (arith, lost-most)))
 
 -- ---- one answer
 
-pub only-one : (zone : ℕ) (fs : List RuleField) (n m : ℕ) (r r′ : Weighed) → r ≡ weighedOf zone fs n m → r′ ≡ weighedOf zone fs n m → r ≡ r′
-only-one zone fs n m r r′ e e′ = e ∙ sym e′
+-- no two cases answer the same
+pub answer-once : (r q : Weighed) → answerOf r ≡ answerOf q → r ≡ q
+answer-once (Barren half) (Barren half′) e = ap Barren (ap placeOf e)
+answer-once (Barren half) Kept e = cc
+answer-once (Barren half) (Lost half′) e = cc
+answer-once Kept (Barren half) e = cc
+answer-once Kept Kept e = refl
+answer-once Kept (Lost half) e = absurd (omega (arith, ap (λ (n : ℕ × ℕ). n .0) (fine-same (1, 0) (0, half) e)))
+answer-once (Lost half) (Barren half′) e = cc
+answer-once (Lost half) Kept e = absurd (omega (arith, ap (λ (n : ℕ × ℕ). n .0) (fine-same (0, half) (1, 0) e)))
+answer-once (Lost half) (Lost half′) e = ap Lost (ap (λ (n : ℕ × ℕ). n .1) (fine-same (0, half) (0, half′) e))
+
+pub only-one : (zone : ℕ) (fs : List RuleField) (n m : ℕ) (r q : Weighed) → answerOf r ≡ weighedOf zone fs n m → answerOf q ≡ weighedOf zone fs n m → r ≡ q
+only-one zone fs n m r q e f = answer-once r q (e ∙ sym f)

@@ -1,10 +1,11 @@
 -- What `weigh` promises: the lowest half with no permitted value; else whether every half is kept, or the lowest that is lost.
 use mathlib.Core.Path.{_≡_}
-use mathlib.Core.Bool.{Bool, true, false}
+use mathlib.Core.Bool.{Bool, cond}
 use mathlib.Core.List.{List}
 use Prim.Native.Nat.{ℕ, _+_, _*_, _≤_, _<_}
-use lib.Dec.{ltb, eqb}
+use lib.Dec.{eqb}
 use lib.ListN.{getD}
+use Rattle.rules.specs.Answer.{Answer, fine, refused, _>>_, unless}
 use Rattle.rules.specs.Halves.{Field as RuleField, sources}
 use Rattle.rules.specs.Permitted.{permitted, choices, firstOf}
 use Rattle.rules.specs.Keeping.{lostHalf}
@@ -35,9 +36,11 @@ pub record Fair (fields : List Field) (count n m : ℕ) : Type 0 where
 
 -- ---- what it answers
 
-abbrev pub pick : Bool → Weighed → Weighed → Weighed
-pick true a b = a
-pick false a b = b
+-- what each case answers: refusal 10 at the half; else the mark of keeping and the lost place, 1 and 0 where every half is kept
+abbrev pub answerOf : Weighed → Answer (ℕ × ℕ)
+answerOf (Barren half) = refused 10 half
+answerOf Kept = fine (1, 0)
+answerOf (Lost half) = fine (0, half)
 
 -- the lowest of the 2n halves with no permitted value, or 2n
 unfoldable pub barrenOf : (ℕ → ℕ → Bool) → ℕ → ℕ
@@ -47,7 +50,7 @@ barrenOf p n = firstOf (λ i. eqb (choices p i) 0) 0 (2 * n)
 unfoldable pub lostOf : ℕ → List RuleField → ℕ → ℕ → ℕ
 lostOf zone fs n m = lostHalf (permitted zone fs) (sources zone m fs (2 * n)) (2 * n)
 
-unfoldable pub weighedOf : ℕ → List RuleField → ℕ → ℕ → Weighed
-weighedOf zone fs n m =
-    pick (ltb (barrenOf (permitted zone fs) n) (2 * n)) (Barren (barrenOf (permitted zone fs) n))
-    (pick (eqb (lostOf zone fs n m) (2 * n)) Kept (Lost (lostOf zone fs n m)))
+unfoldable pub weighedOf : ℕ → List RuleField → ℕ → ℕ → Answer (ℕ × ℕ)
+weighedOf zone fs n m = do
+  unless (eqb (barrenOf (permitted zone fs) n) (2 * n)) 10 (barrenOf (permitted zone fs) n)
+  fine (cond (eqb (lostOf zone fs n m) (2 * n)) (1, 0) (0, lostOf zone fs n m))

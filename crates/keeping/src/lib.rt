@@ -9,7 +9,7 @@ ghost use Rattle.rules.specs.Keeping.{lostHalf};
 ghost use Rattle.rules.specs.Lent.{zoneF};
 ghost use Rattle.terms.specs.Meaning.{fieldOf};
 ghost use Rattle.keeping.specs.Marks.{markAllows, onlyIf, meetOf, choicesOf, codedOf, decodedOf, Says, askingOf, permitsIn, Gives, Covers, Stand};
-ghost use Rattle.keeping.specs.Promise.{FairField, Fair, barrenOf, weighedOf};
+ghost use Rattle.keeping.specs.Promise.{FairField, Fair, answerOf, barrenOf, weighedOf};
 use terms::Field;
 use terms::Kind;
 
@@ -366,7 +366,7 @@ fn lost_half(marks: &[u8; 8192], sources: &[u16; 8192], n: usize, m: usize) -> u
 // What the fields of a plan do to records of n bytes, which become m bytes.
 pub fn weigh(fields: [Field; 64], count: usize, n: usize, m: usize) -> Weighed
     requires { ⌜ Fair fields count n m ⌝ }
-    ensures { λ r. ⌜ r ≡ weighedOf zoneF (map fieldOf (take count fields)) n m ⌝ }
+    ensures { λ r. ⌜ answerOf r ≡ weighedOf zoneF (map fieldOf (take count fields)) n m ⌝ }
 {
     let marks = permitted(fields, count);
     let barren = barren_half(&marks, n);

@@ -1,16 +1,18 @@
 -- What the fields of the plan do, told by weighing them, and then the tail. In TC and TR there is no field, so no half is without a value.
-use mathlib.Core.Path.{_≡_, sym, subst, _∙_}
+use mathlib.Core.Path.{_≡_, ap, sym, _∙_}
 use mathlib.Core.Bool.{true}
 use lib.ListN.{length, length-map}
 use borrow.Author.Tests.{not-true, not-false}
 use borrow.Author.Needs.{needs}
 use Rattle.rules.specs.Lent.{zoneF}
-use Rattle.rules.specs.Plan.{selects}
-use Rattle.terms.specs.Meaning.{modeOf, fieldsIn, planIn}
-use Rattle.keeping.proofs.PlanLaws.{Tells, weighed-tells}
+use Rattle.rules.specs.Answer.{_>>=_}
+use Rattle.rules.specs.Plan.{selects, recordLength}
+use Rattle.terms.specs.Meaning.{modeOf, sizeOf, fieldsIn}
+use Rattle.keeping.specs.Promise.{weighedOf, answerOf as weighed}
+use Rattle.keeping.specs.declared.Weighed.the-variants.{Barren, Kept, Lost}
 use Rattle.judges.specs.Promise.{Judges}
 use Rattle.judges.proofs.FairLaws.{fair-sound}
-use Rattle.judges.proofs.JudgeLaws.{barren, carried, lost, kept}
+use Rattle.judges.proofs.JudgeLaws.{carried, by-weighing}
 use Rattle.judges.proofs.by_halves.Statement.{statement}
 use Rattle.judges.proofs.by_halves.Tie as tie
 
@@ -22,12 +24,12 @@ many c = sym (length-map (c .args .asked .fields) _) ∙ c .good .0 .1 .1 .1 .1 
 selected : (c : tie.Else1) → selects (modeOf (c .before .before .args .asked .mode)) ≡ true
 selected c = sym (c .before .selects .ensures) ∙ not-false (c .before .selects .result) (c .if1 .left)
 
--- what the weighing tells of the plan
-told : (c : tie.After-weigh) → Tells (planIn zoneF (c .before .before .before .before .before .before .args .asked)) (c .weigh .result)
-unfolding planIn fieldsIn
-told c =
-    weighed-tells (planIn zoneF (c .before .before .before .before .before .before .args .asked)) (c .weigh .result)
-    (rw (c .before .before .before .record-length .ensures, c .before .record-length2 .ensures) at (c .weigh .ensures))
+-- what weighing answers of what is asked for
+told : (c : tie.After-weigh)
+    → let x = c .before .before .before .before .before .before .args .asked in
+    weighed (c .weigh .result) ≡ weighedOf zoneF (fieldsIn x) (recordLength (sizeOf (x .input))) (recordLength (sizeOf (x .output)))
+unfolding fieldsIn
+told c = rw (c .before .before .before .record-length .ensures, c .before .record-length2 .ensures) at (c .weigh .ensures)
 
 selects-requires : tie.Need-selects-requires
 selects-requires c κs = search needs
@@ -65,26 +67,26 @@ by-tail-requires : tie.Need-by-tail-requires
 by-tail-requires c κs = search needs
 
 returns-2 : tie.Need-returns-2
-unfolding Judges
+unfolding Judges _>>=_
 returns-2 c =
-    let start = c .before .before .before .before .before .before .before .before .before in
-    let t = subst (Tells (planIn zoneF (start .args .asked))) (c .before .weighed .given .1) (told (c .before .before .before)) in
-    λ a m. barren (start .args .asked) a m (start .pre .1) _ (t .0) (t .1)
+    let w = c .before .before .before in
+    let start = w .before .before .before .before .before .before in
+    λ a m. by-weighing (start .args .asked) a m (start .pre .1) (selected (w .before .before .before .before)) (Barren _) (ap weighed (sym (c .before .weighed .given .1)) ∙ told w)
 
 returns-3 : tie.Need-returns-3
-unfolding Judges
+unfolding Judges _>>=_
 returns-3 c =
-    let start = c .before .before .before .before .before .before .before .before .before in
-    let t = subst (Tells (planIn zoneF (start .args .asked))) (c .before .weighed2 .given .1) (told (c .before .before .before)) in
-    λ a m. lost (start .args .asked) a m (start .pre .1) (t .0) (selected (c .before .before .before .before .before .before .before)) _ (t .1) (t .2)
+    let w = c .before .before .before in
+    let start = w .before .before .before .before .before .before in
+    λ a m. by-weighing (start .args .asked) a m (start .pre .1) (selected (w .before .before .before .before)) (Lost _) (ap weighed (sym (c .before .weighed2 .given .1)) ∙ told w)
 
 returns-4 : tie.Need-returns-4
-unfolding Judges
+unfolding Judges _>>=_
 returns-4 c =
-    let start = c .before .before .before .before .before .before .before .before .before .before in
-    let t = subst (Tells (planIn zoneF (start .args .asked))) (c .before .before .enum-told .given .1) (told (c .before .before .before .before)) in
-    λ a m. rw (c .before .before .before .before .before .before .before .record-length .ensures, c .before .block-length .ensures) at (c .by-tail .ensures)
-    ∙ kept (start .args .asked) a m (start .pre .1) (t .0) (selected (c .before .before .before .before .before .before .before .before)) (t .1)
+    let w = c .before .before .before .before in
+    let start = w .before .before .before .before .before .before in
+    λ a m. rw (w .before .before .before .record-length .ensures, c .before .block-length .ensures) at (c .by-tail .ensures)
+    ∙ by-weighing (start .args .asked) a m (start .pre .1) (selected (w .before .before .before .before)) Kept (ap weighed (sym (c .before .before .enum-told .given .1)) ∙ told w)
 
 pub by-halves-spec : {M : Type 1} → statement M
 by-halves-spec =
