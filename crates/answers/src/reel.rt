@@ -6,37 +6,17 @@ use reels::PieceRead;
 use reels::ReelRead;
 use reels::StartRead;
 use terms::Asked;
-use terms::Mode;
-use terms::Size;
-
-// The least data of a record: with TF or TRF A's n.
-fn least_data(mode: Mode, n: usize) -> usize {
-    match mode {
-        Mode::TC => 1,
-        Mode::TF => n,
-        Mode::TR => 1,
-        Mode::TRF => n,
-    }
-}
 
 // What the cards ask of blocks.
 pub(crate) fn form_of(asked: Asked) -> Form {
     let mode = asked.mode;
     let format = asked.format;
     let input = asked.input;
-    match input {
-        Size::Two { n, m } => Form {
-            format,
-            n,
-            m,
-            least: least_data(mode, n),
-        },
-        Size::One { g } => Form {
-            format,
-            n: 0,
-            m: g,
-            least: 1,
-        },
+    Form {
+        format,
+        n: combinations::record_length(input),
+        m: combinations::block_length(input),
+        selects: combinations::selects(mode),
     }
 }
 

@@ -1,22 +1,22 @@
 -- The answer of a run, step by step: each refusal is that of the first step that refuses. By the definition of a run.
 use mathlib.Core.Path.{_≡_, refl, ap, sym, _∙_, subst}
-use mathlib.Core.Bool.{Bool, true, false, cond, _&&_}
+use mathlib.Core.Bool.{Bool, true, false}
 use mathlib.Core.List.{List, [], _∷_, map}
 use mathlib.Core.Logic.{inl}
 use Prim.Native.Nat.{ℕ, zero, suc, _-_, _≤_, _<_}
 use native.Mathlib.Omega.{arith}
-use lib.Dec.{ltb, leb}
+use lib.Dec.{ltb}
 use lib.ListN.{length, getD}
 use borrow.Author.Tests.{ltb-true, ltb-false, lt-ltb, le-ltb, le-leb, lt-leb}
 use Rattle.rules.specs.Base.{joined}
-use Rattle.rules.specs.Answer.{Answer, fine, refuse, refused, _>>=_, _>>_, unless, each}
+use Rattle.rules.specs.Answer.{Answer, fine, refused, _>>=_, _>>_, unless, each}
 use Rattle.rules.specs.Places.{All, noMore, also, Byte}
-use Rattle.rules.specs.Grammar.{Mode, tc, tf, tr, trf}
+use Rattle.rules.specs.Grammar.{tc}
 use Rattle.rules.specs.Reel.{isReel, blocksOf, reelOf}
 use Rattle.rules.specs.Plan.{Plan, selects, isTC}
 use Rattle.rules.specs.Blocks.{recordsFrom, takenFrom}
-use Rattle.rules.specs.Output.{permits, blockOf, blocked}
-use Rattle.rules.specs.Run.{fitting, Ran as RuleRan, outBlocks, ranOf, housed, convert, outputs, outputBlocks}
+use Rattle.rules.specs.Output.{permits, blockOf}
+use Rattle.rules.specs.Run.{Ran as RuleRan, outBlocks, ranOf, housed, convert, outputBlocks}
 use Rattle.rules.specs.RunRows.{Holds}
 use Rattle.rules.specs.Accepted.{Accepted}
 use Rattle.rules.specs.Lent.{runAnswer}
@@ -30,15 +30,15 @@ use Rattle.reels.specs.declared.ReelRead.the-variants.{Read, NotReel, BadBlock}
 use Rattle.walks.specs.Promise.{Good}
 use Rattle.measures.specs.declared.Measured.{Measured}
 use Rattle.measures.specs.declared.Measured.the-variants.{TooLong, Fits}
-use Rattle.measures.specs.Promise.{Fair, Selecting, Selected, FirstUnpermitted, Measuring, Measurable, Measures, fitAnswer, FitsAs, MeasuredAs}
-use Rattle.reels.specs.Form.{FormIs}
+use Rattle.measures.specs.Promise.{Selecting, Selected, FirstUnpermitted, Measurable, Measures, fitAnswer, FitsAs, MeasuredAs}
 use Rattle.reels.specs.Records.{ReadAs}
 use Rattle.reels.specs.declared.Form.{Form}
-use Rattle.reels.proofs.ReelTold.{form-is, Tells, tells}
+use Rattle.reels.proofs.ReelTold.{Tells, tells}
 use Rattle.terms.specs.Meaning.{modeOf}
 use Rattle.terms.specs.declared.Task.{Task}
 use Rattle.checks.specs.declared.Ran.{Ran}
 use Rattle.tasks.specs.Promise.{formOf}
+use Rattle.tasks.proofs.LengthLaws.{form-given}
 use Rattle.checks.specs.Promise.{ranStruct, refusedRun, finishedRun, housedRun, Given, GivenPlan, ReadBy, Unpermitted, MeasuredRun, CheckedRun, Checked}
 
 -- ---- the steps of a run
@@ -193,10 +193,7 @@ module _ {task : Task} {fields s : List ℕ} {blocks records room : ℕ} {r : Ra
 
 module _ {task : Task} {fields s : List ℕ} {form : Form} {read : ReelRead} (f : form ≡ formOf task) (w : ReadAs form s read) where
   told : (p : Plan) → Given task fields p → Tells p s read
-  told p x =
-      tells form p
-      (subst (λ (z : Form). FormIs z p) (sym f) (form-is (formOf task) p (x .accepted) (x .is .format) (x .is .n) (x .is .m) (x .is .least)))
-      s read w
+  told p x = tells form p (form-given (x .is) f) s read w
 
   pub ends-no-reel : {room : ℕ} → read ≡ NotReel → (r : Ran) → r ≡ refusedRun 11 0 → Checked task fields s room r
   ends-no-reel {room} t r e = record { is = λ p x. e ∙ ap (λ (z : Answer RuleRan). ranStruct (runAnswer z)) (sym (not-reel room p s (subst (Tells p s) t (told p x)))) }

@@ -1,6 +1,6 @@
 -- What is known of the numbers and the reel by the plan that is given, and one turn of a walk over its records: the records that are taken, all of them before the
 -- first turn, then one less at each.
-use mathlib.Core.Path.{_≡_, refl, sym, subst}
+use mathlib.Core.Path.{_≡_, refl, subst}
 use mathlib.Core.List.{List}
 use Prim.Native.Nat.{ℕ, zero, suc, _≤_}
 use native.Mathlib.Omega.{arith}
@@ -9,7 +9,6 @@ use Rattle.rules.specs.Answer.{refused}
 use Rattle.rules.specs.Plan.{Plan}
 use Rattle.rules.specs.Blocks.{takenFrom}
 use Rattle.rules.proofs.Bounds.{reel-most}
-use Rattle.rules.proofs.BlockSizes.{least-one}
 use Rattle.terms.specs.declared.Task.{Task}
 use Rattle.reels.specs.declared.Form.{Form}
 use Rattle.reels.specs.Form.{FormIs}
@@ -17,6 +16,7 @@ use Rattle.walks.specs.declared.Walk.{Walk}
 use Rattle.walks.specs.Marks.{markedAll}
 use Rattle.walks.specs.Promise.{Good, Walks, Sound, bytesLeft, Taken}
 use Rattle.tasks.specs.Promise.{formOf}
+use Rattle.tasks.proofs.LengthLaws.{form-given}
 use Rattle.measures.specs.Promise.{Fair, answerAt}
 
 pub answer-at : (number i : ℕ) → 1 ≤ i → refused number i ≡ answerAt number i
@@ -33,18 +33,8 @@ pub record Asks (form : Form) (first : ℕ) (s : List ℕ) (p : Plan) (recs : Li
   pub first-is : first ≡ p .first
   pub good : Good p s recs
 
-form-given : {task : Task} {s : List ℕ} {p : Plan} {recs : List (List (List ℕ))} → Fair task s p recs → FormIs (formOf task) p
-form-given {p = p} x =
-    record {
-      format = x .is .format;
-      n = x .is .n;
-      m = x .is .m;
-      least = x .is .least;
-      some = omega (arith, x .is .least, least-one p (x .good .accepted));
-    }
-
 pub asks : {task : Task} {s : List ℕ} {p : Plan} {recs : List (List (List ℕ))} {form : Form} → form ≡ formOf task → Fair task s p recs → Asks form (task .first) s p recs
-asks {p = p} e x = record { form-is = subst (λ (f : Form). FormIs f p) (sym e) (form-given x); first-is = x .is .first; good = x .good }
+asks e x = record { form-is = form-given (x .is) e; first-is = x .is .first; good = x .good }
 
 module _ {form : Form} {first : ℕ} {s : List ℕ} {p : Plan} {recs : List (List (List ℕ))} (x : Asks form first s p recs) where
   pub first-low : 1 ≤ first

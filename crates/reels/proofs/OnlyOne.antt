@@ -4,11 +4,9 @@ use mathlib.Core.Bool.{Bool}
 use mathlib.Core.List.{List}
 use Prim.Native.Nat.{ℕ}
 use Rattle.rules.specs.Reel.{word}
-use Rattle.rules.specs.Plan.{Plan}
 use Rattle.rules.specs.ReelPlaces.{wordAt}
 use Rattle.reels.specs.Header.{headerOf, partAt}
 use Rattle.reels.specs.Words.{written, lengthWritten}
-use Rattle.reels.specs.Form.{FormIs}
 use Rattle.reels.specs.Pieces.{startOf, pieceOf}
 use Rattle.reels.specs.Records.{Judged, ReadAs}
 use Rattle.reels.specs.declared.Form.{Form}
@@ -17,6 +15,7 @@ use Rattle.reels.specs.declared.StartRead.{StartRead}
 use Rattle.reels.specs.declared.PieceRead.{PieceRead}
 use Rattle.reels.specs.declared.BlockRead.{BlockRead}
 use Rattle.reels.specs.declared.ReelRead.{ReelRead}
+use Rattle.reels.proofs.ReelTold.{answer-once}
 
 only-one : {A : Type 0} {x y z : A} → x ≡ z → y ≡ z → x ≡ y
 only-one e f = e ∙ sym f
@@ -36,11 +35,11 @@ only-one-start form b r r′ = only-one
 pub only-one-piece : (form : Form) (b : List ℕ) (i : ℕ) (r r′ : PieceRead) → r ≡ pieceOf form b i → r′ ≡ pieceOf form b i → r ≡ r′
 only-one-piece form b i r r′ = only-one
 
-pub only-one-rule : (form : Form) (p : Plan) → FormIs form p → (last : Bool) (b : List ℕ) (r r′ : BlockRead) → Judged form last b r → Judged form last b r′ → r ≡ r′
-only-one-rule form p h last b r r′ j j′ = only-one (j .is p h) (j′ .is p h)
+pub only-one-rule : (form : Form) (last : Bool) (b : List ℕ) (r r′ : BlockRead) → Judged form last b r → Judged form last b r′ → r ≡ r′
+only-one-rule form last b r r′ j j′ = only-one (j .is) (j′ .is)
 
-pub only-one-read-reel : (form : Form) (p : Plan) → FormIs form p → (s : List ℕ) (r r′ : ReelRead) → ReadAs form s r → ReadAs form s r′ → r ≡ r′
-only-one-read-reel form p h s r r′ w w′ = only-one (w .is p h) (w′ .is p h)
+pub only-one-read-reel : (form : Form) (s : List ℕ) (r r′ : ReelRead) → ReadAs form s r → ReadAs form s r′ → r ≡ r′
+only-one-read-reel form s r r′ w w′ = answer-once r r′ (only-one (w .is) (w′ .is))
 
 pub only-one-put-word : (at value : ℕ) (out x x′ : List ℕ) → x ≡ written at (word value) out → x′ ≡ written at (word value) out → x ≡ x′
 only-one-put-word at value out x x′ = only-one

@@ -4,26 +4,22 @@ use mathlib.Core.Bool.{Bool, true, false, cond, _&&_, _||_}
 use mathlib.Core.List.{List, [], _∷_, map}
 use mathlib.Core.Option.{Option, none, some}
 use Prim.Native.Nat.{ℕ, suc, _+_, _-_, _≤_, _<_}
-use native.Mathlib.Nat.{zero-mod, zero-div}
 use native.Mathlib.Omega.{arith}
 use lib.Dec.{leb, eqb}
 use lib.ListN.{length, length-map}
 use borrow.Author.Tests.{le-leb, lt-leb, eq-eqb, ne-eqb}
 use Rattle.rules.specs.Base.{_⇒_, every}
-use Rattle.rules.specs.Grammar.{Format, ff, fv, fu}
-use Rattle.rules.specs.Plan.{Plan, isFF, recordLength, blockLength}
-use Rattle.rules.specs.Blocks.{Piece, wordLength, headed, withPiece, piecesIn, leastData, meets, dataOf, recordsOf, recordsIn}
+use Rattle.rules.specs.Plan.{Plan, isFF, blockLength}
+use Rattle.rules.specs.Blocks.{Piece, withPiece, piecesIn, leastData, meets, dataOf, recordsOf, recordsIn}
 use Rattle.rules.specs.ReelPlaces.{piecesAt}
 use Rattle.rules.proofs.Tests.{and-both, asks}
-use Rattle.rules.proofs.BlockSteps.{pieces-end}
 use Rattle.terms.specs.Meaning.{formatOf}
 use Rattle.terms.specs.declared.Format.the-variants.{FF}
-use Rattle.reels.specs.Form.{FormIs}
-use Rattle.reels.specs.Pieces.{startIn, startOf, pieceOf}
+use Rattle.reels.specs.Form.{planBy}
+use Rattle.reels.specs.Pieces.{startOf, pieceOf}
 use Rattle.reels.specs.Records.{sizedOf, countFrom, Counted, blockRead, Judged}
 use Rattle.reels.specs.declared.Form.{Form}
 use Rattle.reels.specs.declared.Cursor.{Cursor}
-use Rattle.reels.specs.declared.StartRead.{StartRead}
 use Rattle.reels.specs.declared.StartRead.the-variants.{From, NoStart}
 use Rattle.reels.specs.declared.PieceRead.{PieceRead}
 use Rattle.reels.specs.declared.PieceRead.the-variants.{Piece as Found, End, Bad}
@@ -47,7 +43,7 @@ module _ (least k : ℕ) (x : Piece) where
 -- ---- the walk over the pieces, which holds a place and how many were counted before it
 
 pub record Counting (form : Form) (b : List ℕ) (from at count : ℕ) : Type 0 where
-  pub same : countFrom (form .least) 0 (piecesAt (formatOf (form .format)) (form .n) b from) ≡ countFrom (form .least) count (piecesAt (formatOf (form .format)) (form .n) b at)
+  pub same : countFrom (leastData (planBy form)) 0 (piecesAt (formatOf (form .format)) (form .n) b from) ≡ countFrom (leastData (planBy form)) count (piecesAt (formatOf (form .format)) (form .n) b at)
   pub few : count ≤ at
   pub most : count ≤ length b
 
@@ -57,28 +53,28 @@ counting-start form b from = record { same = refl; few = omega arith; most = ome
 module _ {form : Form} {b : List ℕ} {from at count : ℕ} (w : Counting form b from at count) where
   -- what is left is what the reading at this place says
   counting-read : (r : PieceRead) → pieceOf form b at ≡ r
-      → countFrom (form .least) 0 (piecesAt (formatOf (form .format)) (form .n) b from) ≡ countFrom (form .least) count (followed (formatOf (form .format)) (form .n) b r)
-  counting-read r e = w .same ∙ ap (countFrom (form .least) count) (pieces-read (formatOf (form .format)) (form .n) b at ∙ ap (followed (formatOf (form .format)) (form .n) b) e)
+      → countFrom (leastData (planBy form)) 0 (piecesAt (formatOf (form .format)) (form .n) b from) ≡ countFrom (leastData (planBy form)) count (followed (formatOf (form .format)) (form .n) b r)
+  counting-read r e = w .same ∙ ap (countFrom (leastData (planBy form)) count) (pieces-read (formatOf (form .format)) (form .n) b at ∙ ap (followed (formatOf (form .format)) (form .n) b) e)
 
   pub counting-further : (r : PieceRead) → pieceOf form b at ≡ r → further at (length b) r
   counting-further r e = subst (further at (length b)) e (piece-further (formatOf (form .format)) (form .n) b at)
 
   module _ (place size third : ℕ) (next : Cursor) (e : pieceOf form b at ≡ Found place size third next) where
-    pub counting-step : form .least ≤ size → Counting form b from (next .at) (count + 1)
+    pub counting-step : leastData (planBy form) ≤ size → Counting form b from (next .at) (count + 1)
     counting-step l =
         let g = counting-further (Found place size third next) e in
         let x : Piece = record { place = place; size = size; third = third } in
         record {
-          same = counting-read (Found place size third next) e ∙ count-more (form .least) count x (piecesAt (formatOf (form .format)) (form .n) b (next .at)) l;
+          same = counting-read (Found place size third next) e ∙ count-more (leastData (planBy form)) count x (piecesAt (formatOf (form .format)) (form .n) b (next .at)) l;
           few = omega (arith, w .few, g);
           most = omega (arith, w .few, g);
         }
 
-    pub counting-short : size < form .least → Counted form b from Breaks
+    pub counting-short : size < leastData (planBy form) → Counted form b from Breaks
     counting-short l =
         let x : Piece = record { place = place; size = size; third = third } in
         record {
-          is = sym (counting-read (Found place size third next) e ∙ count-short (form .least) count x (piecesAt (formatOf (form .format)) (form .n) b (next .at)) l);
+          is = sym (counting-read (Found place size third next) e ∙ count-short (leastData (planBy form)) count x (piecesAt (formatOf (form .format)) (form .n) b (next .at)) l);
           most = omega arith;
         }
 
@@ -115,24 +111,6 @@ module _ (form : Form) (last : Bool) (size : ℕ) where
 
 -- ---- a block is read as the rules read it
 
--- an empty block breaks its rule, where data is a byte or more
-empty-breaks : (f : Format) (least n : ℕ) → 1 ≤ least → countFrom least 0 (piecesIn f n []) ≡ Breaks
-empty-breaks ff least n l = rw (zero-mod n, zero-div n)
-empty-breaks fv least n l = go (headed 4 [] && eqb (wordLength []) 0)
-  where
-    go : (t : Bool) → countFrom least 0 (cond t (some []) none) ≡ Breaks
-    go true = refl
-    go false = refl
-empty-breaks fu least n l = rw (lt-leb least 0 l)
-
-pub count-begun : (f : Format) (least n : ℕ) (b : List ℕ) → 1 ≤ least → countFrom least 0 (piecesIn f n b) ≡ countFrom least 0 (begun f n b (startIn f b))
-count-begun f least n [] l = empty-breaks f least n l ∙ sym (go (startIn f []))
-  where
-    go : (r : StartRead) → countFrom least 0 (begun f n [] r) ≡ Breaks
-    go (From c) = ap (countFrom least 0) (pieces-end f n [] (c .at) (omega arith))
-    go NoStart = refl
-count-begun f least n (x ∷ b) l = ap (countFrom least 0) (pieces-begun f n (x ∷ b) (omega arith))
-
 -- the tests of a block itself, and of its pieces, are those of the rules
 count-meets : (p : Plan) (last : Bool) (b : List ℕ) (o : Option (List Piece))
     → blockRead (recordsOf p last b o)
@@ -152,21 +130,18 @@ count-meets p last b o = go (leb (length b) (blockLength (p .input)) && (isFF (p
         each false = refl
         each true = let z : 0 + suc (length xs) ≡ suc (length xs) = omega arith in rw (z, ne-eqb (suc (length xs)) 0 (λ q. omega arith)) (ap Records (ap suc (length-map xs (dataOf b))))
 
-count-is : (form : Form) (p : Plan) → FormIs form p → (last : Bool) (b : List ℕ)
-    → blockRead (recordsIn p last b) ≡ cond (sizedOf form last (length b)) (countFrom (form .least) 0 (begun (formatOf (form .format)) (form .n) b (startOf form b))) Breaks
-unfolding recordsIn sizedOf
-count-is form p h last b =
-    count-meets p last b (piecesIn (p .format) (recordLength (p .input)) b)
-    ∙ ap (λ (x : BlockRead). cond (leb (length b) (blockLength (p .input)) && (isFF (p .format) ⇒ (last || eqb (length b) (blockLength (p .input))))) x Breaks)
-    (count-begun (p .format) (leastData p) (recordLength (p .input)) b (subst (λ (x : ℕ). 1 ≤ x) (h .least) (h .some)))
-    ∙ rw (h .format, h .n, h .m, h .least)
+-- of a block that is not empty, as none of a reel is
+module _ (form : Form) (last : Bool) (b : List ℕ) (full : 1 ≤ length b) where
+  count-is : blockRead (recordsIn (planBy form) last b)
+      ≡ cond (sizedOf form last (length b)) (countFrom (leastData (planBy form)) 0 (begun (formatOf (form .format)) (form .n) b (startOf form b))) Breaks
+  unfolding recordsIn sizedOf planBy
+  count-is = count-meets (planBy form) last b (piecesIn (formatOf (form .format)) (form .n) b) ∙ rw (pieces-begun (formatOf (form .format)) (form .n) b full)
 
-module _ (form : Form) (last : Bool) (b : List ℕ) where
   pub judged-counted : (c : Cursor) (r : BlockRead) → sizedOf form last (length b) ≡ true → startOf form b ≡ From c → Counted form b (c .at) r → Judged form last b r
-  judged-counted c r e s w = record { is = λ p h. w .is ∙ sym (count-is form p h last b ∙ rw (e, s)); most = w .most }
+  judged-counted c r e s w = record { is = w .is ∙ sym (count-is ∙ rw (e, s)); most = w .most }
 
   pub judged-no-start : sizedOf form last (length b) ≡ true → startOf form b ≡ NoStart → Judged form last b Breaks
-  judged-no-start e s = record { is = λ p h. sym (count-is form p h last b ∙ rw (e, s)); most = omega arith }
+  judged-no-start e s = record { is = sym (count-is ∙ rw (e, s)); most = omega arith }
 
   pub judged-size : sizedOf form last (length b) ≡ false → Judged form last b Breaks
-  judged-size e = record { is = λ p h. sym (count-is form p h last b ∙ rw e); most = omega arith }
+  judged-size e = record { is = sym (count-is ∙ rw e); most = omega arith }

@@ -1,7 +1,7 @@
 -- What an answer says in the words of the rules, for code that goes on from it: of a reel that was read, its blocks and records; of each place of a
 -- block that was read, the record there and those behind it.
 use mathlib.Core.Path.{_≡_, refl, ap, ap₂, sym, _∙_, subst}
-use mathlib.Core.Bool.{Bool, true, false, _&&_}
+use mathlib.Core.Bool.{Bool, true, false, cond, _&&_}
 use mathlib.Core.List.{List, [], _∷_}
 use mathlib.Core.Option.{some, Option·none-ne-some}
 use Prim.Native.Nat.{ℕ, _+_, _≤_, _<_}
@@ -11,25 +11,23 @@ use lib.Dec.{ltb, leb, eqb}
 use lib.ListN.{length, take, drop, getD}
 use borrow.Author.Tests.{leb-true, leb-false}
 use Rattle.rules.specs.Base.{joined}
-use Rattle.rules.specs.Answer.{Answer, fine, refuse, refused}
+use Rattle.rules.specs.Answer.{Answer, fine, refuse, refused, _>>=_, _>>_, unless}
 use Rattle.rules.specs.Reel.{blockCount, isReel, blocksOf}
-use Rattle.rules.specs.Plan.{Plan, recordLength, blockLength}
+use Rattle.rules.specs.Plan.{Plan, recordLength}
 use Rattle.rules.specs.Blocks.{leastData, recordsIn, recordsFrom}
 use Rattle.rules.specs.Output.{cost}
 use Rattle.rules.specs.Accepted.{Accepted}
 use Rattle.rules.specs.ReelPlaces.{goodStart, recordsAt}
 use Rattle.rules.proofs.Tests.{and-left, and-right}
-use Rattle.rules.proofs.BlockSizes.{least-one}
 use Rattle.rules.proofs.BlockSteps.{good-inside}
 use Rattle.rules.proofs.RecordSteps.{fixed-pos, records-next, records-done, sizeOf, opens, records-start}
 use Rattle.rules.proofs.ReelLaws.{length-blocks}
 use Rattle.rules.proofs.ReelSteps.{block-last}
 use Rattle.rules.proofs.PieceLaws.{refused-block, read-at}
-use Rattle.terms.specs.Meaning.{formatOf}
 use Rattle.reels.specs.Form.{FormIs}
 use Rattle.reels.specs.Header.{partAt}
 use Rattle.reels.specs.Pieces.{startIn, startOf, pieceIn, pieceOf}
-use Rattle.reels.specs.Records.{reelRead, ReadAs}
+use Rattle.reels.specs.Records.{answerOf, reelRead, ReadAs}
 use Rattle.reels.specs.declared.Form.{Form}
 use Rattle.reels.specs.declared.StartRead.{StartRead}
 use Rattle.reels.specs.declared.StartRead.the-variants.{From, NoStart}
@@ -38,11 +36,8 @@ use Rattle.reels.specs.declared.PieceRead.the-variants.{Piece as Found, 
 use Rattle.reels.specs.declared.ReelRead.{ReelRead}
 use Rattle.reels.specs.declared.ReelRead.the-variants.{Read, NotReel, BadBlock}
 use Rattle.reels.proofs.HeaderLaws.{part-block}
+use Rattle.reels.proofs.FormLaws.{form-by, reel-alike}
 use Rattle.reels.proofs.PiecesLaws.{start-good, piece-end, piece-good}
-
--- what an accepted plan asks of blocks
-pub form-is : (form : Form) (p : Plan) → Accepted p → formatOf (form .format) ≡ p .format → form .n ≡ recordLength (p .input) → form .m ≡ blockLength (p .input) → form .least ≡ leastData p → FormIs form p
-form-is form p w f n m l = record { format = f; n = n; m = m; least = l; some = subst (λ (x : ℕ). 1 ≤ x) (sym l) (least-one p w) }
 
 -- ---- a reel
 
@@ -52,14 +47,35 @@ Tells p s (Read blocks records) =
 Tells p s NotReel = isReel s ≡ false
 Tells p s (BadBlock i) = (isReel s ≡ true) × (recordsFrom p 1 (blocksOf s) ≡ refused 12 i)
 
+-- each answer is that of one reading, which it tells again
+readingOf : Answer (ℕ × ℕ) → ReelRead
+readingOf (fine x) = Read (x .0) (x .1)
+readingOf (refuse r) = cond (eqb (r .number) 11) NotReel (BadBlock (r .place))
+
+reading-back : (r : ReelRead) → readingOf (answerOf r) ≡ r
+unfolding readingOf
+reading-back (Read blocks records) = refl
+reading-back NotReel = refl
+reading-back (BadBlock block) = refl
+
+pub answer-once : (r r′ : ReelRead) → answerOf r ≡ answerOf r′ → r ≡ r′
+answer-once r r′ e = sym (reading-back r) ∙ ap readingOf e ∙ reading-back r′
+
+-- the answer is that of the rules by each plan that asks this of blocks
+pub read-by : (form : Form) (p : Plan) → FormIs form p → (s : List ℕ) (r : ReelRead) → ReadAs form s r → answerOf r ≡ reelRead p s
+read-by form p h s r w = w .is ∙ reel-alike (form-by form) h s
+
 pub tells : (form : Form) (p : Plan) → FormIs form p → (s : List ℕ) (r : ReelRead) → ReadAs form s r → Tells p s r
-unfolding reelRead
-tells form p h s r w = subst (Tells p s) (sym (w .is p h)) (go (isReel s) refl (recordsFrom p 1 (blocksOf s)) refl)
+unfolding reelRead unless _>>_ _>>=_
+tells form p h s r w = go (isReel s) refl (recordsFrom p 1 (blocksOf s)) refl
   where
-    go : (t : Bool) → isReel s ≡ t → (a : Answer (List (List (List ℕ)))) → recordsFrom p 1 (blocksOf s) ≡ a → Tells p s (reelRead p s)
-    go false t a e = rw t t
-    go true t (fine bs) e = rw (t, e) (t, (bs, e, refl, refl))
-    go true t (refuse r) e = rw (t, e) (t, refused-block p (blocksOf s) r e)
+    told : (x : ReelRead) → reelRead p s ≡ answerOf x → Tells p s x → Tells p s r
+    told x e t = subst (Tells p s) (sym (answer-once r x (read-by form p h s r w ∙ e))) t
+
+    go : (t : Bool) → isReel s ≡ t → (a : Answer (List (List (List ℕ)))) → recordsFrom p 1 (blocksOf s) ≡ a → Tells p s r
+    go false t a e = told NotReel (rw t) t
+    go true t (fine bs) e = told (Read (length bs) (length (joined bs))) (rw (t, e)) (t, (bs, e, refl, refl))
+    go true t (refuse x) e = let b = refused-block p (blocksOf s) x e in told (BadBlock (x .place)) (rw (t, b)) (t, b)
 
 -- block i is read as its records
 pub part-read : (p : Plan) (s : List ℕ) (bs : List (List (List ℕ))) → isReel s ≡ true → recordsFrom p 1 (blocksOf s) ≡ fine bs → (i : ℕ) → i < blockCount s

@@ -7,13 +7,13 @@ use Prim.Native.Nat.{ℕ, _+_, _≤_}
 use lib.Dec.{leb, eqb}
 use lib.ListN.{length}
 use Rattle.rules.specs.Base.{_⇒_, every, joined}
-use Rattle.rules.specs.Answer.{Answer, fine, refuse}
+use Rattle.rules.specs.Answer.{Answer, fine, refused, _>>=_, _>>_, unless}
 use Rattle.rules.specs.Reel.{isReel, blocksOf}
 use Rattle.rules.specs.Plan.{Plan, isFF}
-use Rattle.rules.specs.Blocks.{Piece, recordsIn, recordsFrom}
+use Rattle.rules.specs.Blocks.{Piece, leastData, recordsIn, recordsFrom}
 use Rattle.rules.specs.ReelPlaces.{piecesAt}
 use Rattle.terms.specs.Meaning.{formatOf}
-use Rattle.reels.specs.Form.{FormIs}
+use Rattle.reels.specs.Form.{planBy}
 use Rattle.reels.specs.declared.Form.{Form}
 use Rattle.reels.specs.declared.BlockRead.{BlockRead}
 use Rattle.reels.specs.declared.BlockRead.the-variants.{Records, Breaks}
@@ -37,7 +37,7 @@ countOf (Records k) = k
 countOf Breaks = 0
 
 pub record Counted (form : Form) (b : List ℕ) (from : ℕ) (r : BlockRead) : Type 0 where
-  pub is : r ≡ countFrom (form .least) 0 (piecesAt (formatOf (form .format)) (form .n) b from)
+  pub is : r ≡ countFrom (leastData (planBy form)) 0 (piecesAt (formatOf (form .format)) (form .n) b from)
   pub most : countOf r ≤ length b
 
 -- the number of records of the rules
@@ -45,28 +45,32 @@ abbrev pub blockRead : Option (List (List ℕ)) → BlockRead
 blockRead none = Breaks
 blockRead (some rs) = Records (length rs)
 
--- the answer is that of the rules, for every plan that asks this of blocks; no block has more records than bytes
+-- the answer is that of the rules; no block has more records than bytes
 pub record Judged (form : Form) (last : Bool) (b : List ℕ) (r : BlockRead) : Type 0 where
-  pub is : (p : Plan) → FormIs form p → r ≡ blockRead (recordsIn p last b)
+  pub is : r ≡ blockRead (recordsIn (planBy form) last b)
   pub most : countOf r ≤ length b
 
 -- ---- a reel
 
--- the number of blocks and of records, or the place of refusal 12
-abbrev pub blocksRead : Answer (List (List (List ℕ))) → ReelRead
-blocksRead (fine bs) = Read (length bs) (length (joined bs))
-blocksRead (refuse r) = BadBlock (r .place)
+-- refusals 11 and 12, or how many blocks and records there are
+abbrev pub answerOf : ReelRead → Answer (ℕ × ℕ)
+answerOf (Read blocks records) = fine (blocks, records)
+answerOf NotReel = refused 11 0
+answerOf (BadBlock block) = refused 12 block
 
--- refusal 11, then 12
-unfoldable pub reelRead : Plan → List ℕ → ReelRead
-reelRead p s = cond (isReel s) (blocksRead (recordsFrom p 1 (blocksOf s))) NotReel
+-- what the rules answer of a reel: not a reel, a block that breaks its rule, or its blocks and records counted
+unfoldable pub reelRead : Plan → List ℕ → Answer (ℕ × ℕ)
+reelRead p s = do
+  unless (isReel s) 11 0
+  bs ← recordsFrom p 1 (blocksOf s)
+  fine (length bs, length (joined bs))
 
 abbrev pub recordsOf : ReelRead → ℕ
 recordsOf (Read blocks records) = records
 recordsOf NotReel = 0
 recordsOf (BadBlock i) = 0
 
--- the answer is that of the rules, for every plan that asks this of blocks; no reel has more records than bytes
+-- the answer is that of the rules; no reel has more records than bytes
 pub record ReadAs (form : Form) (s : List ℕ) (r : ReelRead) : Type 0 where
-  pub is : (p : Plan) → FormIs form p → r ≡ reelRead p s
+  pub is : answerOf r ≡ reelRead (planBy form) s
   pub most : recordsOf r ≤ length s

@@ -4,10 +4,12 @@ ghost use mathlib.Core.Path.{_≡_};
 ghost use mathlib.Core.List.{[], _∷_};
 ghost use Prim.Native.Nat.{_+_, _≤_, _<_};
 ghost use lib.ListN.{length, drop};
+ghost use Rattle.rules.specs.Blocks.{leastData};
 ghost use Rattle.rules.specs.Reel.{word};
 ghost use Rattle.rules.specs.ReelPlaces.{wordAt};
 ghost use Rattle.reels.specs.Words.{written, lengthWritten};
 ghost use Rattle.reels.specs.Header.{headerOf, partAt};
+ghost use Rattle.reels.specs.Form.{planBy};
 ghost use Rattle.reels.specs.Pieces.{lengthOf, variableStart, startOf, fixedPiece, variablePiece, pieceOf};
 ghost use Rattle.reels.specs.Records.{sizedOf, Counted, Judged, ReadAs};
 use terms::Format;
@@ -94,12 +96,13 @@ pub fn block(s: &[u8], i: usize) -> &[u8]
     &s[a..e]
 }
 
-// What a plan asks of blocks: the format, A's n, A's m or g, and the least data of a record.
+// What a plan asks of blocks: the format, A's n, A's m or g, and whether fields are selected, by TF or TRF: then a record has A's n of data or more, else a byte
+// or more.
 pub struct Form {
     pub format: Format,
     pub n: usize,
     pub m: usize,
-    pub least: usize,
+    pub selects: bool,
 }
 
 // A place in a block.
@@ -280,11 +283,21 @@ fn sized(form: Form, last: bool, size: usize) -> bool
     }
 }
 
+// The least data of a record.
+fn least_data(form: Form) -> usize
+    ensures { λ r. ⌜ r ≡ leastData (planBy form) ⌝ }
+{
+    if form.selects {
+        return form.n;
+    }
+    1
+}
+
 // The pieces from a place on are counted; each has the least data or more, and there is one.
 fn counted(form: Form, b: &[u8], from: Cursor) -> BlockRead
     ensures { λ r. ⌜ Counted form (now (b .entry)) (from .at) r ⌝ }
 {
-    let least = form.least;
+    let least = least_data(form);
     let mut at = from.at;
     let mut count = 0;
     loop {
@@ -315,8 +328,9 @@ fn counted(form: Form, b: &[u8], from: Cursor) -> BlockRead
     }
 }
 
-// Whether a block, the last of its reel or not, obeys its rule, and how many records it has.
+// Whether a block, the last of its reel or not, obeys its rule, and how many records it has. No block of a reel is empty.
 fn rule(form: Form, last: bool, b: &[u8]) -> BlockRead
+    requires { ⌜ 1 ≤ length (now b) ⌝ }
     ensures { λ r. ⌜ Judged form last (now (b .entry)) r ⌝ }
 {
     if sized(form, last, b.len()) {

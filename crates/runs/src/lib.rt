@@ -1,15 +1,14 @@
 // The run of an accepted plan over a reel, into a lent output: nothing is written before everything is checked. Document 01, "Blocks and records" and
 // "Refusal numbers".
 ghost use mathlib.Core.Path.{_≡_};
-ghost use mathlib.Core.Bool.{cond, not};
+ghost use mathlib.Core.Bool.{not};
 ghost use Prim.Native.Nat.{ℕ};
 ghost use lib.Dec.{eqb};
 ghost use lib.ListN.{length};
-ghost use Rattle.rules.specs.Plan.{selects};
 ghost use Rattle.rules.specs.Output.{cost as costOf};
 ghost use Rattle.rules.specs.Run.{convert};
 ghost use Rattle.rules.specs.Lent.{zoneF, runAnswer, outputAfter};
-ghost use Rattle.terms.specs.Meaning.{modeOf, formatOf, planIn, TaskIs};
+ghost use Rattle.terms.specs.Meaning.{formatOf, planIn, TaskIs};
 ghost use Rattle.checks.specs.Promise.{ranStruct, GivenPlan};
 ghost use Rattle.runs.specs.Promise.{Finishing, Written, RanInto, Runnable};
 use checks::Ran;
@@ -17,18 +16,6 @@ use terms::Asked;
 use terms::Format;
 use terms::Mode;
 use terms::Task;
-
-// The least data of a record: with TF or TRF A's n, else 1 byte.
-fn least(mode: Mode, n: usize) -> usize
-    ensures { λ r. ⌜ r ≡ cond (selects (modeOf mode)) n 1 ⌝ }
-{
-    match mode {
-        Mode::TC => 1,
-        Mode::TF => n,
-        Mode::TR => 1,
-        Mode::TRF => n,
-    }
-}
 
 // What a block, and each of its records, takes besides the data.
 fn cost(format: Format) -> usize
@@ -56,13 +43,11 @@ fn task_of(asked: Asked) -> Task
     let format = asked.format;
     let input = asked.input;
     let output = asked.output;
-    let n = combinations::record_length(input);
     Task {
         mode,
         format,
-        n,
+        n: combinations::record_length(input),
         m: combinations::block_length(input),
-        least: least(mode, n),
         width: combinations::record_length(output),
         limit: combinations::block_length(output),
         cost: cost(format),

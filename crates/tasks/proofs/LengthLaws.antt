@@ -1,6 +1,6 @@
 -- What the functions on a plan's numbers answer is what the rules say of its records, and one answer only: each way out of a function is what its
 -- definition says there, by the tests that led there.
-use mathlib.Core.Path.{_≡_, refl, ap, ap₂, sym, _∙_}
+use mathlib.Core.Path.{_≡_, refl, ap, ap₂, sym, _∙_, subst}
 use mathlib.Core.Bool.{Bool, true, false, cond}
 use mathlib.Core.List.{List}
 use Prim.Native.Nat.{ℕ, _+_, _-_, _≤_, _<_}
@@ -17,6 +17,7 @@ use Rattle.terms.specs.Meaning.{modeOf, TaskIs}
 use Rattle.terms.specs.declared.Mode.{Mode}
 use Rattle.terms.specs.declared.Task.{Task}
 use Rattle.reels.specs.declared.Form.{Form}
+use Rattle.reels.specs.Form.{FormIs}
 use Rattle.tasks.specs.Promise.{formOf, tailOf, lengthOf}
 
 module _ (task : Task) where
@@ -73,6 +74,10 @@ module _ (task : Task) where
   length-only-one n a b = a ∙ sym b
 
 module _ {task : Task} {p : Plan} (is : TaskIs task p) where
+  -- what the plan asks of input blocks
+  pub form-given : {form : Form} → form ≡ formOf task → FormIs form p
+  form-given e = subst (λ (f : Form). FormIs f p) (sym e) (record { format = is .format; n = is .n; m = is .m; selects = ap selects (is .mode) })
+
   -- the length of an output record
   pub out-length : Accepted p → (r : List ℕ) → leastData p ≤ length r → length (outRecord p r) ≡ lengthOf task (length r)
   unfolding lengthOf tailOf

@@ -8,7 +8,7 @@ use Rattle.reels.specs.declared.Form.{Form}
 
 -- what the plan asks of input blocks
 abbrev pub formOf : Task → Form
-formOf task = record { format = task .format; n = task .n; m = task .m; least = task .least }
+formOf task = record { format = task .format; n = task .n; m = task .m; selects = selects (modeOf (task .mode)) }
 
 -- with CV the data past A's n
 unfoldable pub tailOf : Task → ℕ → ℕ

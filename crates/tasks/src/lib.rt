@@ -10,12 +10,13 @@ use terms::Task;
 pub fn form_of(task: Task) -> Form
     ensures { λ r. ⌜ r ≡ formOf task ⌝ }
 {
+    let mode = task.mode;
     let format = task.format;
     Form {
         format,
         n: task.n,
         m: task.m,
-        least: task.least,
+        selects: combinations::selects(mode),
     }
 }
 

@@ -10,7 +10,6 @@ use Rattle.rules.specs.Grammar.{Mode as RuleMode, tc, tf, tr, trf, Format as Ru
 use Rattle.rules.specs.Halves.{Kind as RuleKind, copy, pack, unpack, Field as RuleField}
 use Rattle.rules.specs.Asked.{fieldsOf, cvs, Utility, Asked as RuleAsked}
 use Rattle.rules.specs.Plan.{Plan, recordLength, blockLength}
-use Rattle.rules.specs.Blocks.{leastData}
 use Rattle.rules.specs.Output.{cost}
 use Rattle.rules.specs.Lent.{Entry as RuleEntry}
 use Rattle.terms.specs.declared.Mode.{Mode}
@@ -107,7 +106,6 @@ pub record TaskIs (x : Task) (p : Plan) : Type 0 where
   pub format : formatOf (x .format) ≡ p .format
   pub n : x .n ≡ recordLength (p .input)
   pub m : x .m ≡ blockLength (p .input)
-  pub least : x .least ≡ leastData p
   pub width : x .width ≡ recordLength (p .output)
   pub limit : x .limit ≡ blockLength (p .output)
   pub costs : x .cost ≡ cost (p .format)

@@ -52,14 +52,13 @@ pub struct Asked {
     pub cv: usize,
 }
 
-// What a run needs of a plan, as numbers: A's n and A's m (or g), the least data of a record, B's n as the width of an output record, B's m (or g), what a block and each record
+// What a run needs of a plan, as numbers: A's n and A's m (or g), B's n as the width of an output record, B's m (or g), what a block and each record
 // of it take besides the data, R, and whether CV is given.
 pub struct Task {
     pub mode: Mode,
     pub format: Format,
     pub n: usize,
     pub m: usize,
-    pub least: usize,
     pub width: usize,
     pub limit: usize,
     pub cost: usize,

@@ -19,7 +19,6 @@ use Rattle.rules.proofs.ReelWriting.{header-length}
 use Rattle.rules.proofs.BlockSizes.{size-most}
 use Rattle.terms.specs.declared.Task.{Task}
 use Rattle.reels.specs.declared.Form.{Form}
-use Rattle.reels.specs.Form.{FormIs}
 use Rattle.reels.specs.Words.{written}
 use Rattle.reels.proofs.WordsLaws.{word-put}
 use Rattle.walks.specs.declared.Walk.{Walk}
@@ -30,13 +29,13 @@ use Rattle.walks.specs.Promise.{Walks, Sound, Standing, Told, Taken}
 use Rattle.walks.proofs.PromiseLaws.{passed, inside, lent, lent-length}
 use Rattle.writers.specs.declared.Place.{Place}
 use Rattle.tasks.specs.Promise.{formOf, lengthOf}
-use Rattle.tasks.proofs.LengthLaws.{length-most, out-length}
+use Rattle.tasks.proofs.LengthLaws.{form-given, length-most, out-length}
 use Rattle.writers.specs.Writing.{opensOf, Small, firstPlace, nextPlace, offsetPut, sizeWord, pieceOf}
 use Rattle.writers.specs.Promise.{blocksIn, Ready}
 use Rattle.writers.proofs.Gathering.{closedSize, offsetsLeft, bytesLeft, offsets-open, offsets-behind, bytes-open, bytes-behind, length-sizeWord, length-piece}
 use Rattle.writers.proofs.Sending.{Sent, sent-start, sent-size, sent-length, sent-more, sent-end, sent-as}
 use Rattle.writers.proofs.StepLaws.{cost-most, next-opens, next-behind, offset-opens, offset-behind}
-use Rattle.writers.proofs.Readying.{outs, marksIn, form-is, count-is, offsets-left, reel-size}
+use Rattle.writers.proofs.Readying.{outs, marksIn, count-is, offsets-left, reel-size}
 
 record-most : (f : Format) (z : Size) → SizeWithin f z → recordLength z ≤ 4096
 record-most f (two n m) w = w .0 .1
@@ -55,21 +54,17 @@ module _ {task : Task} {s : List ℕ} {blocks room : ℕ} (x : Ready task s bloc
     pub small : place .size ≤ task .limit + 1 + place .at
     pub low : 8 ≤ place .at
 
-  -- the form that the walk goes by
-  pub form-same : {form : Form} → form ≡ formOf task → FormIs form (x .p)
-  form-same e = subst (λ (f : Form). FormIs f (x .p)) (sym e) (form-is x)
-
   -- the walk stands in the reel
   pub sound : {form : Form} → form ≡ formOf task → Sound form s
-  sound e = record { p = x .p; recs = x .recs; form-is = form-same e; good = x .good }
+  sound e = record { p = x .p; recs = x .recs; form-is = form-given (x .is) e; good = x .good }
 
   pub stands : {form : Form} → form ≡ formOf task → {w : Walk} {place : Place} {rest : List (Bool × List ℕ)} → Going w place rest → Standing form s w
-  stands e {rest = rest} g = record { p = x .p; rest = rest; form-is = form-same e; walks = g .walks }
+  stands e {rest = rest} g = record { p = x .p; rest = rest; form-is = form-given (x .is) e; walks = g .walks }
 
   pub going-start : {form : Form} → form ≡ formOf task → {w : Walk} → Taken form s (task .first) w → Going w (firstPlace task blocks) (marksIn x)
   going-start e {w} t =
       record {
-        walks = subst (λ (k : ℕ). Walks (x .p) s w (markedAll (takenFrom k (x .recs)))) (x .is .first) (t .all (x .p) (x .recs) (form-same e) (x .good));
+        walks = subst (λ (k : ℕ). Walks (x .p) s w (markedAll (takenFrom k (x .recs)))) (x .is .first) (t .all (x .p) (x .recs) (form-given (x .is) e) (x .good));
         whole = reel-size x;
         small = omega arith;
         low = omega arith;
@@ -87,7 +82,7 @@ module _ {task : Task} {s : List ℕ} {blocks room : ℕ} (x : Ready task s bloc
       (e : read ≡ Record start size begins next) where
     pub turn : (n : ℕ) → n ≡ lengthOf task size → Turn rest (take (start + size - start) (drop start s)) n begins next
     turn n l =
-        let q = passed t e (form-same same) (g .walks) in
+        let q = passed t e (form-given (x .is) same) (g .walks) in
         let r = take (start + size - start) (drop start s) in
         let k : length r ≡ size = record-long t e in
         record {

@@ -3,7 +3,7 @@
 use mathlib.Core.Path.{_≡_, refl, ap, ap₂, sym, _∙_, subst}
 use mathlib.Core.Bool.{Bool, true, false, cond, true≢false}
 use mathlib.Core.List.{List, map}
-use Prim.Native.Nat.{ℕ, _+_, _-_, _*_, _≤_}
+use Prim.Native.Nat.{ℕ, _+_, _-_, _*_}
 use native.Mathlib.Omega.{arith}
 use lib.Dec.{ltb}
 use lib.ListN.{length, length-map}
@@ -11,21 +11,15 @@ use borrow.Author.Tests.{lt-ltb}
 use Rattle.rules.specs.Base.{joined}
 use Rattle.rules.specs.Grammar.{Mode, tc, tf, tr, trf}
 use Rattle.rules.specs.Reel.{ends, reelOf}
-use Rattle.rules.specs.Plan.{Plan, selects, isTF, isTC, recordLength, blockLength}
-use Rattle.rules.specs.Blocks.{leastData, takenFrom}
+use Rattle.rules.specs.Plan.{Plan, isTF, isTC, blockLength}
+use Rattle.rules.specs.Blocks.{takenFrom}
 use Rattle.rules.specs.Output.{outRecord, blockOf, cost, filled, filledB, blocked}
-use Rattle.rules.specs.Accepted.{Accepted}
 use Rattle.rules.specs.Run.{outputs, outputBlocks}
 use Rattle.rules.proofs.ReelLaws.{length-reel}
-use Rattle.rules.proofs.BlockSizes.{least-selects, least-one}
-use Rattle.rules.proofs.RecordLaws.{length-outRecord}
-use Rattle.rules.proofs.Never.{output-other}
 use Rattle.terms.specs.Meaning.{modeOf, TaskIs}
 use Rattle.terms.specs.declared.Task.{Task}
-use Rattle.reels.specs.Form.{FormIs}
 use Rattle.walks.specs.Marks.{markedAll, onMarked}
 use Rattle.walks.proofs.MarksLaws.{all-records, all-map, blocks-marked}
-use Rattle.tasks.specs.Promise.{formOf}
 use Rattle.writers.specs.Writing.{opensOf}
 use Rattle.writers.specs.Promise.{blocksIn, Ready}
 use Rattle.writers.proofs.Gathering.{gathered, offsetsLeft, bytesLeft, Starts, starts, start-bytes, start-offsets, gathered-marked, gathered-filled}
@@ -81,16 +75,6 @@ module _ {task : Task} {s : List ℕ} {blocks room : ℕ} (x : Ready task s bloc
   -- the records that are taken
   abbrev pub marksIn : List (Bool × List ℕ)
   marksIn = markedAll (takenFrom (x .p .first) (x .recs))
-
-  pub form-is : FormIs (formOf task) (x .p)
-  form-is =
-      record {
-        format = x .is .format;
-        n = x .is .n;
-        m = x .is .m;
-        least = x .is .least;
-        some = omega (arith, x .is .least, least-one (x .p) (x .good .accepted));
-      }
 
   pub count-is : length (blocksIn (x .p) (x .recs)) ≡ blocks
   unfolding blocksIn

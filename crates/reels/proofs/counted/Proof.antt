@@ -19,9 +19,12 @@ abbrev μ-loop : tie.MeasureT-loop
 
 -- the piece that was read
 a-piece : (c : tie.After-read Inv-loop μ-loop)
-    → pieceOf (c .before .before .before .before .before .args .form) (now (c .before .before .before .before .before .args .b)) (c .before .before .before .loop .at)
+    → pieceOf (c .before .before .before .before .before .before .args .form) (now (c .before .before .before .before .before .before .args .b)) (c .before .before .before .loop .at)
     ≡ Piece (c .read .given .0 .0) (c .read .given .0 .1 .0) (c .read .given .0 .1 .1 .0) (c .read .given .0 .1 .1 .1 .0)
 a-piece c = sym (c .before .before .piece .ensures) ∙ c .read .given .1
+
+least-data-requires : tie.Need-least-data-requires Inv-loop μ-loop
+least-data-requires c κs = search needs
 
 loop-holds : tie.Need-loop-holds Inv-loop μ-loop
 loop-holds c = counting-start _ _ _
@@ -33,7 +36,7 @@ enum-known-read : tie.Need-enum-known-read Inv-loop μ-loop
 enum-known-read c = search needs
 
 returns : tie.Need-returns Inv-loop μ-loop
-returns c = counting-short (c .before .before .before .before .before .loop .inv) _ _ _ _ (a-piece (c .before .before)) (c .if1 .taken)
+returns c = counting-short (c .before .before .before .before .before .loop .inv) _ _ _ _ (a-piece (c .before .before)) (omega (arith, c .if1 .taken, c .before .before .before .before .before .before .least-data .ensures))
 
 add-count : tie.Need-add-count Inv-loop μ-loop
 add-count c = let g = counting-further (c .before .before .before .before .before .loop .inv) _ (a-piece (c .before .before)) in omega (arith, c .before .before .before .before .before .loop .inv .few)
@@ -42,7 +45,7 @@ loop-less : tie.Need-loop-less Inv-loop μ-loop
 loop-less c = let g = counting-further (c .before .before .before .before .before .loop .inv) _ (a-piece (c .before .before)) in omega arith
 
 loop-again : tie.Need-loop-again Inv-loop μ-loop
-loop-again c = counting-step (c .before .before .before .before .before .loop .inv) _ _ _ _ (a-piece (c .before .before)) (c .if1 .left)
+loop-again c = counting-step (c .before .before .before .before .before .loop .inv) _ _ _ _ (a-piece (c .before .before)) (omega (arith, c .if1 .left, c .before .before .before .before .before .before .least-data .ensures))
 
 enum-told : tie.Need-enum-told Inv-loop μ-loop
 enum-told c = search needs
@@ -65,6 +68,7 @@ counted-spec =
     (tie.spec
     Inv-loop
     μ-loop
+    least-data-requires
     loop-holds
     piece-requires
     enum-known-read

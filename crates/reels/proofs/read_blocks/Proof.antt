@@ -1,14 +1,15 @@
 -- The walk holds the number of a block and how many records were counted before it; each way out is a law of the reading.
-use mathlib.Core.Path.{subst}
-use Prim.Native.Nat.{_+_, _-_}
+use mathlib.Core.Path.{sym, subst}
+use Prim.Native.Nat.{_+_, _-_, _≤_}
 use native.Mathlib.Omega.{arith}
 use borrow.Author.Needs.{needs}
 use lib.Dec.{eqb}
+use lib.ListN.{length}
 use denote.Ref.{now}
 use Rattle.reels.specs.Header.{partAt}
 use Rattle.reels.specs.Records.{Judged}
 use Rattle.reels.specs.declared.BlockRead.the-variants.{Records, Breaks}
-use Rattle.reels.proofs.ReelReads.{Reading, reading-start, reading-step, reading-bad, reading-end, reading-most}
+use Rattle.reels.proofs.ReelReads.{Reading, reading-start, part-full, reading-step, reading-bad, reading-end, reading-most}
 use Rattle.reels.proofs.read_blocks.Statement.{statement}
 use Rattle.reels.proofs.read_blocks.Tie as tie
 
@@ -47,7 +48,7 @@ add-rule : tie.Need-add-rule Inv-loop μ-loop
 add-rule c = omega arith
 
 rule-requires : tie.Need-rule-requires Inv-loop μ-loop
-rule-requires c κs = search needs
+rule-requires c κs = subst (λ b. 1 ≤ length b) (sym (c .block .ensures)) (part-full (c .before .before .loop .inv) (c .before .loop-test .taken))
 
 enum-known-read : tie.Need-enum-known-read Inv-loop μ-loop
 enum-known-read c = search needs

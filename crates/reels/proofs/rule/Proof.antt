@@ -18,16 +18,16 @@ counted-requires : tie.Need-counted-requires
 counted-requires c κs = search needs
 
 returns : tie.Need-returns
-returns c = judged-counted _ _ _ _ _ (sym (c .before .before .before .before .before .before .sized .ensures) ∙ c .before .before .before .before .before .if1 .taken) (sym (c .before .before .before .before .start .ensures) ∙ c .before .before .from .given .1) (c .counted .ensures)
+returns c = judged-counted _ _ _ (c .before .before .before .before .before .before .before .before .pre) _ _ (sym (c .before .before .before .before .before .before .sized .ensures) ∙ c .before .before .before .before .before .if1 .taken) (sym (c .before .before .before .before .start .ensures) ∙ c .before .before .from .given .1) (c .counted .ensures)
 
 enum-told : tie.Need-enum-told
 enum-told c = search needs
 
 returns-2 : tie.Need-returns-2
-returns-2 c = judged-no-start _ _ _ (sym (c .before .before .before .before .sized .ensures) ∙ c .before .before .before .if1 .taken) (sym (c .before .before .start .ensures) ∙ c .enum-told .given .1)
+returns-2 c = judged-no-start _ _ _ (c .before .before .before .before .before .before .pre) (sym (c .before .before .before .before .sized .ensures) ∙ c .before .before .before .if1 .taken) (sym (c .before .before .start .ensures) ∙ c .enum-told .given .1)
 
 returns-3 : tie.Need-returns-3
-returns-3 c = judged-size _ _ _ (sym (c .before .sized .ensures) ∙ c .if1 .left)
+returns-3 c = judged-size _ _ _ (c .before .before .before .pre) (sym (c .before .sized .ensures) ∙ c .if1 .left)
 
 pub rule-spec : {M : Type 1} → statement M
 rule-spec =

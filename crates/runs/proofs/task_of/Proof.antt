@@ -1,10 +1,6 @@
 -- Number by number.
-use mathlib.Core.Path.{refl, ap, _∙_}
-use mathlib.Core.Bool.{cond}
-use Prim.Native.Nat.{ℕ}
-use Rattle.rules.specs.Plan.{selects}
-use Rattle.rules.specs.Blocks.{leastData}
-use Rattle.terms.specs.Meaning.{modeOf, planIn}
+use mathlib.Core.Path.{refl}
+use Rattle.terms.specs.Meaning.{planIn}
 use borrow.Author.Needs.{needs}
 use Rattle.runs.proofs.task_of.Statement.{statement}
 use Rattle.runs.proofs.task_of.Tie as tie
@@ -14,9 +10,6 @@ record-length-requires c κs = search needs
 
 block-length-requires : tie.Need-block-length-requires
 block-length-requires c κs = search needs
-
-least-requires : tie.Need-least-requires
-least-requires c κs = search needs
 
 record-length-requires-2 : tie.Need-record-length-requires-2
 record-length-requires-2 c κs = search needs
@@ -31,15 +24,13 @@ carries-requires : tie.Need-carries-requires
 carries-requires c κs = search needs
 
 returns : tie.Need-returns
-unfolding planIn leastData
+unfolding planIn
 returns c =
-    let a = c .before .before .before .before .before .before .before .args .asked in
     record {
       mode = refl;
       format = refl;
-      n = c .before .before .before .before .before .before .record-length .ensures;
-      m = c .before .before .before .before .before .block-length .ensures;
-      least = c .before .before .before .before .least .ensures ∙ ap (λ (k : ℕ). cond (selects (modeOf (a .mode))) k 1) (c .before .before .before .before .before .before .record-length .ensures);
+      n = c .before .before .before .before .before .record-length .ensures;
+      m = c .before .before .before .before .block-length .ensures;
       width = c .before .before .before .record-length2 .ensures;
       limit = c .before .before .block-length2 .ensures;
       costs = c .before .cost .ensures;
@@ -53,7 +44,6 @@ task-of-spec =
     (tie.spec
     record-length-requires
     block-length-requires
-    least-requires
     record-length-requires-2
     block-length-requires-2
     cost-requires

@@ -6,7 +6,8 @@ use Rattle.walks.specs.Promise.{bytesLeft}
 use Rattle.walks.proofs.PromiseLaws.{inside, ended}
 use Rattle.tasks.specs.Promise.{lengthOf}
 use Rattle.writers.specs.Promise.{Headed, BlocksPut}
-use Rattle.writers.proofs.OffsetLaws.{form-same, sound, stands, turn, few-blocks, limit-small, width-small, record-small, record-ends, record-long, record-few, place-small}
+use Rattle.tasks.proofs.LengthLaws.{form-given}
+use Rattle.writers.proofs.OffsetLaws.{sound, stands, turn, few-blocks, limit-small, width-small, record-small, record-ends, record-long, record-few, place-small}
 use Rattle.writers.proofs.LayingLaws.{Laying, laying-start, laying-length, laying-word, laying-end, laying-writable, laying-fits, laying-next}
 use Rattle.writers.proofs.put_blocks.Statement.{statement}
 use Rattle.writers.proofs.put_blocks.Tie as tie
@@ -93,7 +94,7 @@ returns : tie.Need-returns Inv-loop μ-loop
 unfolding BlocksPut
 returns c = λ y.
     let l = c .before .before .before .loop .inv y in
-    laying-end y l (ended (c .before .before .«record» .ensures) (c .enum-told .given .1) (form-same (y .lent .ready) (c .before .before .before .before .before .before .form-of .ensures)) (l .going .walks))
+    laying-end y l (ended (c .before .before .«record» .ensures) (c .enum-told .given .1) (form-given (y .lent .ready .is) (c .before .before .before .before .before .before .form-of .ensures)) (l .going .walks))
 
 pub put-blocks-spec : {M : Type 1} → statement M
 put-blocks-spec =

@@ -7,7 +7,8 @@ use Rattle.walks.specs.Promise.{bytesLeft}
 use Rattle.walks.proofs.PromiseLaws.{inside, ended}
 use Rattle.writers.specs.Promise.{Ready, OffsetsPut}
 use Rattle.writers.proofs.Sending.{sent-length}
-use Rattle.writers.proofs.OffsetLaws.{form-same, sound, stands, turn, Heading, heading-start, heading-next, heading-end, few-blocks, limit-small, width-small, record-small, place-small, word-small}
+use Rattle.tasks.proofs.LengthLaws.{form-given}
+use Rattle.writers.proofs.OffsetLaws.{sound, stands, turn, Heading, heading-start, heading-next, heading-end, few-blocks, limit-small, width-small, record-small, place-small, word-small}
 use Rattle.writers.proofs.put_offsets.Statement.{statement}
 use Rattle.writers.proofs.put_offsets.Tie as tie
 use Rattle.writers.proofs.put_offsets.Reads as reads
@@ -79,7 +80,7 @@ returns : tie.Need-returns Inv-loop μ-loop
 unfolding OffsetsPut
 returns c = λ ready.
     let h = c .before .before .before .before .before .before .before .loop .inv ready in
-    heading-end ready _ _ _ _ h (ended (c .before .before .before .before .before .before .«record» .ensures) (c .before .before .before .before .enum-told .given .1) (form-same ready (c .before .before .before .before .before .before .before .before .before .before .form-of .ensures)) (h .going .walks)) _ (c .before .before .put-word .ensures)
+    heading-end ready _ _ _ _ h (ended (c .before .before .before .before .before .before .«record» .ensures) (c .before .before .before .before .enum-told .given .1) (form-given (ready .is) (c .before .before .before .before .before .before .before .before .before .before .form-of .ensures)) (h .going .walks)) _ (c .before .before .put-word .ensures)
 
 pub put-offsets-spec : {M : Type 1} → statement M
 put-offsets-spec =
