@@ -9,7 +9,7 @@ use lib.Dec.{ltb}
 use lib.ListN.{length, getD}
 use borrow.Author.Tests.{ltb-true, ltb-false, lt-ltb, le-ltb, le-leb, lt-leb}
 use Rattle.rules.specs.Base.{joined}
-use Rattle.rules.specs.Answer.{Answer, fine, refused, _>>=_, _>>_, unless, each}
+use Rattle.rules.specs.Answer.{Answer, fine, refuse, refused, _>>=_, _>>_, unless, each}
 use Rattle.rules.specs.Places.{All, noMore, also, Byte}
 use Rattle.rules.specs.Grammar.{tc}
 use Rattle.rules.specs.Reel.{isReel, blocksOf, reelOf}
@@ -29,8 +29,9 @@ use Rattle.reels.specs.declared.ReelRead.{ReelRead}
 use Rattle.reels.specs.declared.ReelRead.the-variants.{Read, NotReel, BadBlock}
 use Rattle.walks.specs.Promise.{Good}
 use Rattle.measures.specs.declared.Measured.{Measured}
-use Rattle.measures.specs.declared.Measured.the-variants.{TooLong, Fits}
-use Rattle.measures.specs.Promise.{Selecting, Selected, FirstUnpermitted, Measurable, Measures, fitAnswer, FitsAs, MeasuredAs}
+use Rattle.measures.specs.declared.Measured.the-variants.{Fits}
+use Rattle.measures.specs.Promise.{Selecting, Selected, FirstUnpermitted, Measurable, Measures, fitAnswer, answerOf, measuredOf}
+use Rattle.measures.proofs.PromiseLaws.{measured-says, measured-fits}
 use Rattle.reels.specs.Records.{ReadAs}
 use Rattle.reels.specs.declared.Form.{Form}
 use Rattle.reels.proofs.ReelTold.{Tells, tells}
@@ -71,14 +72,6 @@ module _ (room : ℕ) (p : Plan) (s : List ℕ) where
       sizes-left : convert room p s ≡ asked (fine tt) (fitAnswer p recs)
       sizes-left = reads ∙ ap (λ (h : Answer Unit). asked h (fitAnswer p recs)) permitted
 
-      pub too-long : (i : ℕ) → fitAnswer p recs ≡ refused 14 i → convert room p s ≡ refused 14 i
-      unfolding _>>_ _>>=_
-      too-long i e = sizes-left ∙ ap (λ (h : Answer Unit). asked (fine tt) h) e
-
-      room-left : fitAnswer p recs ≡ fine tt → convert room p s ≡ housed room (ranOf p (outputBlocks p recs))
-      unfolding _>>_ _>>=_
-      room-left e = sizes-left ∙ ap (λ (h : Answer Unit). asked (fine tt) h) e
-
 -- 15
 abbrev roomAnswer : ℕ → RuleRan → Ran
 roomAnswer room x = housedRun room (length (x .reel)) (x .records) (x .blocks)
@@ -92,9 +85,20 @@ room-is room x = go (ltb room (length (x .reel))) refl (ltb 65536 (length (x .re
     go false t true w = rw (le-leb (length (x .reel)) room (ltb-false room (length (x .reel)) t), lt-leb (length (x .reel)) 65536 (ltb-true 65536 (length (x .reel)) w), t, w) refl
     go false t false w = rw (le-leb (length (x .reel)) room (ltb-false room (length (x .reel)) t), le-leb (length (x .reel)) 65536 (ltb-false 65536 (length (x .reel)) w), t, w) refl
 
-fits-room : (room : ℕ) (p : Plan) (recs : List (List (List ℕ))) (b k size : ℕ) → FitsAs p recs b k size → housedRun room size k b ≡ roomAnswer room (ranOf p (outputBlocks p recs))
-unfolding ranOf
-fits-room room p recs b k size f = λ i. housedRun room (f .size i) (f .records i) (f .blocks i)
+-- what is answered of a measure: 14, or 15 and the numbers
+abbrev pub measuredRun : ℕ → Answer (ℕ × ℕ × ℕ) → Ran
+measuredRun room (fine x) = housedRun room (x .2) (x .1) (x .0)
+measuredRun room (refuse r) = refusedRun (r .number) (r .place)
+
+-- and that is the run's answer where 13 does not apply
+measured-run : (room : ℕ) (p : Plan) (s : List ℕ) (recs : List (List (List ℕ))) → Good p s recs → each 13 (permits p) (p .first) (joined (takenFrom (p .first) recs)) ≡ fine tt
+    → measuredRun room (measuredOf p recs) ≡ ranStruct (runAnswer (convert room p s))
+unfolding measuredOf ranOf _>>_ _>>=_
+measured-run room p s recs g permitted = go (fitAnswer p recs) refl ∙ ap (λ (z : Answer RuleRan). ranStruct (runAnswer z)) (sym (sizes-left room p s recs g permitted))
+  where
+    go : (h : Answer Unit) → fitAnswer p recs ≡ h → measuredRun room (measuredOf p recs) ≡ ranStruct (runAnswer (asked room p s recs g (fine tt) (fitAnswer p recs)))
+    go (fine a) e = rw e (sym (room-is room (ranOf p (outputBlocks p recs))))
+    go (refuse r) e = rw e
 
 pub copy-reel : (p : Plan) (ok : Accepted p) → p .mode ≡ tc → (s : List ℕ) → All Byte s → isReel s ≡ true → (recs : List (List (List ℕ))) → Holds p (blocksOf s) recs
     → reelOf (map (blockOf (p .format)) (outputBlocks p recs)) ≡ s
@@ -150,21 +154,20 @@ module _ {task : Task} {fields s : List ℕ} {blocks records : ℕ} where
   unfolding fitAnswer takenFrom
   copy-measured e a = record { is = λ p recs x g b k. fits p recs x g b k }
     where
-      fits : (p : Plan) (recs : List (List (List ℕ))) → Given task fields p → Good p s recs → blocks ≡ length recs → records ≡ length (joined recs) → FitsAs p recs blocks records (length s)
+      fits : (p : Plan) (recs : List (List (List ℕ))) → Given task fields p → Good p s recs → blocks ≡ length recs → records ≡ length (joined recs)
+          → answerOf (Fits blocks records (length s)) ≡ measuredOf p recs
       fits p recs x g b k =
           let q : p .mode ≡ tc = sym (x .is .mode) ∙ e in
           let h = holds-of p (x .accepted) 1 (all-blocks s a) recs (g .records) in
           let same = copy-blocks p (x .accepted) q recs in
-          record {
-            fit = fine-each 14 (λ holds. holds) (p .first) (all-fit p (x .accepted) (inl q) (holds-taken p (p .first - 1) h));
-            blocks = b ∙ ap length (sym same);
-            records = k ∙ ap (λ (bs : List (List (List ℕ))). length (joined bs)) (sym same);
-            size = ap length (sym (copy-reel p (x .accepted) q s a (g .reel) recs h));
-          }
+          measured-fits p recs
+          (fine-each 14 (λ holds. holds) (p .first) (all-fit p (x .accepted) (inl q) (holds-taken p (p .first - 1) h)))
+          (b ∙ ap length (sym same))
+          (k ∙ ap (λ (bs : List (List (List ℕ))). length (joined bs)) (sym same))
+          (ap length (sym (copy-reel p (x .accepted) q s a (g .reel) recs h)))
 
   pub measures : isTC (modeOf (task .mode)) ≡ false → (r : Measured) → Measures task s r → MeasuredRun task fields s blocks records r
-  unfolding Measures
-  measures e r h = record { is = λ p recs x g b k. h p recs (record { fair = record { is = x .is; good = g }; other = ap isTC (sym (x .is .mode)) ∙ e }) }
+  measures e r h = record { is = λ p recs x g b k. measured-says task s r h (record { fair = record { is = x .is; good = g }; other = ap isTC (sym (x .is .mode)) ∙ e }) }
 
 -- ---- 13, 14 and 15 in their order
 
@@ -173,20 +176,13 @@ module _ {task : Task} {fields s : List ℕ} {blocks records room : ℕ} {r : Ra
   stops-unpermitted zero l u e = absurd (omega arith)
   stops-unpermitted (suc i) l u e = record { is = λ p recs x g b k. e ∙ ap (λ (z : Answer RuleRan). ranStruct (runAnswer z)) (sym (no-permit room p s recs g (suc i) (u .is p recs x g))) }
 
-  pub stops-long : (number : ℕ) → number ≤ 0 → Unpermitted task fields s number → (m : Measured) (i : ℕ) → m ≡ TooLong i → MeasuredRun task fields s blocks records m
-      → r ≡ refusedRun 14 i → CheckedRun task fields s blocks records room r
-  stops-long (suc n) l u m i t h e = absurd (omega arith)
-  stops-long zero l u m i t h e =
-      record { is = λ p recs x g b k. e ∙ ap (λ (z : Answer RuleRan). ranStruct (runAnswer z)) (sym (too-long room p s recs g (u .is p recs x g) i (subst (MeasuredAs p recs) t (h .is p recs x g b k)))) }
-
-  pub ends-housed : (number : ℕ) → number ≤ 0 → Unpermitted task fields s number → (m : Measured) (bs rs size : ℕ) → m ≡ Fits bs rs size → MeasuredRun task fields s blocks records m
-      → r ≡ housedRun room size rs bs → CheckedRun task fields s blocks records room r
-  ends-housed (suc n) l u m bs rs size t h e = absurd (omega arith)
-  ends-housed zero l u m bs rs size t h e = record {
-    is = λ p recs x g b k.
-        let f : FitsAs p recs bs rs size = subst (MeasuredAs p recs) t (h .is p recs x g b k) in
-        e ∙ fits-room room p recs bs rs size f ∙ sym (room-is room (ranOf p (outputBlocks p recs)))
-        ∙ ap (λ (z : Answer RuleRan). ranStruct (runAnswer z)) (sym (room-left room p s recs g (u .is p recs x g) (f .fit)));
+  pub ends-measured : (number : ℕ) → number ≤ 0 → Unpermitted task fields s number → (m : Measured) → MeasuredRun task fields s blocks records m → (x : Measured) → m ≡ x
+      → r ≡ measuredRun room (answerOf x) → CheckedRun task fields s blocks records room r
+  ends-measured (suc n) l u m h x t e = absurd (omega arith)
+  ends-measured zero l u m h x t e = record {
+    is = λ p recs y g b k.
+        e ∙ ap (λ (z : Measured). measuredRun room (answerOf z)) (sym t) ∙ ap (measuredRun room) (h .is p recs y g b k)
+        ∙ measured-run room p s recs g (u .is p recs y g);
   }
 
 -- ---- all of them

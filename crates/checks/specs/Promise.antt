@@ -18,7 +18,7 @@ use Rattle.terms.specs.Meaning.{TaskIs}
 use Rattle.records.specs.Flat.{flatOf}
 use Rattle.walks.specs.Promise.{Good}
 use Rattle.measures.specs.declared.Measured.{Measured}
-use Rattle.measures.specs.Promise.{answerAt, MeasuredAs}
+use Rattle.measures.specs.Promise.{answerAt, answerOf, measuredOf}
 use Rattle.checks.specs.declared.Ran.{Ran}
 
 -- ---- answers
@@ -71,7 +71,7 @@ pub record Unpermitted (task : Task) (fields s : List ℕ) (r : ℕ) : Type 0 wh
 pub record MeasuredRun (task : Task) (fields s : List ℕ) (blocks records : ℕ) (r : Measured) : Type 0 where
   pub is :
       (p : Plan) (recs : List (List (List ℕ))) → Given task fields p → Good p s recs → blocks ≡ length recs → records ≡ length (joined recs)
-      → MeasuredAs p recs r
+      → answerOf r ≡ measuredOf p recs
 
 -- 13, 14 and 15 of a good reel
 pub record CheckedRun (task : Task) (fields s : List ℕ) (blocks records room : ℕ) (r : Ran) : Type 0 where

@@ -27,7 +27,8 @@ use Rattle.measures.specs.declared.Measured.the-variants.{TooLong, Fits}
 use Rattle.tasks.specs.Promise.{formOf, lengthOf}
 use Rattle.tasks.proofs.LengthLaws.{length-most, out-length}
 use Rattle.measures.specs.Tallying.{tallyOf, Small}
-use Rattle.measures.specs.Promise.{Measuring, Measurable, fitAnswer, FitsAs, Measures}
+use Rattle.measures.specs.Promise.{Measuring, Measurable, fitAnswer, answerOf, measuredOf, Measures}
+use Rattle.measures.proofs.PromiseLaws.{measured-long, measured-fits}
 use Rattle.measures.proofs.FairLaws.{left-few, asks, first-high, s-short, sound, walks-first}
 use Rattle.measures.proofs.TestLaws.{stepOf, testsFrom, lengths, takenMarked, all-count, all-tests, all-totals}
 use Rattle.measures.proofs.TallyLaws.{measureOf, empty, tally-is, bounded, Grown, tally-grown}
@@ -147,11 +148,11 @@ module _ (task : Task) {s : List ℕ} {form : Form} (f : form ≡ formOf task) {
         step-is : planStep p (measureOf t) (begins, lengthOf task size) ≡ measureOf (tallyOf task t begins (lengthOf task size))
         step-is = sym (tally-is (x .fair .is) t begins (lengthOf task size))
 
-        goes-stop : task .limit < tallyOf task t begins (lengthOf task size) .size → fitAnswer p recs ≡ refused 14 number
+        goes-stop : task .limit < tallyOf task t begins (lengthOf task size) .size → answerOf (TooLong number) ≡ measuredOf p recs
         goes-stop l =
-            goes-in .tests
+            measured-long p recs number (goes-in .tests
             ∙ turn-stop (planStep p) (blockLength (p .output)) number (measureOf t) _ (begins, lengthOf task size) _ (lengths p (passes .more)) left-is step-is
-            (let z : blockLength (p .output) < tallyOf task t begins (lengthOf task size) .size = omega (arith, x .fair .is .limit) in z)
+            (let z : blockLength (p .output) < tallyOf task t begins (lengthOf task size) .size = omega (arith, x .fair .is .limit) in z))
 
         goes-more : tallyOf task t begins (lengthOf task size) .size ≤ task .limit
             → Goes p s recs next (number + 1) (measureOf (tallyOf task t begins (lengthOf task size)))
@@ -208,17 +209,13 @@ module _ (task : Task) {s : List ℕ} {form : Form} (f : form ≡ formOf task) {
           goes-last .tests
           ∙ ap (λ (l : List (Bool × List ℕ)). each 14 (λ holds. holds) number (testsFrom (planStep p) (blockLength (p .output)) (measureOf t) (lengths p l))) nothing
 
-      goes-end : FitsAs p recs (t .blocks) (number - task .first) (4 * t .blocks + 8 + t .bytes)
+      goes-end : answerOf (Fits (t .blocks) (number - task .first) (4 * t .blocks + 8 + t .bytes)) ≡ measuredOf p recs
       goes-end =
           let a = all-totals p recs (x .other) in
           let b : length (outputBlocks p recs) ≡ t .blocks = a .blocks ∙ ap (λ (m : Measure). m .blocks) all-is in
           let c = a .bytes ∙ ap (λ (m : Measure). m .bytes) all-is in
-          record {
-            fit = all-fit;
-            blocks = sym b;
-            records = omega (arith, goes-last .counts, ap length nothing, all-count p recs, x .fair .is .first);
-            size = omega (arith, length-measured (blockLength (p .output)) (p .format) (outputBlocks p recs), b, c);
-          }
+          measured-fits p recs all-fit (sym b) (omega (arith, goes-last .counts, ap length nothing, all-count p recs, x .fair .is .first))
+          (omega (arith, length-measured (blockLength (p .output)) (p .format) (outputBlocks p recs), b, c))
 
     pub go-end : r ≡ End → Measures task s (Fits (t .blocks) (number - task .first) (4 * t .blocks + 8 + t .bytes))
     unfolding Measures

@@ -5,7 +5,7 @@ use mathlib.Core.List.{List, map}
 use Prim.Native.Nat.{ℕ, zero, suc}
 use lib.ListN.{length}
 use Rattle.rules.specs.Base.{joined}
-use Rattle.rules.specs.Answer.{Answer, fine, refused, each}
+use Rattle.rules.specs.Answer.{Answer, fine, refused, _>>_, each}
 use Rattle.rules.specs.Plan.{Plan, selects, isTC}
 use Rattle.rules.specs.Reel.{reelOf}
 use Rattle.rules.specs.Blocks.{takenFrom}
@@ -67,16 +67,17 @@ pub record Measurable (task : Task) (s : List ℕ) : Type 0 where
 unfoldable pub fitAnswer : Plan → List (List (List ℕ)) → Answer Unit
 fitAnswer p recs = each 14 (λ holds. holds) (p .first) (fitting (p .mode) p (outputs p recs))
 
--- every output record fits, and the output reel has so many blocks, records and bytes
-pub record FitsAs (p : Plan) (recs : List (List (List ℕ))) (b r l : ℕ) : Type 0 where
-  pub fit : fitAnswer p recs ≡ fine tt
-  pub blocks : b ≡ length (outputBlocks p recs)
-  pub records : r ≡ length (joined (outputBlocks p recs))
-  pub size : l ≡ length (reelOf (map (blockOf (p .format)) (outputBlocks p recs)))
+-- refusal 14 at the record, or the blocks, records and bytes of the output reel
+abbrev pub answerOf : Measured → Answer (ℕ × ℕ × ℕ)
+answerOf (TooLong i) = refused 14 i
+answerOf (Fits blocks records size) = fine (blocks, records, size)
 
-abbrev pub MeasuredAs : Plan → List (List (List ℕ)) → Measured → Type 0
-MeasuredAs p recs (TooLong i) = fitAnswer p recs ≡ refused 14 i
-MeasuredAs p recs (Fits blocks records size) = FitsAs p recs blocks records size
+-- what the rules answer of these records, and measure of their output
+unfoldable pub measuredOf : Plan → List (List (List ℕ)) → Answer (ℕ × ℕ × ℕ)
+measuredOf p recs =
+    let bs = outputBlocks p recs in
+    fitAnswer p recs >> fine (length bs, length (joined bs), length (reelOf (map (blockOf (p .format)) bs)))
 
+-- the answer is that of the rules
 unfoldable pub Measures : Task → List ℕ → Measured → Type 0
-Measures task s r = (p : Plan) (recs : List (List (List ℕ))) → Measuring task s p recs → MeasuredAs p recs r
+Measures task s r = (p : Plan) (recs : List (List (List ℕ))) → Measuring task s p recs → answerOf r ≡ measuredOf p recs

@@ -1,5 +1,5 @@
 -- Each step in its order.
-use Rattle.checks.proofs.RunLaws.{stops-unpermitted, stops-long, ends-housed}
+use Rattle.checks.proofs.RunLaws.{stops-unpermitted, ends-measured}
 use borrow.Author.Needs.{needs}
 use Rattle.checks.proofs.checked.Statement.{statement}
 use Rattle.checks.proofs.checked.Tie as tie
@@ -29,10 +29,10 @@ housed-requires : tie.Need-housed-requires
 housed-requires c κs = search needs
 
 returns-2 : tie.Need-returns-2
-returns-2 c = stops-long _ (c .before .before .before .before .before .if1 .left) (c .before .before .before .before .before .before .unpermitted .ensures) _ _ (c .before .before .output .given .1) (c .before .before .before .before .measured .ensures) (c .refused2 .ensures)
+returns-2 c = ends-measured _ (c .before .before .before .before .before .if1 .left) (c .before .before .before .before .before .before .unpermitted .ensures) _ (c .before .before .before .before .measured .ensures) _ (c .before .before .output .given .1) (c .refused2 .ensures)
 
 returns-3 : tie.Need-returns-3
-returns-3 c = ends-housed _ (c .before .before .before .before .before .if1 .left) (c .before .before .before .before .before .before .unpermitted .ensures) _ _ _ _ (c .before .before .output2 .given .1) (c .before .before .before .before .measured .ensures) (c .housed .ensures)
+returns-3 c = ends-measured _ (c .before .before .before .before .before .if1 .left) (c .before .before .before .before .before .before .unpermitted .ensures) _ (c .before .before .before .before .measured .ensures) _ (c .before .before .output2 .given .1) (c .housed .ensures)
 
 pub checked-spec : {M : Type 1} → statement M
 checked-spec =
