@@ -4,10 +4,9 @@ use crate::say;
 use bhexodana::Planned;
 use terms::Entry;
 ghost use mathlib.Core.Path.{_≡_};
-ghost use mathlib.Core.List.{_++_};
 ghost use Prim.Native.Nat.{_≤_, _<_};
 ghost use lib.ListN.{take, drop};
-ghost use Rattle.bhexodana.specs.Promise.{fillingOf};
+ghost use Rattle.bhexodana.specs.Promise.{PlannedInto};
 
 // What a plan answers, and the whole table after it.
 struct Lent {
@@ -19,11 +18,7 @@ struct Lent {
 fn lend(deck: &[u8], before: [Entry; 70], entries: usize) -> Lent
     requires { ⌜ entries ≤ 70 ⌝ }
     ensures { λ r. ⌜
-        (r .answer ≡ fillingOf (now (deck .entry)) entries .answer) ×
-        (r .table ≡
-        (take (fillingOf (now (deck .entry)) entries .store) (fillingOf (now (deck .entry)) entries .entries) ++
-        drop (fillingOf (now (deck .entry)) entries .store) (take entries before)) ++
-        drop entries before)
+        PlannedInto (now (deck .entry)) (take entries before) (r .answer) (take entries (r .table)) × (drop entries (r .table) ≡ drop entries before)
         ⌝ }
 {
     let mut table = before;

@@ -15,7 +15,7 @@ use Rattle.rules.specs.Grammar.{Mode, tc, tf, tr, trf, Format, ff, fv, fu, Size
 use Rattle.rules.specs.Halves.{Field as RuleField}
 use Rattle.rules.specs.Asked.{Asked as RuleAsked, fieldsOf, cvs}
 use Rattle.rules.specs.Plan.{isTC, isTF, isTR, isFF, isFV, isFU, selects, numbers, wanted, recordLength, blockLength, whole, equal, roomy, combinations, sound, inside, inputHalves, barrenHalf, combined, assembled, Plan}
-use Rattle.rules.proofs.AnswerLaws.{fine-then, fine-unless}
+use Rattle.rules.proofs.AnswerLaws.{fine-then, fine-unless, then-assoc}
 use Rattle.rules.specs.Rows.{Within, SizeWithin, UtilityWithin, KindWithin, FieldWithin}
 use Rattle.terms.specs.Meaning.{modeOf, formatOf, sizeOf, kindOf, fieldOf, OneSize, utilityOf, fieldsIn, cvCard, Means, planIn}
 use Rattle.terms.proofs.PlanOf.{plan-means}
@@ -191,12 +191,6 @@ module _ (x : Asked) where
         pub none-outside : i ≡ 0 → fine tt ≡ combinedOf x
         unfolding unless
         none-outside z = sym (by-fields ∙ rw (eq-eqb i 0 z))
-
--- what is asked after two tests is asked after the second of them
-pub then-assoc : {B : Type 0} (x y : Answer Unit) (z : Answer B) → ((x >> y) >> z) ≡ (x >> (y >> z))
-unfolding _>>_
-then-assoc (fine a) y z = refl
-then-assoc (refuse r) y z = refl
 
 -- what the rules ask after refusals 8 and 9
 abbrev pub refusal10 : Plan → Answer Unit

@@ -7,7 +7,7 @@ use lib.ListN.{length, drop, length-append}
 use Rattle.rules.specs.Answer.{Answer, fine, refuse}
 use Rattle.rules.specs.Run.{Ran as RuleRan}
 use Rattle.rules.specs.Lent.{run, runAnswer, outputAfter}
-use Rattle.bhexodana.specs.Promise.{ranOf}
+use Rattle.bhexodana.specs.Promise.{RanInto}
 use Rattle.bhexodana.specs.declared.Ran.{Ran}
 
 within : (x : Answer RuleRan) (lent out : List ℕ) → out ≡ outputAfter lent x → runAnswer x .reelLength ≤ length out
@@ -17,8 +17,7 @@ within (fine x) lent out e =
     omega (arith, h)
 within (refuse r) lent out e = zero-le
 
-pub reel-within : (room : ℕ) (deck s lent out : List ℕ) (ran : Ran) →
-    ran ≡ ranOf (runAnswer (run room deck s)) → out ≡ outputAfter lent (run room deck s) → ran .length ≤ length out
-reel-within room deck s lent out ran e o =
-    let h : ran .length ≡ runAnswer (run room deck s) .reelLength = ap (λ (r : Ran). r .length) e in
-    omega (arith, h, within (run room deck s) lent out o)
+pub reel-within : (deck s lent out : List ℕ) (ran : Ran) → RanInto deck s lent ran out → ran .length ≤ length out
+reel-within deck s lent out ran w =
+    let h : ran .length ≡ runAnswer (run (length lent) deck s) .reelLength = ap (λ (r : Ran). r .length) (w .answer) in
+    omega (arith, h, within (run (length lent) deck s) lent out (w .output))

@@ -12,13 +12,13 @@ use Rattle.rules.specs.Answer.{Answer, fine, refuse, refused, refusalOf, placeO
 use Rattle.rules.specs.Asked.{Asked as RuleAsked}
 use Rattle.rules.specs.Plan.{Plan, assembled, selects, recordLength, blockLength, inputHalves, lostAt, tailKept, keeps, bit}
 use Rattle.rules.specs.Lent.{zoneF}
-use Rattle.rules.proofs.AnswerLaws.{fine-same, then-fine, fine-then, fine-unless}
+use Rattle.rules.proofs.AnswerLaws.{fine-same, then-fine, fine-then, fine-unless, then-assoc, then-bind}
 use Rattle.rules.proofs.PlanSteps.{no-barren, keeps-carried}
 use Rattle.terms.specs.Meaning.{modeOf, formatOf, sizeOf, fieldOf, fieldsIn, Means, planIn}
 use Rattle.terms.proofs.PlanOf.{plan-means}
 use Rattle.terms.specs.declared.Asked.{Asked}
 use Rattle.combinations.specs.Promise.{combinedOf}
-use Rattle.combinations.proofs.CombineLaws.{then-assoc, refusal10, combined-same}
+use Rattle.combinations.proofs.CombineLaws.{refusal10, combined-same}
 use Rattle.keeping.specs.Promise.{weighedOf, answerOf as weighed}
 use Rattle.keeping.specs.declared.Weighed.{Weighed}
 use Rattle.keeping.proofs.PlanLaws.{weighed-is}
@@ -26,12 +26,6 @@ use Rattle.judges.specs.Promise.{planned, judgedOf, answerOf, Judges, As
 use Rattle.judges.specs.declared.Verdict.{Verdict}
 use Rattle.judges.specs.declared.Verdict.the-variants.{Refused, Keeping, Losing}
 use Rattle.judges.proofs.FairLaws.{no-field}
-
--- what is made of a value that stands after a test is made after the test
-then-bind : {A B : Type 0} (t : Answer Unit) (a : A) (f : A → Answer B) → ((t >> fine a) >>= f) ≡ (t >> f a)
-unfolding _>>=_ _>>_
-then-bind (fine u) a f = refl
-then-bind (refuse r) a f = refl
 
 -- where no half is lost, the tail decides; its lost place is 2n
 abbrev pub byTail : Bool → ℕ → ℕ × ℕ → Answer (ℕ × ℕ)

@@ -21,7 +21,7 @@ returns : tie.Need-returns
 returns c = search needs
 
 array-share-prefix-room : tie.Need-array-share-prefix-room
-array-share-prefix-room c = let b = c .before .before .before .bhx-run in reel-within _ _ _ _ _ _ (b .ensures .0) (b .ensures .1)
+array-share-prefix-room c = let b = c .before .before .before .bhx-run in reel-within _ _ _ _ _ (b .ensures)
 
 slice-aggregate-write : tie.Need-slice-aggregate-write
 slice-aggregate-write c = front _ _ (array-share-prefix-room (c .before))
