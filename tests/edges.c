@@ -5,7 +5,6 @@
 #include "bhexodana.h"
 
 #include <stdio.h>
-#include <stdlib.h>
 #include <string.h>
 
 /* The build fails where a layout is another one. */
@@ -82,6 +81,36 @@ static int stays(const uint8_t *lent, const uint8_t *before, size_t size, const 
            memcmp(lent + GUARD + changed, before + GUARD + changed, size - GUARD - changed) == 0;
 }
 
+/* ---- what is expected, by the header's names */
+
+static bhx_planned planned(uint64_t refusal, uint64_t place, uint64_t keeping, uint64_t lost, uint64_t fields)
+{
+    bhx_planned p;
+    p.refusal = refusal;
+    p.place = place;
+    p.keeping = keeping;
+    p.lost = lost;
+    p.fields = fields;
+    return p;
+}
+
+static bhx_field field(uint8_t kind, uint16_t r, uint16_t input, uint16_t output, uint16_t t)
+{
+    bhx_field f;
+    f.kind = kind;
+    f.r = r;
+    f.input = input;
+    f.output = output;
+    f.t = t;
+    return f;
+}
+
+static void same_plan(const char *what, bhx_planned p, bhx_planned want)
+{
+    check(p.refusal == want.refusal && p.place == want.place, what);
+    check(p.keeping == want.keeping && p.lost == want.lost && p.fields == want.fields, what);
+}
+
 /* ---- runs and plans with their answers */
 
 static void runs(const char *what, const char *cards, const uint8_t *s, size_t s_len, size_t room, uint64_t refusal, uint64_t place,
@@ -110,12 +139,20 @@ static void plans(const char *what, const char *cards, size_t entries, bhx_plann
     calls++;
     fill(lent_table.bytes, before_table.bytes, sizeof lent_table.bytes);
     p = bhx_plan_into((const uint8_t *)cards, strlen(cards), table, entries);
-    check(memcmp(&p, &want, sizeof p) == 0, what);
+    same_plan(what, p, want);
     for (i = 0; i < want.fields; i++) {
         check(table[i].kind == fields[i].kind && table[i].r == fields[i].r && table[i].input == fields[i].input, what);
         check(table[i].output == fields[i].output && table[i].t == fields[i].t, what);
     }
     check(stays(lent_table.bytes, before_table.bytes, sizeof lent_table.bytes, lent_table.bytes + GUARD, changed), what);
+}
+
+/* Five records of one byte from two blocks, two to a block: a length, a count of records and one of blocks that differ. */
+static void test_counts(void)
+{
+    static const uint8_t s[21] = {0, 0, 0, 2, 0, 0, 0, 16, 0, 0, 0, 20, 0, 0, 0, 21, 1, 2, 3, 4, 5};
+    static const uint8_t now[25] = {0, 0, 0, 3, 0, 0, 0, 20, 0, 0, 0, 22, 0, 0, 0, 24, 0, 0, 0, 25, 1, 2, 3, 4, 5};
+    runs("five records in three blocks", "// U TR,FF,A=(1,4),B=(1,2)\n// END", s, sizeof s, ROOM, 0, 0, now, 25, 5, 3);
 }
 
 static void test_runs(void)
@@ -141,25 +178,34 @@ static void test_runs(void)
     refuses_run("a half that is not permitted, in the last record", deck, bad, sizeof bad, ROOM, 13, 2);
 }
 
+/* The plan of a deck without a table. */
+static void plain(const char *what, const char *cards, bhx_planned want)
+{
+    calls++;
+    same_plan(what, bhx_plan((const uint8_t *)cards, strlen(cards)), want);
+}
+
 static void test_plans(void)
 {
-    static const bhx_field two[2] = {{BHX_COPY, 1, 4, 4, 1}, {BHX_PACK, 5, 4, 3, 5}};
-    static const bhx_field lossy[2] = {{BHX_COPY, 1, 4, 4, 1}, {BHX_PACK, 5, 4, 2, 5}};
-    static const bhx_planned keeps = {0, 0, 1, 0, 2}, loses = {0, 0, 0, 9, 2}, short_table = {15, 2, 0, 0, 0};
-    static const bhx_planned none = {2, 1, 0, 0, 0}, no_half = {10, 0, 0, 0, 0}, no_field = {0, 0, 1, 0, 0};
-    bhx_planned p = bhx_plan((const uint8_t *)twins, strlen(twins));
-    check(memcmp(&p, &loses, sizeof p) == 0, "the plan without a table");
-    p = bhx_plan((const uint8_t *)deck, strlen(deck));
-    check(memcmp(&p, &keeps, sizeof p) == 0, "the plan that keeps, without a table");
-    p = bhx_plan((const uint8_t *)"", 0);
-    check(memcmp(&p, &none, sizeof p) == 0, "the plan of no deck, without a table");
-    calls += 3;
+    bhx_planned keeps = planned(0, 0, 1, 0, 2), loses = planned(0, 0, 0, 9, 2), short_table = planned(15, 2, 0, 0, 0);
+    bhx_planned none = planned(2, 1, 0, 0, 0), no_half = planned(10, 0, 0, 0, 0), no_field = planned(0, 0, 1, 0, 0);
+    bhx_field two[2], lossy[2], turned[3];
+    two[0] = lossy[0] = field(BHX_COPY, 1, 4, 4, 1);
+    two[1] = field(BHX_PACK, 5, 4, 3, 5);
+    lossy[1] = field(BHX_PACK, 5, 4, 2, 5);
+    turned[0] = field(BHX_PACK, 2, 5, 3, 7);
+    turned[1] = field(BHX_UNPACK, 8, 1, 4, 3);
+    turned[2] = field(BHX_COPY, 9, 2, 2, 10);
+    plain("the plan without a table", twins, loses);
+    plain("the plan that keeps, without a table", deck, keeps);
+    plain("the plan of no deck, without a table", "", none);
     plans("a table of 0", deck, 0, short_table, NULL);
     plans("a table of 1", deck, 1, short_table, NULL);
     plans("a table of 2", deck, 2, keeps, two);
     plans("a table of 64", deck, 64, keeps, two);
     plans("a table of 70", deck, ENTRIES, keeps, two);
     plans("the plan that loses", twins, 64, loses, lossy);
+    plans("each kind, five numbers that differ", "// U TRF,FF,A=(12,12),B=(11,11)\n// FS 2,(P,5,3),7/8,(U,1,4),3/9,2,10\n// END", 3, planned(0, 0, 0, 0, 3), turned);
     plans("no field, a table of 0", copies, 0, no_field, NULL);
     plans("no field, a table of 70", copies, ENTRIES, no_field, NULL);
     plans("no deck", "", 64, none, NULL);
@@ -172,14 +218,11 @@ static void test_many_fields(void)
 {
     char cards[4096];
     bhx_field fields[BHX_MOST_FIELDS];
-    bhx_planned full = {0, 0, 1, 0, 64}, short_table = {15, 64, 0, 0, 0}, over = {6, 10, 0, 0, 0};
+    bhx_planned full = planned(0, 0, 1, 0, 64), short_table = planned(15, 64, 0, 0, 0), over = planned(6, 10, 0, 0, 0);
     size_t i, end = (size_t)sprintf(cards, "// U TF,FF,A=(64,64),B=(64,64)\n");
     for (i = 0; i < 64; i++) {
-        bhx_field f = {BHX_COPY, 0, 1, 1, 0};
-        f.r = (uint16_t)(i + 1);
-        f.t = (uint16_t)(64 - i);
-        fields[i] = f;
-        end += (size_t)sprintf(cards + end, "%s%u,1,%u%s", i % 8 ? "/" : "// FS ", f.r, f.t, i % 8 == 7 ? "\n" : "");
+        fields[i] = field(BHX_COPY, (uint16_t)(i + 1), 1, 1, (uint16_t)(64 - i));
+        end += (size_t)sprintf(cards + end, "%s%u,1,%u%s", i % 8 ? "/" : "// FS ", fields[i].r, fields[i].t, i % 8 == 7 ? "\n" : "");
     }
     strcpy(cards + end, "// END\n");
     plans("64 fields, a table of 63", cards, 63, short_table, NULL);
@@ -192,6 +235,7 @@ static void test_many_fields(void)
 int main(void)
 {
     test_runs();
+    test_counts();
     test_plans();
     test_many_fields();
     printf("%d calls, %d wrong\n", calls, wrong);
