@@ -156,7 +156,7 @@ fields-wider {a = a} {b = b} a′ b′ h k x =
 pub tail-room : (carries : Bool) (m k l : ℕ) → carries ≡ true → m + cond carries k 0 ≤ l → m + k ≤ l
 tail-room carries m k l e h = subst (λ (c : Bool). m + cond c k 0 ≤ l) e h
 
--- B's m bytes of hex 40, the fields over them, and what lay behind them
+-- B's n bytes of hex 40, the fields over them, and what lay behind them
 module _ (xs : List ℕ) (n m : ℕ) (r old front new : List ℕ) (long : n ≤ length r) (blank : front ≡ replicate m 0x40) (w : Writes xs r (front ++ drop m old) new) where
   length-fixed : (fs : List RuleField) → FlatFair xs fs n m → length (writtenBytes zoneF fs r (replicate m 0x40)) ≡ m
   length-fixed fs fair = length-writtenBytes zoneF n m r long fs (replicate m 0x40) (fair .fits) (length-replicate {A = ℕ} m 0x40)

@@ -20,7 +20,7 @@ Permits xs r x = (fs : List Field) (a b : ℕ) → FlatFair xs fs a b → a ≤ 
 unfoldable pub Writes : List ℕ → List ℕ → List ℕ → List ℕ → Type 0
 Writes xs r old new = (fs : List Field) → xs ≡ flatOf fs → new ≡ writtenBytes zoneF fs r old
 
--- B's m bytes of hex 40, then the fields; with CV the input's data past A's n follows
+-- B's n bytes of hex 40, then the fields; with CV the input's data past A's n follows
 unfoldable pub outBytes : ℕ → ℕ → List Field → Bool → List ℕ → List ℕ
 outBytes n m fs carries r = bytes (outHalves zoneF value m fs (halves (take n r))) ++ cond carries (drop n r) []
 

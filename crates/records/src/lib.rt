@@ -264,7 +264,7 @@ fn put_fields(fields: &[u16], record: &[u8], out: &mut [u8])
     }
 }
 
-// Writes the output of a record at the front of out: B's m bytes of hex 40, then the fields, and with CV the data past A's n.
+// Writes the output of a record at the front of out: B's n bytes of hex 40, then the fields, and with CV the data past A's n.
 pub fn put_record(fields: &[u16], n: usize, m: usize, carries: bool, record: &[u8], out: &mut [u8])
     requires { ⌜ Fielded (now fields) n m ⌝ }
     requires { ⌜ n ≤ length (now «record») ⌝ }
