@@ -10,24 +10,11 @@ use lib.Dec.{eqb}
 use borrow.Author.Tests.{eqb-true, eqb-false, eq-eqb}
 use Rattle.rules.specs.Places.{All}
 use Rattle.rules.specs.Halves.{Kind, copy, pack, unpack, inputSize, Field, readsFrom, readsMany}
-use Rattle.rules.specs.Permitted.{digit, sign, any, kindAllows, allows}
+use Rattle.rules.specs.Permitted.{kindAllows, allows}
 use Rattle.rules.specs.Plan.{Plan, allowed}
-use Rattle.rules.specs.InWords.{Digit, Sign, IsHigh, IsLow, Allows, MayBe}
-use Rattle.rules.proofs.Tests.{within-low, within-high, within-of}
+use Rattle.rules.specs.InWords.{IsHigh, IsLow, Allows, MayBe}
 use Rattle.rules.proofs.AllLaws.{all-imply}
-use Rattle.rules.proofs.PermittedLaws.{pack-low-allows, pack-last-allows, pack-high-allows, unpack-last-allows, unpack-digit-allows, any-of, any-small, allows-inside, allows-before, allows-after, Where, before, inside, after, where-is, permitted-any, permitted-all, all-permitted}
-
-digit-told : (v : ℕ) → digit v ≡ true → Digit v
-digit-told v t = within-high 0 9 v t
-
-digit-of : (v : ℕ) → Digit v → digit v ≡ true
-digit-of v l = within-of 0 9 v (omega arith) l
-
-sign-told : (v : ℕ) → sign v ≡ true → Sign v
-sign-told v t = (within-low 10 15 v t, within-high 10 15 v t)
-
-sign-of : (v : ℕ) → Sign v → sign v ≡ true
-sign-of v l = within-of 10 15 v (l .0) (l .1)
+use Rattle.rules.proofs.PermittedLaws.{digit-told, digit-of, sign-told, sign-of, pack-low-allows, pack-last-allows, pack-high-allows, unpack-last-allows, unpack-digit-allows, any-of, any-small, allows-inside, allows-before, allows-after, Where, before, inside, after, where-is, permitted-any, permitted-all, all-permitted}
 
 -- ---- one field
 
