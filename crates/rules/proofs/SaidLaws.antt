@@ -8,74 +8,79 @@ use native.Mathlib.Omega.{arith}
 use lib.ListN.{length, take, drop, length-append, length-drop, length-map}
 use lib.Seq.{take-at, drop-at}
 use borrow.Author.Tests.{leb-true}
-use Rattle.rules.specs.Answer.{Refusal, Answer, fine, refuse, refused, refusalOf, placeOf}
+use Rattle.rules.specs.Answer.{Refusal, Answer, fine, refuse, refusedAt, refusalOf, placeOf, columnOf}
 use Rattle.rules.specs.Places.{All, Both, none-left, both, Byte}
 use Rattle.rules.specs.Halves.{Kind, copy, pack, unpack, inputSize, outputSize, Field}
 use Rattle.rules.specs.Plan.{Plan, planOf, planAnswer}
 use Rattle.rules.specs.Run.{Ran, runOf, ranOf, outputBlocks}
 use Rattle.rules.specs.Reel.{blocksOf}
-use Rattle.rules.specs.Rows.{Row, Done, GivenBy, Answered}
+use Rattle.rules.specs.Rows.{Row, Done, GivenBy}
+use Rattle.rules.specs.ColumnRows.{Column, Lowest, Answered}
 use Rattle.rules.specs.RunRows.{RowInto, RowRun}
 use Rattle.rules.specs.Lent.{zoneF, plan, planInto, Entry, kindNumber, entryOf, tableAfter, run, runAnswer, outputAfter}
 use Rattle.rules.specs.Said.{PlanSays, KindIs, EntryIs, TableSays, Wrote, RunSays}
 use Rattle.rules.proofs.AnswerLaws.{fine-same, refuse-same, not-fine, bind-fine, then-fine, unless-fine}
 use Rattle.rules.proofs.AcceptedLaws.{accepted, zone-of}
-use Rattle.rules.proofs.PlanTable.{plan-asks, asks-once, plan-table, plan-made, into-table, into-made}
+use Rattle.rules.proofs.PlanTable.{plan-asks, asks-once, plan-made, into-made}
+use Rattle.rules.proofs.ColumnTable.{plan-columns, into-columns, run-columns}
 use Rattle.rules.proofs.ReelLaws.{reel-of, all-blocks}
 use Rattle.rules.proofs.BlocksOutcome.{holds-of}
 use Rattle.rules.proofs.OutBlockWords.{holds-whole, blocks-told}
-use Rattle.rules.proofs.RunTable.{run-table, run-finished}
+use Rattle.rules.proofs.RunTable.{run-finished}
 use Rattle.rules.proofs.RunParts.{finished}
 use Rattle.rules.proofs.Demand3.{demand3-of}
 
 -- ---- any table
 
 -- an answer that is refused as a table says is answered by it
-pub answered : {A : Type 0} (rows : ℕ → ℕ → Type 0) (x : Answer A) → ((n p : ℕ) → (x ≡ refused n p) ↔ GivenBy rows n p)
-    → ((a : A) × (x ≡ fine a)) ↔ ((n p : ℕ) → rows n p → ⊥) → ((p : ℕ) → rows 0 p → ⊥) → Answered rows (refusalOf x) (placeOf x)
-answered {A} rows (fine a) table made no-0 =
+pub answered : {A : Type 0} (rows : ℕ → ℕ → Type 0) (deck : List ℕ) (x : Answer A) → ((n p c : ℕ) → (x ≡ refusedAt n p c) ↔ (GivenBy rows n p × Lowest (Column deck p n) c))
+    → ((a : A) × (x ≡ fine a)) ↔ ((n p : ℕ) → rows n p → ⊥) → ((p : ℕ) → rows 0 p → ⊥) → Answered rows deck (refusalOf x) (placeOf x) (columnOf x)
+answered {A} rows deck (fine a) table made no-0 =
     record {
-      given = λ n p l. (λ e. absurd (omega (arith, e .0)), λ g. absurd (not-fine _ a (sym (table n p .1 g))));
+      given = λ n p c l. (λ e. absurd (omega (arith, e .0)), λ g. absurd (not-fine _ a (sym (table n p c .1 g))));
       none = (λ e. made .0 (a, refl), λ h. refl);
-      at-0 = λ e. refl;
+      at-0 = λ e. (refl, refl);
     }
-answered {A} rows (refuse r) table made no-0 =
+answered {A} rows deck (refuse r) table made no-0 =
     record {
-      given = λ n p l. (
-        λ e. subst (λ (m : ℕ). GivenBy rows m p) (e .0) (subst (GivenBy rows (r .number)) (e .1) (table (r .number) (r .place) .0 refl)),
-        λ g. let q = refuse-same r _ (table n p .1 g) in (ap (λ (z : Refusal). z .number) q, ap (λ (z : Refusal). z .place) q),
-      );
-      none = (λ e. absurd (never e), λ h. absurd (h (r .number) (r .place) (table (r .number) (r .place) .0 refl .0)));
+      given = λ n p c l. (λ e. given n p c e, λ g. let q = refuse-same r _ (table n p c .1 g) in (ap (λ (z : Refusal). z .number) q, ap (λ (z : Refusal). z .place) q, ap (λ (z : Refusal). z .column) q));
+      none = (λ e. absurd (never e), λ h. absurd (h (r .number) (r .place) (own .0 .0)));
       at-0 = λ e. absurd (never e);
     }
   where
+    own : GivenBy rows (r .number) (r .place) × Lowest (Column deck (r .place) (r .number)) (r .column)
+    own = table (r .number) (r .place) (r .column) .0 refl
+
+    given : (n p c : ℕ) → (r .number ≡ n) × (r .place ≡ p) × (r .column ≡ c) → GivenBy rows n p × Lowest (Column deck p n) c
+    given n p c (d, e, f) = table n p c .0 (λ i. refuse (record { number = d i; place = e i; column = f i }))
+
     never : r .number ≡ 0 → ⊥
-    never e = no-0 (r .place) (subst (λ (m : ℕ). rows m (r .place)) e (table (r .number) (r .place) .0 refl .0))
+    never e = no-0 (r .place) (subst (λ (m : ℕ). rows m (r .place)) e (own .0 .0))
 
 -- ---- a plan
 
 -- what a plan says of a deck, where it is the deck's own plan that is not refused
-plan-says-of : (deck : List ℕ) (rows : ℕ → ℕ → Type 0) (x : Answer Plan) → ((n p : ℕ) → (x ≡ refused n p) ↔ GivenBy rows n p)
+plan-says-of : (deck : List ℕ) (rows : ℕ → ℕ → Type 0) (x : Answer Plan) → ((n p c : ℕ) → (x ≡ refusedAt n p c) ↔ (GivenBy rows n p × Lowest (Column deck p n) c))
     → ((a : Plan) × (x ≡ fine a)) ↔ ((n p : ℕ) → rows n p → ⊥) → ((p : ℕ) → rows 0 p → ⊥) → ((p : Plan) → x ≡ fine p → planOf zoneF deck ≡ fine p)
     → PlanSays rows deck (planAnswer x)
 plan-says-of deck rows (fine p) table made no-0 is =
     let e = is p refl in
     record {
-      table = answered rows (fine p) table made no-0;
+      table = answered rows deck (fine p) table made no-0;
       refused = λ n. absurd (n refl);
       made = λ z. (p, plan-asks zoneF deck Done p e, demand3-of p (rw (zone-of zoneF deck p e) (omega arith)) (accepted zoneF deck p e), refl);
     }
 plan-says-of deck rows (refuse r) table made no-0 is =
-    let a = answered {A = Plan} rows (refuse r) table made no-0 in
+    let a = answered {A = Plan} rows deck (refuse r) table made no-0 in
     record {
       table = a;
       refused = λ n. (refl, refl, refl);
-      made = λ z. absurd (a .none .0 z (r .number) (r .place) (table (r .number) (r .place) .0 refl .0));
+      made = λ z. absurd (a .none .0 z (r .number) (r .place) (table (r .number) (r .place) (r .column) .0 refl .0 .0));
     }
 
 pub plan-says : (deck : List ℕ) → PlanSays (Row zoneF deck) deck (planAnswer (plan deck))
 unfolding plan
-plan-says deck = plan-says-of deck (Row zoneF deck) (planOf zoneF deck) (plan-table zoneF deck) (plan-made zoneF deck) (λ p r. r) (λ p e. e)
+plan-says deck = plan-says-of deck (Row zoneF deck) (planOf zoneF deck) (plan-columns zoneF deck) (plan-made zoneF deck) (λ p r. r) (λ p e. e)
 
 -- ---- a lent table
 
@@ -123,8 +128,8 @@ table-says-of deck before (refuse r) is h says =
 
 pub table-says : (deck : List ℕ) (before : List Entry) → TableSays deck before (planAnswer (planInto (length before) deck)) (tableAfter before (planInto (length before) deck))
 table-says deck before =
-    let says = plan-says-of deck (RowInto zoneF deck (length before)) (planInto (length before) deck) (into-table (length before) deck) (into-made (length before) deck) (λ p r. r) (λ p e. into-plan (length before) deck p e .0) in
-    let a = answered (RowInto zoneF deck (length before)) (planInto (length before) deck) (into-table (length before) deck) (into-made (length before) deck) (λ p r. r) in
+    let says = plan-says-of deck (RowInto zoneF deck (length before)) (planInto (length before) deck) (into-columns (length before) deck) (into-made (length before) deck) (λ p r. r) (λ p e. into-plan (length before) deck p e .0) in
+    let a = answered (RowInto zoneF deck (length before)) deck (planInto (length before) deck) (into-columns (length before) deck) (into-made (length before) deck) (λ p r. r) in
     table-says-of deck before (planInto (length before) deck) (λ p e. into-plan (length before) deck p e) (λ z. into-made (length before) deck .1 (a .none .0 z)) says
 
 -- ---- a run
@@ -148,6 +153,7 @@ module _ (deck reel : List ℕ) (bytes : All Byte reel) where
         outs = outputBlocks p (w .recs);
         blocks-out = blocks-told p z ok (w .recs) (holds-whole p ok (all-blocks reel bytes) h) (w .fit);
         place = refl;
+        column = refl;
         length-is = ap (λ (y : Ran). length (y .reel)) (w .writes);
         records-are = ap (λ (y : Ran). y .records) (w .writes);
         blocks-are = ap (λ (y : Ran). y .blocks) (w .writes);
@@ -159,7 +165,7 @@ module _ (deck reel : List ℕ) (bytes : All Byte reel) where
   unfolding run runOf
   roomy-of before x d = let s = bind-fine (planOf zoneF deck) _ x d in finished (s .0) (length before) reel x (s .2) .roomy
 
-  run-says-of : (before : List ℕ) (x : Answer Ran) → run (length before) deck reel ≡ x → Answered (RowRun zoneF deck reel (length before)) (refusalOf x) (placeOf x)
+  run-says-of : (before : List ℕ) (x : Answer Ran) → run (length before) deck reel ≡ x → Answered (RowRun zoneF deck reel (length before)) deck (refusalOf x) (placeOf x) (columnOf x)
       → (refusalOf x ≡ 0 → (y : Ran) × (x ≡ fine y)) → RunSays deck reel before (runAnswer x) (outputAfter before x)
   run-says-of before (fine x) d a h =
       record {
@@ -176,5 +182,5 @@ module _ (deck reel : List ℕ) (bytes : All Byte reel) where
   run-says before =
       let room = length before in
       let rows = RowRun zoneF deck reel room in
-      let a = answered rows (runOf zoneF room deck reel) (run-table zoneF (omega arith) deck reel bytes room) (run-finished zoneF (omega arith) deck reel bytes room) (λ p r. r) in
+      let a = answered rows deck (runOf zoneF room deck reel) (run-columns zoneF (omega arith) deck reel bytes room) (run-finished zoneF (omega arith) deck reel bytes room) (λ p r. r) in
       run-says-of before (runOf zoneF room deck reel) refl a (λ z. run-finished zoneF (omega arith) deck reel bytes room .1 (a .none .0 z))

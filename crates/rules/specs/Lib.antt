@@ -6,6 +6,7 @@ pub mod Deck
 pub mod Order
 pub mod Halves
 pub mod Grammar
+pub mod Words
 pub mod Asked
 pub mod Permitted
 pub mod Keeping
@@ -20,8 +21,10 @@ pub mod ReelPlaces
 pub mod RecordParts
 pub mod Texts
 pub mod InWords
+pub mod Columns
 pub mod Rows
 pub mod RunRows
+pub mod ColumnRows
 pub mod Taken
 pub mod Accepted
 pub mod Demand

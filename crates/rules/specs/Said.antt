@@ -8,7 +8,8 @@ use Rattle.rules.specs.Base.{joined}
 use Rattle.rules.specs.Places.{Both}
 use Rattle.rules.specs.Halves.{Kind, copy, pack, unpack, Field}
 use Rattle.rules.specs.Plan.{Plan, PlanAnswer}
-use Rattle.rules.specs.Rows.{Asks, Row, Answered}
+use Rattle.rules.specs.Rows.{Asks, Row}
+use Rattle.rules.specs.ColumnRows.{Answered}
 use Rattle.rules.specs.InWords.{BlocksOut}
 use Rattle.rules.specs.RunRows.{Gives, outReel, RowRun, RowInto}
 use Rattle.rules.specs.Demand.{Judged}
@@ -16,9 +17,9 @@ use Rattle.rules.specs.Lent.{zoneF, Entry, RunAnswer}
 
 -- ---- a plan
 
--- by the rows of a table: refusal, place, keeping, lost place and field count
+-- by the rows of a table: refusal, place, column, keeping, lost place and field count
 pub record PlanSays (rows : ℕ → ℕ → Type 0) (deck : List ℕ) (n : PlanAnswer) : Type 0 where
-  pub table : Answered rows (n .refusal) (n .place)
+  pub table : Answered rows deck (n .refusal) (n .place) (n .column)
   -- the last three are 0 if refused
   pub refused : (n .refusal ≡ 0 → ⊥) → (n .keeping ≡ 0) × (n .lost ≡ 0) × (n .fields ≡ 0)
   -- else there is the plan that the deck asks for; keeping and lost place say of it what demand 3 asks, and its fields are counted
@@ -58,6 +59,7 @@ pub record Wrote (deck reel before : List ℕ) (n : RunAnswer) (after : List ℕ
   pub outs : List (List (List ℕ))
   pub blocks-out : BlocksOut p recs outs
   pub place : n .place ≡ 0
+  pub column : n .column ≡ 0
   -- the reel's length, records and blocks
   pub length-is : n .reelLength ≡ length (outReel p outs)
   pub records-are : n .records ≡ length (joined outs)
@@ -67,7 +69,7 @@ pub record Wrote (deck reel before : List ℕ) (n : RunAnswer) (after : List ℕ
   pub rest : drop (n .reelLength) after ≡ drop (n .reelLength) before
 
 pub record RunSays (deck reel before : List ℕ) (n : RunAnswer) (after : List ℕ) : Type 0 where
-  pub table : Answered (RowRun zoneF deck reel (length before)) (n .refusal) (n .place)
+  pub table : Answered (RowRun zoneF deck reel (length before)) deck (n .refusal) (n .place) (n .column)
   pub size : length after ≡ length before
   -- refused, the three are 0 and no lent byte changes
   pub refused : (n .refusal ≡ 0 → ⊥) → (n .reelLength ≡ 0) × (n .records ≡ 0) × (n .blocks ≡ 0) × (after ≡ before)

@@ -1,0 +1,84 @@
+-- What holds of each refusal that a test of a run gives holds of what the run refuses; none of them has a column, so a run of a plan has none. By following the
+-- tests of a run.
+use mathlib.Core.Path.{_≡_, refl}
+use mathlib.Core.Bool.{Bool, true, false, cond}
+use mathlib.Core.List.{List, [], _∷_}
+use mathlib.Core.Option.{Option, none, some}
+use Prim.Native.Nat.{ℕ, suc, _≤_}
+use native.Mathlib.Omega.{arith}
+use lib.ListN.{length}
+use Rattle.rules.specs.Base.{isEmpty, joined}
+use Rattle.rules.specs.Answer.{Refusal, Answer, fine, refuse, refused, _>>=_, _>>_, unless, each}
+use Rattle.rules.specs.Reel.{isReel, blocksOf}
+use Rattle.rules.specs.Plan.{Plan}
+use Rattle.rules.specs.Blocks.{recordsIn, recordsFrom, takenFrom}
+use Rattle.rules.specs.Output.{permits}
+use Rattle.rules.specs.Run.{fitting, outputs, outBlocks, ranOf, housed, convert}
+
+module _ (P : Refusal → Type 0) where
+  -- what is refused has P
+  abbrev pub Refuses : {A : Type 0} → Answer A → Type 0
+  Refuses (fine a) = Unit {0}
+  Refuses (refuse r) = P r
+
+  -- number m has P with column 0
+  abbrev pub Plainly : ℕ → Type 0
+  Plainly m = (p : ℕ) → P (record { number = m; place = p; column = 0 })
+
+  pub refuses-bind : {A B : Type 0} (x : Answer A) (f : A → Answer B) → Refuses x → ((a : A) → x ≡ fine a → Refuses (f a)) → Refuses (x >>= f)
+  unfolding _>>=_
+  refuses-bind (fine a) f c h = h a refl
+  refuses-bind (refuse r) f c h = c
+
+  pub refuses-then : {B : Type 0} (x : Answer Unit) (y : Answer B) → Refuses x → (x ≡ fine tt → Refuses y) → Refuses (x >> y)
+  unfolding _>>_
+  refuses-then (fine a) y c h = h refl
+  refuses-then (refuse r) y c h = c
+
+  pub refuses-unless : (t : Bool) (m i : ℕ) → Plainly m → Refuses (unless t m i)
+  unfolding unless
+  refuses-unless true m i z = tt
+  refuses-unless false m i z = z i
+
+  pub refuses-each : {A : Type 0} (m : ℕ) (q : A → Bool) (i : ℕ) (xs : List A) → Plainly m → Refuses (each m q i xs)
+  unfolding each
+  refuses-each m q i [] z = tt
+  refuses-each m q i (x ∷ xs) z = go (q x) (refuses-each m q (suc i) xs z)
+    where
+      go : (t : Bool) → Refuses (each m q (suc i) xs) → Refuses (cond t (each m q (suc i) xs) (refused m i))
+      go true h = h
+      go false h = z i
+
+  pub refuses-fine : {A : Type 0} (x : Answer A) (a : A) → x ≡ fine a → Refuses x
+  refuses-fine x a e = rw e tt
+
+  refuses-records : Plainly 12 → (pl : Plan) (i : ℕ) (bs : List (List ℕ)) → Refuses (recordsFrom pl i bs)
+  refuses-records z pl i [] = tt
+  refuses-records z pl i (b ∷ bs) = go (refuses-records z pl (suc i) bs) (recordsIn pl (isEmpty bs) b) refl
+    where
+      go : Refuses (recordsFrom pl (suc i) bs) → (o : Option (List (List ℕ))) → recordsIn pl (isEmpty bs) b ≡ o → Refuses (recordsFrom pl i (b ∷ bs))
+      go h none e = rw e (z i)
+      go h (some rs) e = rw e (refuses-bind (recordsFrom pl (suc i) bs) (λ more. fine (rs ∷ more)) h (λ more f. tt))
+
+  module _ (room : ℕ) (pl : Plan) (s : List ℕ) where
+    -- a run over a plan is refused with 11, 12 or 15, or by what is asked of the records
+    pub refuses-by : Plainly 11 → Plainly 12 → Plainly 15
+        → ((recs : List (List (List ℕ))) → recordsFrom pl 1 (blocksOf s) ≡ fine recs
+        → Refuses (each 13 (permits pl) (pl .first) (joined (takenFrom (pl .first) recs))) × Refuses (each 14 (λ holds. holds) (pl .first) (fitting (pl .mode) pl (outputs pl recs))))
+        → Refuses (convert room pl s)
+    unfolding convert outBlocks housed
+    refuses-by z11 z12 z15 k =
+        refuses-bind (outBlocks pl s) _
+        (refuses-then (unless (isReel s) 11 0) _ (refuses-unless _ 11 0 z11) (λ e1.
+        refuses-bind (recordsFrom pl 1 (blocksOf s)) _ (refuses-records z12 pl 1 (blocksOf s)) (λ recs e2.
+        refuses-then _ _ (k recs e2 .0) (λ e3. refuses-then _ _ (k recs e2 .1) (λ e4. tt)))))
+        (λ bs e5. refuses-then _ _ (refuses-unless _ 15 (length (ranOf pl bs .reel)) z15) (λ e6. tt))
+
+    pub refuses-convert : ((m : ℕ) → 11 ≤ m → Plainly m) → Refuses (convert room pl s)
+    refuses-convert z =
+        refuses-by (z 11 (omega arith)) (z 12 (omega arith)) (z 15 (omega arith)) (λ recs e.
+        (refuses-each 13 _ (pl .first) _ (z 13 (omega arith)), refuses-each 14 _ (pl .first) _ (z 14 (omega arith))))
+
+-- a run of a plan has no column
+pub convert-column : (room : ℕ) (p : Plan) (s : List ℕ) (r : Refusal) → convert room p s ≡ refuse r → r .column ≡ 0
+convert-column room p s r e = rw e at (refuses-convert (λ r. r .column ≡ 0) room p s (λ m h q. refl))
