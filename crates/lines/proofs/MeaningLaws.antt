@@ -96,7 +96,7 @@ module _ (l : List ℕ) where
       inl (text-taken "// U " l b),
       o .from,
       o .upto,
-      card-U l plain (drop 5 l) tt (text-read "// U " l b) ∙ ap (λ (x : List ℕ). some (uCard x)) (o .is),
+      card-U l plain (drop 5 l) tt (text-read "// U " l b) ∙ ap (λ (x : List ℕ). some (uCard 5 x)) (o .is),
     )
 
     pub card-says-UTT : {e : ℕ} → BeginsSays (ascii "// UTT ") l true → OperandEnds l 7 e → CardSays l (UCard 7 e)
@@ -104,7 +104,7 @@ module _ (l : List ℕ) where
       inr (text-taken "// UTT " l b),
       o .from,
       o .upto,
-      card-UTT l plain (drop 7 l) tt (text-read "// UTT " l b) ∙ ap (λ (x : List ℕ). some (uCard x)) (o .is),
+      card-UTT l plain (drop 7 l) tt (text-read "// UTT " l b) ∙ ap (λ (x : List ℕ). some (uCard 7 x)) (o .is),
     )
 
     pub card-says-FS : {e : ℕ} → BeginsSays (ascii "// FS ") l true → OperandEnds l 6 e → CardSays l (FsCard 6 e)

@@ -53,7 +53,7 @@ module _ (l : List ℕ) where
   pub card-only-one : (r q : CardRead) → CardSays l r → CardSays l q → r ≡ q
   card-only-one (UCard s e) (UCard t f) x y =
       let z : s ≡ t = U-start s t (omega arith) (omega arith) (x .0) (y .0) in
-      let v : some (uCard (slice s e l)) ≡ some (uCard (slice t f l)) = sym (x .3) ∙ y .3 in
+      let v : some (uCard s (slice s e l)) ≡ some (uCard t (slice t f l)) = sym (x .3) ∙ y .3 in
       let w : e ≡ f = same-end s t e f z (x .1) (x .2) (y .1) (y .2) (cc) in
       cc
   card-only-one (UCard s e) (FsCard t f) x y = absurd (never (cc (x .3, y .3)))

@@ -65,7 +65,7 @@ fault-stays t (k ∷ ks) h =
     fault-stays (withLine t k) ks (λ z. h (sym e ∙ z)) ∙ e
 
 is-card : (c : Card) → isOther (kindOf (some c)) ≡ false
-is-card (uCard o) = refl
+is-card (uCard b o) = refl
 is-card (fsCard o) = refl
 is-card endCard = refl
 
@@ -83,7 +83,7 @@ next-place t n e h = let l : t .lines < most = omega arith in omega (arith, coun
 
 -- the first line that is no card is marked
 bad-first : (n : ℕ) (ls : List (List ℕ)) (r : Refusal) (t : Tally) → t .lines ≡ n → t .bad ≡ 0 → n + length ls ≤ most → cardsFrom (suc n) ls ≡ refuse r
-    → (r .number ≡ 1) × (r .place ≡ tallied t (kinds ls) .bad) × (1 ≤ r .place)
+    → (r .number ≡ 1) × (r .place ≡ tallied t (kinds ls) .bad) × (1 ≤ r .place) × (r .column ≡ 0)
 bad-first n [] r t e g h f = absurd (not-fine r [] (sym f))
 bad-first n (l ∷ ls) r t e g h f =
     go (λ k p q u. bad-first (suc n) ls r (withLine t k) p q (omega arith) u) (cardOf l) refl
@@ -92,16 +92,17 @@ bad-first n (l ∷ ls) r t e g h f =
     place = next-place t n e (omega arith)
 
     go : ((k : CardKind) → withLine t k .lines ≡ suc n → withLine t k .bad ≡ 0 → cardsFrom (suc (suc n)) ls ≡ refuse r
-        → (r .number ≡ 1) × (r .place ≡ tallied (withLine t k) (kinds ls) .bad) × (1 ≤ r .place))
-        → (o : Option Card) → cardOf l ≡ o → (r .number ≡ 1) × (r .place ≡ tallied t (kinds (l ∷ ls)) .bad) × (1 ≤ r .place)
+        → (r .number ≡ 1) × (r .place ≡ tallied (withLine t k) (kinds ls) .bad) × (1 ≤ r .place) × (r .column ≡ 0))
+        → (o : Option Card) → cardOf l ≡ o → (r .number ≡ 1) × (r .place ≡ tallied t (kinds (l ∷ ls)) .bad) × (1 ≤ r .place) × (r .column ≡ 0)
     go ih none d =
-        let v : refuse (record { number = 1; place = suc n }) ≡ refuse r = rw d at f in
-        let w : record { number = 1; place = suc n } ≡ r = cc in
+        let v : refuse (record { number = 1; place = suc n; column = 0 }) ≡ refuse r = rw d at f in
+        let w : record { number = 1; place = suc n; column = 0 } ≡ r = cc in
         let p : suc n ≡ r .place = ap (λ (z : Refusal). z .place) w in
         let b : withLine t Other .bad ≡ suc n = first-place (t .bad) true (counted (t .lines)) g refl ∙ place in (
           sym (ap (λ (z : Refusal). z .number) w),
           rw d (sym p ∙ sym b ∙ sym (bad-stays (withLine t Other) (kinds ls) (λ z. omega arith))),
           omega arith,
+          sym (ap (λ (z : Refusal). z .column) w),
         )
     go ih (some c) d =
         let v = made-refused (cardsFrom (suc (suc n)) ls) (λ cs. c ∷ cs) r (rw d at f) in
@@ -152,7 +153,7 @@ end-tallied t n (c ∷ cs) k h = at-fault k (omega arith) c cs (wrong c)
     second z = omega arith
 
     wrong : (c : Card) → misplaced (kindOf (some c)) (suc (suc n)) true ≡ true
-    wrong (uCard o) = lt-ltb 1 (suc (suc n)) (omega arith)
+    wrong (uCard b o) = lt-ltb 1 (suc (suc n)) (omega arith)
     wrong (fsCard o) = faulty-ended (suc (suc n)) true second refl
     wrong endCard = faulty-ended (suc (suc n)) true second refl
 
@@ -165,7 +166,7 @@ fs-more n o (fine os) = ap (λ (m : ℕ). fine m) (let z : suc (suc n) + length 
 fs-tallied : (t : Tally) (n : ℕ) (cs : List Card) → 1 ≤ n → Clear t n false → n + length cs < most
     → verdictOf (tallied t (faces cs)) ≡ answerFrom n (fsFrom (suc n) cs)
 fs-tallied t n [] one k h = none-left k (omega arith) refl
-fs-tallied t n (uCard o ∷ cs) one k h = at-fault k (omega arith) (uCard o) cs (lt-ltb 1 (suc n) (omega arith))
+fs-tallied t n (uCard b o ∷ cs) one k h = at-fault k (omega arith) (uCard b o) cs (lt-ltb 1 (suc n) (omega arith))
 fs-tallied t n (fsCard o ∷ cs) one k h = go (λ j. fs-tallied (withLine t Select) (suc n) cs (omega arith) j (omega arith)) (leb (suc n) 64) refl
   where
     wrong : misplaced Select (suc n) false ≡ ltb 64 (suc n)
@@ -190,18 +191,18 @@ fs-tallied t n (endCard ∷ cs) one k h = go (leb (suc n) 64) refl
         (end-tallied (withLine t End) n cs (in-place k (omega arith) endCard (wrong ∙ le-ltb 64 (suc n) (leb-true (suc n) 64 b))) (omega arith))
     go false b = rw b (at-fault k (omega arith) endCard cs (wrong ∙ lt-ltb 64 (suc n) (leb-false (suc n) 64 b)))
 
-u-first : (o : List ℕ) (x : Answer (List (List ℕ))) → answerFrom 1 x ≡ cardCount (x >>= λ os. fine (record { u = o; fs = os }))
+u-first : (b : ℕ) (o : List ℕ) (x : Answer (List (List ℕ))) → answerFrom 1 x ≡ cardCount (x >>= λ os. fine (record { before = b; u = o; fs = os }))
 unfolding _>>=_
-u-first o (refuse r) = refl
-u-first o (fine os) = refl
+u-first b o (refuse r) = refl
+u-first b o (fine os) = refl
 
 -- the cards
 ordered-tallied : (t : Tally) (cs : List Card) → Clear t 0 false → length cs < most → verdictOf (tallied t (faces cs)) ≡ cardCount (ordered cs)
 unfolding _>>=_
 ordered-tallied t [] k h = none-left k (omega arith) refl
-ordered-tallied t (uCard o ∷ cs) k h =
-    fs-tallied (withLine t Utility) 1 cs (omega arith) (in-place k (omega arith) (uCard o) (le-ltb 1 1 (omega arith))) (omega arith)
-    ∙ u-first o (fsFrom 2 cs)
+ordered-tallied t (uCard b o ∷ cs) k h =
+    fs-tallied (withLine t Utility) 1 cs (omega arith) (in-place k (omega arith) (uCard b o) (le-ltb 1 1 (omega arith))) (omega arith)
+    ∙ u-first b o (fsFrom 2 cs)
 ordered-tallied t (fsCard o ∷ cs) k h = at-fault k (omega arith) (fsCard o) cs (faulty-first 1 false refl)
 ordered-tallied t (endCard ∷ cs) k h = at-fault k (omega arith) endCard cs (faulty-first 1 false refl)
 
@@ -223,7 +224,7 @@ lines-tallied t ls k h = go (cardsFrom 1 ls) refl
     go : (x : Answer (List Card)) → cardsFrom 1 ls ≡ x → verdictOf (tallied t (kinds ls)) ≡ cardCount (x >>= ordered)
     go (refuse r) e =
         let w = bad-first 0 ls r t (k .count) (k .good) (omega arith) e in
-        verdict-bad (tallied t (kinds ls)) (λ z. omega (arith, w .1, w .2)) ∙ rw (w .0, w .1) refl
+        verdict-bad (tallied t (kinds ls)) (λ z. omega (arith, w .1, w .2)) ∙ rw (w .0, w .1, w .3) refl
     go (fine cs) e =
         let m = cards-each 1 ls cs e in
         let f : kinds ls ≡ faces cs = rw (← map-kinds ls, m) (map-faces cs) in

@@ -29,10 +29,11 @@ pub record OperandEnds (l : List ℕ) (start end : ℕ) : Type 0 where
   pub upto : end ≤ length l
   pub is : operand (drop start l) ≡ slice start end l
 
--- what card a line is. The operand starts behind the card's first text, so only one answer is right
+-- what card a line is. The operand starts behind the card's first text, so only one answer is right; where it starts is how many bytes
+-- stand before it, which a U card says
 abbrev pub CardSays : List ℕ → CardRead → Type 0
 CardSays l (UCard start end) =
-    ((take start l ≡ ascii "// U ") ⊎ (take start l ≡ ascii "// UTT ")) × (start ≤ end) × (end ≤ length l) × (cardOf l ≡ some (uCard (slice start end l)))
+    ((take start l ≡ ascii "// U ") ⊎ (take start l ≡ ascii "// UTT ")) × (start ≤ end) × (end ≤ length l) × (cardOf l ≡ some (uCard start (slice start end l)))
 CardSays l (FsCard start end) =
     (take start l ≡ ascii "// FS ") × (start ≤ end) × (end ≤ length l) × (cardOf l ≡ some (fsCard (slice start end l)))
 CardSays l EndCard = cardOf l ≡ some endCard

@@ -34,7 +34,7 @@ firstOf old marked place = cond (eqb old 0 && marked) place old
 
 abbrev pub kindOf : Option Card → CardKind
 kindOf none = Other
-kindOf (some (uCard o)) = Utility
+kindOf (some (uCard b o)) = Utility
 kindOf (some (fsCard o)) = Select
 kindOf (some endCard) = End
 
