@@ -19,7 +19,7 @@ use Rattle.rules.proofs.FitSteps.{each-pass, each-stop}
 use Rattle.rules.proofs.MeasureLaws.{kinds-within, permits-halves}
 use Rattle.terms.specs.declared.Task.{Task}
 use Rattle.reels.specs.declared.Form.{Form}
-use Rattle.records.specs.Flat.{flatOf, FlatFair, Readable}
+use Rattle.rows.specs.Flat.{flatOf, FlatFair, Readable}
 use Rattle.records.specs.Promise.{Permits}
 use Rattle.walks.specs.declared.Walk.{Walk}
 use Rattle.walks.specs.declared.RecordRead.{RecordRead}

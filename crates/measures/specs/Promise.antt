@@ -14,7 +14,7 @@ use Rattle.rules.specs.Run.{fitting, outputs, outputBlocks}
 use Rattle.rules.specs.Lent.{zoneF}
 use Rattle.terms.specs.declared.Task.{Task}
 use Rattle.terms.specs.Meaning.{TaskIs}
-use Rattle.records.specs.Flat.{flatOf}
+use Rattle.rows.specs.Flat.{flatOf}
 use Rattle.walks.specs.Promise.{Good}
 use Rattle.measures.specs.declared.Measured.{Measured}
 use Rattle.measures.specs.declared.Measured.the-variants.{TooLong, Fits}

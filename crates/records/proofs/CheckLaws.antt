@@ -19,9 +19,9 @@ use Rattle.terms.specs.Meaning.{kindOf, fieldOf}
 use Rattle.terms.specs.declared.Kind.{Kind}
 use Rattle.terms.specs.declared.Kind.the-variants.{Copy}
 use Rattle.terms.specs.declared.Field.{Field}
-use Rattle.records.specs.Flat.{fieldAt, FlatFair, Readable}
+use Rattle.rows.specs.Flat.{fieldAt, FlatFair, Readable}
 use Rattle.records.specs.Promise.{Permits}
-use Rattle.records.proofs.FlatLaws.{input-of, fields-many, fields-left, fits-at}
+use Rattle.rows.proofs.FlatLaws.{input-of, fields-many, fields-left, fits-at}
 
 -- ---- what a field reads
 

@@ -1,4 +1,4 @@
-pub mod FlatLaws
+mod FlattenLaws
 mod CheckLaws
 mod PutLaws
 pub mod PromiseLaws

@@ -1,48 +1,24 @@
 -- The promises about one record: the fields of an accepted plan meet what is asked of them, what is answered and written is what the rules say of
 -- that plan, and each promise allows one outcome only. It holds since the numbers say which fields they are of.
 use mathlib.Core.Path.{_≡_, refl, ap, sym, _∙_}
-use mathlib.Core.Bool.{Bool, true, cond}
+use mathlib.Core.Bool.{Bool, true}
 use mathlib.Core.List.{List, _++_}
-use Prim.Native.Nat.{ℕ, _+_, _-_, _*_, _≤_, _<_}
-use native.Mathlib.Omega.{arith}
-use lib.ListN.{length, take, replicate}
-use lib.Seq.{take-at, ext-getD}
-use Rattle.rules.specs.Places.{All}
-use Rattle.rules.specs.Halves.{Kind, copy, pack, unpack, inputSize, outputSize, Field, over}
+use Prim.Native.Nat.{ℕ, _≤_}
+use lib.ListN.{length, replicate}
+use Rattle.rules.specs.Halves.{Field, over}
 use Rattle.rules.specs.Plan.{Plan, selects, recordLength, allowed}
 use Rattle.rules.specs.Output.{permits, selected}
 use Rattle.rules.specs.Lent.{zoneF}
-use Rattle.rules.specs.Rows.{KindWithin, FieldWithin}
 use Rattle.rules.specs.Accepted.{Accepted}
 use Rattle.rules.proofs.AllLaws.{all-imply}
 use Rattle.rules.proofs.RecordLaws.{fits-of}
-use Rattle.terms.specs.Meaning.{fieldOf}
-use Rattle.records.specs.Flat.{flatOf, fieldAt, Short, FlatFair, Fielded, Readable}
+use Rattle.rows.specs.Flat.{flatOf, FlatFair, Fielded, Readable}
 use Rattle.records.specs.Promise.{Permits, outBytes, Puts}
-use Rattle.records.proofs.FlatLaws.{length-flat, field-back}
 
 -- ---- an accepted plan
 
--- the numbers of its fields are short
-pub short-of : {fs : List Field} → All FieldWithin fs → All Short fs
-short-of a = all-imply one a
-  where
-    sizes : (k : Kind) → KindWithin k → (inputSize k < 65536) × (outputSize k < 65536)
-    sizes (copy s) w = (omega (arith, w .1), omega (arith, w .1))
-    sizes (pack n m) w = (omega (arith, w .0 .1), omega (arith, w .1 .1))
-    sizes (unpack n m) w = (omega (arith, w .0 .1), omega (arith, w .1 .1))
-
-    one : (f : Field) → FieldWithin f → Short f
-    one f w =
-        let both = sizes (f .kind) (w .kind) in
-        record { r = omega (arith, w .r .1); input = both .0; output = both .1; t = omega (arith, w .t .1) }
-
 pub fair-of : (p : Plan) → Accepted p → FlatFair (flatOf (p .fields)) (p .fields) (recordLength (p .input)) (recordLength (p .output))
 fair-of p ok = record { flat = refl; fits = fits-of p ok; sizes = all-imply (λ f w. w .kind) (ok .limits) }
-
--- the numbers stand before the zeros
-pub flat-front : (fs : List Field) (i k : ℕ) → i ≡ 5 * length fs → take i (flatOf fs ++ replicate k 0) ≡ flatOf fs
-flat-front fs i k e = take-at (flatOf fs) (replicate k 0) i (length-flat fs ∙ sym e)
 
 -- ---- what the rules say
 
@@ -61,14 +37,6 @@ unfolding Puts
 puts-of p xs r old new z fair h = h (p .fields) fair ∙ ap (λ (v : List ℕ). over 0 v old) (selected-of p r z)
 
 -- ---- one outcome only
-
--- some numbers are those of one list of fields at most
-pub flat-one : (fs gs : List Field) → flatOf fs ≡ flatOf gs → fs ≡ gs
-flat-one fs gs e =
-    let many : length fs ≡ length gs = omega (arith, length-flat fs, length-flat gs, ap length e) in
-    let none : Field = record { r = 0; kind = copy 0; t = 0 } in
-    ext-getD none fs gs many (λ i l.
-    sym (field-back none fs i l) ∙ ap (λ (xs : List ℕ). fieldOf (fieldAt xs i)) e ∙ field-back none gs i (omega arith))
 
 pub flatten-only-one : (fs : List Field) (k : ℕ) (x y : List ℕ) → x ≡ flatOf fs ++ replicate k 0 → y ≡ flatOf fs ++ replicate k 0 → x ≡ y
 flatten-only-one fs k x y e g = e ∙ sym g

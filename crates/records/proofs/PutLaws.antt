@@ -23,9 +23,9 @@ use Rattle.terms.specs.declared.Kind.the-variants.{Copy, Pack, Unpack}
 use Rattle.terms.specs.declared.Field.{Field}
 use Rattle.halves.specs.Promise.{packedInto, unpackedInto}
 use Rattle.halves.proofs.PromiseLaws.{packed-whole, unpacked-whole}
-use Rattle.records.specs.Flat.{flatOf, fieldAt, FlatFair, Fielded}
+use Rattle.rows.specs.Flat.{flatOf, fieldAt, FlatFair, Fielded}
 use Rattle.records.specs.Promise.{Writes, outBytes, Puts}
-use Rattle.records.proofs.FlatLaws.{input-of, fields-many, field-is}
+use Rattle.rows.proofs.FlatLaws.{input-of, fields-many, field-is}
 use Rattle.records.proofs.CheckLaws.{lentInput, part-input}
 
 -- ---- one field

@@ -10,7 +10,7 @@ use Rattle.rules.specs.Permitted.{permitted}
 use Rattle.rules.specs.Output.{mayBe}
 use Rattle.rules.specs.Lent.{zoneF}
 use Rattle.rules.specs.RecordParts.{writtenBytes}
-use Rattle.records.specs.Flat.{flatOf, FlatFair}
+use Rattle.rows.specs.Flat.{flatOf, FlatFair}
 
 -- whether the halves of the first a bytes are permitted
 unfoldable pub Permits : List ℕ → List ℕ → Bool → Type 0

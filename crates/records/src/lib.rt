@@ -3,19 +3,19 @@
 // copies the plan.
 ghost use mathlib.Core.Path.{_≡_};
 ghost use mathlib.Core.Bool.{cond, _&&_};
-ghost use mathlib.Core.List.{[], _∷_, _++_, map};
+ghost use mathlib.Core.List.{_++_, map};
 ghost use Prim.Native.Nat.{_+_, _-_, _*_, _/_, _%_, _^_, _≤_, _<_};
 ghost use lib.Dec.{eqb};
 ghost use lib.ListN.{length, take, replicate};
 ghost use Rattle.rules.specs.Places.{All};
-ghost use Rattle.rules.specs.Halves.{halves, outputSize, over};
+ghost use Rattle.rules.specs.Halves.{halves, over};
 ghost use Rattle.rules.specs.Permitted.{digit, sign, kindAllows};
 ghost use Rattle.rules.specs.Output.{mayBe};
-ghost use Rattle.rules.specs.Lent.{zoneF, kindNumber};
+ghost use Rattle.rules.specs.Lent.{zoneF};
 ghost use Rattle.rules.specs.Rows.{KindWithin};
 ghost use Rattle.rules.specs.RecordParts.{Fits, fieldInput, fieldBytes};
 ghost use Rattle.terms.specs.Meaning.{fieldOf};
-ghost use Rattle.records.specs.Flat.{flatOf, kindAt, fieldAt, Short, Fielded, Readable};
+ghost use Rattle.rows.specs.Flat.{flatOf, Short, Fielded, Readable};
 ghost use Rattle.records.specs.Promise.{Permits, Writes, Puts};
 use terms::Field;
 use terms::Kind;
@@ -26,43 +26,6 @@ const ZONE: u8 = 15;
 // What stands where no field writes.
 const BLANK: u8 = 0x40;
 
-// The number of a field's kind: 0 copy, 1 pack, 2 unpack.
-fn kind_number(f: Field) -> u16
-    ensures { λ r. ⌜ r ≡ kindNumber (fieldOf f .kind) ⌝ }
-{
-    let kind = f.kind;
-    match kind {
-        Kind::Copy => 0,
-        Kind::Pack => 1,
-        Kind::Unpack => 2,
-    }
-}
-
-// How many bytes a field writes: a copy has one size.
-fn output_size(f: Field) -> usize
-    ensures { λ r. ⌜ r ≡ outputSize (fieldOf f .kind) ⌝ }
-{
-    let kind = f.kind;
-    match kind {
-        Kind::Copy => f.input,
-        Kind::Pack => f.output,
-        Kind::Unpack => f.output,
-    }
-}
-
-// Writes a field's five numbers from a place on.
-fn put_numbers(flat: &mut [u16], at: usize, f: Field)
-    requires { ⌜ at + 5 ≤ length (now flat) ⌝ }
-    requires { ⌜ Short (fieldOf f) ⌝ }
-    ensures { λ _. ⌜ now (flat .exit) ≡ over at (flatOf (fieldOf f ∷ [])) (now (flat .entry)) ⌝ }
-{
-    flat[at] = kind_number(f);
-    flat[at + 1] = f.r as u16;
-    flat[at + 2] = f.input as u16;
-    flat[at + 3] = output_size(f) as u16;
-    flat[at + 4] = f.t as u16;
-}
-
 // The numbers of the first count fields, and zeros behind them.
 pub fn flatten(fields: [Field; 64], count: usize) -> [u16; 320]
     requires { ⌜ count ≤ 64 ⌝ }
@@ -72,43 +35,10 @@ pub fn flatten(fields: [Field; 64], count: usize) -> [u16; 320]
     let mut flat = [0u16; 320];
     let mut i = 0;
     while i < count {
-        put_numbers(&mut flat, 5 * i, fields[i]);
+        rows::put_numbers(&mut flat, 5 * i, fields[i]);
         i += 1;
     }
     flat
-}
-
-// A number of the list.
-fn wide(x: u16) -> usize
-    ensures { λ r. ⌜ r ≡ x ⌝ }
-{
-    x as usize
-}
-
-// The kind that a number names.
-fn kind_at(number: u16) -> Kind
-    ensures { λ r. ⌜ r ≡ kindAt number ⌝ }
-{
-    match number {
-        0 => Kind::Copy,
-        1 => Kind::Pack,
-        _ => Kind::Unpack,
-    }
-}
-
-// Field i of the list, i from 0.
-fn field_at(fields: &[u16], i: usize) -> Field
-    requires { ⌜ 5 * i + 5 ≤ length (now fields) ⌝ }
-    ensures { λ r. ⌜ r ≡ fieldAt (now (fields .entry)) i ⌝ }
-{
-    let at = 5 * i;
-    Field {
-        kind: kind_at(fields[at]),
-        r: wide(fields[at + 1]),
-        input: wide(fields[at + 2]),
-        output: wide(fields[at + 3]),
-        t: wide(fields[at + 4]),
-    }
 }
 
 // 0 to 9.
@@ -201,7 +131,7 @@ pub fn permitted(fields: &[u16], record: &[u8]) -> bool
     let count = fields.len() / 5;
     let mut i = 0;
     while i < count {
-        if !field_permitted(field_at(fields, i), record) {
+        if !field_permitted(rows::field_at(fields, i), record) {
             return false;
         }
         i += 1;
@@ -242,7 +172,7 @@ fn put_field(f: Field, record: &[u8], out: &mut [u8])
     let from = f.r - 1;
     let end = from + f.input;
     let to = f.t - 1;
-    let past = to + output_size(f);
+    let past = to + rows::output_size(f);
     let input = &record[from..end];
     match kind {
         Kind::Copy => copy(input, &mut out[to..past]),
@@ -259,7 +189,7 @@ fn put_fields(fields: &[u16], record: &[u8], out: &mut [u8])
     let count = fields.len() / 5;
     let mut i = 0;
     while i < count {
-        put_field(field_at(fields, i), record, out);
+        put_field(rows::field_at(fields, i), record, out);
         i += 1;
     }
 }

@@ -8,7 +8,7 @@ use native.Mathlib.Omega.{arith}
 use lib.ListN.{length, take, drop, replicate, length-map}
 use lib.Seq.{length-take-le}
 use Rattle.rules.specs.Base.{joined}
-use Rattle.rules.specs.Answer.{Answer, Refusal, fine, refuse, refused}
+use Rattle.rules.specs.Answer.{Answer, fine, refuse}
 use Rattle.rules.specs.Places.{All, Byte}
 use Rattle.rules.specs.Grammar.{Mode, tc}
 use Rattle.rules.specs.Halves.{over}
@@ -21,13 +21,14 @@ use Rattle.rules.specs.Lent.{zoneF, runAnswer, outputAfter}
 use Rattle.rules.proofs.ReelLaws.{all-blocks}
 use Rattle.rules.proofs.BlocksOutcome.{holds-of}
 use Rattle.rules.proofs.LentParts.{front-over}
-use Rattle.rules.proofs.RunParts.{Finished, finished, Without, without-each, without-convert}
+use Rattle.rules.proofs.RunParts.{Finished, finished}
+use Rattle.rules.proofs.RunColumns.{Refuses, refuses-convert}
 use Rattle.terms.specs.declared.Asked.{Asked}
 use Rattle.terms.specs.declared.Task.{Task}
 use Rattle.terms.specs.Meaning.{modeOf, fieldOf, fieldsIn, planIn, TaskIs}
-use Rattle.records.specs.Flat.{flatOf, Short}
-use Rattle.records.proofs.FlatLaws.{length-flat}
-use Rattle.records.proofs.PromiseLaws.{short-of, flat-front}
+use Rattle.rows.specs.Flat.{flatOf, Short}
+use Rattle.rows.proofs.FlatLaws.{length-flat}
+use Rattle.rows.proofs.RowLaws.{short-of, flat-front}
 use Rattle.writers.specs.Promise.{blocksIn, Ready, Lent, ReelPut}
 use Rattle.checks.specs.declared.Ran.{Ran}
 use Rattle.checks.specs.Promise.{ranStruct, Given, GivenPlan, Checked}
@@ -98,19 +99,16 @@ lent-on y e = lent-to (y .given) e
 -- ---- the answer
 
 -- no refusal of a run has the number 0
-never-none : (p : Plan) (room : ℕ) (s : List ℕ) → Without 0 (convert room p s)
-never-none p room s =
-    without-convert 0 p room s (λ e. omega arith) (λ e. omega arith) (λ e. omega arith)
-    (λ recs e. (without-each 0 13 _ _ _ (λ e. omega arith), without-each 0 14 _ _ _ (λ e. omega arith)))
+never-none : (p : Plan) (room : ℕ) (s : List ℕ) → Refuses (λ f. 1 ≤ f .number) (convert room p s)
+never-none p room s = refuses-convert (λ f. 1 ≤ f .number) room p s (λ m h i. omega arith)
 
 refuses : (a : Answer RuleRan) (r : Ran) → r ≡ ranStruct (runAnswer a) → 0 < r .refusal → (old : List ℕ) → old ≡ outputAfter old a
 refuses (fine x) r e l old = absurd (let z = ap (λ (q : Ran). q .refusal) e in omega arith)
 refuses (refuse f) r e l old = refl
 
-ends : (a : Answer RuleRan) → Without 0 a → (r : Ran) → r ≡ ranStruct (runAnswer a) → r .refusal ≤ 0 → (x : RuleRan) × (a ≡ fine x) × (r .blocks ≡ x .blocks)
+ends : (a : Answer RuleRan) → Refuses (λ f. 1 ≤ f .number) a → (r : Ran) → r ≡ ranStruct (runAnswer a) → r .refusal ≤ 0 → (x : RuleRan) × (a ≡ fine x) × (r .blocks ≡ x .blocks)
 ends (fine x) w r e l = (x, refl, ap (λ (q : Ran). q .blocks) e)
-ends (refuse f) w r e l =
-    absurd (w (f .place) (let z : f .number ≡ 0 = (let q = ap (λ (q : Ran). q .refusal) e in omega arith) in λ i. refuse (record { number = z i; place = f .place })))
+ends (refuse f) w r e l = absurd (let q = ap (λ (q : Ran). q .refusal) e in omega arith)
 
 module _ {task : Task} {fields s : List ℕ} (old : List ℕ) {r : Ran} (h : Checked task fields s (length old) r) where
   pub ran-refused : 0 < r .refusal → RanInto task fields s old r old

@@ -26,7 +26,7 @@ use Rattle.rules.proofs.BlockSizes.{least-selects}
 use Rattle.rules.proofs.RecordLaws.{fits-of}
 use Rattle.terms.specs.declared.Task.{Task}
 use Rattle.reels.specs.declared.Form.{Form}
-use Rattle.records.specs.Flat.{FlatFair}
+use Rattle.rows.specs.Flat.{FlatFair}
 use Rattle.records.specs.Promise.{outBytes}
 use Rattle.walks.specs.declared.Walk.{Walk}
 use Rattle.walks.specs.Promise.{Taken}

@@ -20,7 +20,7 @@ use Rattle.terms.specs.declared.Mode.{Mode}
 use Rattle.terms.specs.declared.Format.{Format}
 use Rattle.terms.specs.declared.Format.the-variants.{FV}
 use Rattle.terms.specs.declared.Task.{Task}
-use Rattle.records.specs.Flat.{FlatFair}
+use Rattle.rows.specs.Flat.{FlatFair}
 use Rattle.records.specs.Promise.{outBytes, Puts}
 use Rattle.writers.specs.declared.Place.{Place}
 use Rattle.tasks.specs.Promise.{tailOf, lengthOf}

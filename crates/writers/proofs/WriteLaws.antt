@@ -23,7 +23,7 @@ use Rattle.terms.specs.Meaning.{TaskIs}
 use Rattle.terms.specs.declared.Task.{Task}
 use Rattle.reels.specs.Words.{written}
 use Rattle.reels.proofs.WordsLaws.{word-put}
-use Rattle.records.specs.Flat.{flatOf}
+use Rattle.rows.specs.Flat.{flatOf}
 use Rattle.walks.specs.Promise.{Good}
 use Rattle.writers.specs.Promise.{blocksIn, Ready, OffsetsPut, Lent, Headed, BlocksPut, ReelPut}
 use Rattle.writers.proofs.Readying.{count-is}

@@ -15,7 +15,7 @@ use Rattle.rules.specs.Run.{outputBlocks}
 use Rattle.rules.specs.ReelPlaces.{wordAt, headerOf}
 use Rattle.terms.specs.Meaning.{modeOf, formatOf, TaskIs}
 use Rattle.terms.specs.declared.Task.{Task}
-use Rattle.records.specs.Flat.{flatOf, FlatFair, Fielded}
+use Rattle.rows.specs.Flat.{flatOf, FlatFair, Fielded}
 use Rattle.records.specs.Promise.{outBytes}
 use Rattle.walks.specs.Promise.{Good}
 use Rattle.writers.specs.declared.Place.{Place}

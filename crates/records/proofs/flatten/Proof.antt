@@ -1,20 +1,17 @@
--- `records::flatten` meets its contract: before each turn the numbers of the first i fields stand over zeros.
-use mathlib.Core.Path.{_≡_, refl, sym, _∙_}
-use mathlib.Core.List.{map}
-use Prim.Native.Nat.{_-_, _≤_}
+-- `records::flatten` meets its contract: before each turn the numbers of the first i fields stand, and zeros behind them.
+use mathlib.Core.Path.{_≡_, refl, ap, _∙_}
+use Prim.Native.Nat.{_-_, _*_, _≤_}
 use native.Mathlib.Omega.{arith}
 use borrow.Author.Needs.{needs}
-use lib.ListN.{length, take, replicate}
-use Rattle.rules.specs.Halves.{over}
-use Rattle.rules.proofs.PlaceLaws.{over-nothing}
-use Rattle.terms.specs.Meaning.{fieldOf}
-use Rattle.records.specs.Flat.{flatOf}
-use Rattle.records.proofs.FlatLaws.{all-field, flat-step, flat-all}
+use lib.ListN.{length, getD}
+use Rattle.terms.specs.Meaning.{fieldOf, noField}
+use Rattle.rows.proofs.RowLaws.{length-more}
+use Rattle.records.proofs.FlattenLaws.{rowTo, all-field, row-step}
 use Rattle.records.proofs.flatten.Statement.{statement}
 use Rattle.records.proofs.flatten.Tie as tie
 
 abbrev Inv-loop : tie.InvT-loop
-Inv-loop count fields flat₀ i₀ flat i = (i ≤ count) × (length flat ≡ 320) × (flat ≡ over 0 (flatOf (map fieldOf (take i fields))) (replicate 320 0))
+Inv-loop count fields flat₀ i₀ flat i = (i ≤ count) × (length flat ≡ 320) × (flat ≡ rowTo fields i)
 
 abbrev μ-loop : tie.MeasureT-loop
 μ-loop count fields flat₀ i₀ flat i = count - i
@@ -24,10 +21,7 @@ many : (s : tie.Start Inv-loop μ-loop) → length (s .args .t1) ≡ 64
 many s = s .good .0 .1 .0 .1
 
 loop-holds : tie.Need-loop-holds Inv-loop μ-loop
-loop-holds c = (omega arith, refl, sym (over-nothing 0 (replicate 320 0)))
-
-slice-aggregate-put-numbers : tie.Need-slice-aggregate-put-numbers Inv-loop μ-loop
-slice-aggregate-put-numbers c = search needs
+loop-holds c = (omega arith, refl, refl)
 
 mul-put-numbers : tie.Need-mul-put-numbers Inv-loop μ-loop
 mul-put-numbers c = search needs
@@ -42,7 +36,7 @@ put-numbers-requires : tie.Need-put-numbers-requires Inv-loop μ-loop
 put-numbers-requires c κs =
     let t = c .before .before .before in
     let s = t .before in
-    (omega arith, all-field (s .args .t1) (s .args .count) (t .loop .i) (omega arith) (omega (arith, many s)) (s .pre .1))
+    (t .loop .inv .1, (omega arith, all-field (s .args .t1) (s .args .count) (t .loop .i) (omega arith) (omega (arith, many s)) (s .pre .1)))
 
 add-i : tie.Need-add-i Inv-loop μ-loop
 add-i c = search needs
@@ -52,11 +46,11 @@ loop-less c = search needs
 
 loop-again : tie.Need-loop-again Inv-loop μ-loop
 loop-again c =
-    let t = c .before .before .before .before .before in
+    let t = c .before .before .before .before in
     let s = t .before in (
       omega arith,
-      c .before .put-numbers .kept .0 ∙ t .loop .inv .1,
-      c .before .put-numbers .ensures ∙ flat-step (s .args .t1) (t .loop .i) (replicate 320 0) (t .loop .flat) (omega (arith, many s)) (omega arith) (t .loop .inv .2),
+      ap length (c .put-numbers .ensures) ∙ length-more (fieldOf (getD (s .args .t1) (t .loop .i) noField)) (t .loop .flat) (5 * t .loop .i) (t .loop .inv .1) (omega arith),
+      c .put-numbers .ensures ∙ row-step (s .args .t1) (t .loop .i) (t .loop .flat) (omega (arith, many s)) (omega arith) (t .loop .inv .2),
     )
 
 returns : tie.Need-returns Inv-loop μ-loop
@@ -64,7 +58,7 @@ returns c =
     let t = c .before in
     let s = t .before in
     let e : t .loop .i ≡ s .args .count = omega arith in
-    t .loop .inv .2 ∙ rw e (flat-all (s .args .t1) (s .args .count) 320 (omega (arith, many s)) (omega arith))
+    t .loop .inv .2 ∙ ap (rowTo (s .args .t1)) e
 
 pub flatten-spec : {M : Type 1} → statement M
 flatten-spec =
@@ -73,7 +67,6 @@ flatten-spec =
     Inv-loop
     μ-loop
     loop-holds
-    slice-aggregate-put-numbers
     mul-put-numbers
     mul-put-numbers-2
     array-copy-out-put-numbers

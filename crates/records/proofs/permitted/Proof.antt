@@ -7,7 +7,7 @@ use borrow.Author.Tests.{not-true, not-false}
 use lib.ListN.{length}
 use Rattle.rules.proofs.HalfBytes.{all-bytes}
 use Rattle.terms.specs.Meaning.{fieldOf}
-use Rattle.records.specs.Flat.{fieldAt}
+use Rattle.rows.specs.Flat.{fieldAt}
 use Rattle.records.proofs.CheckLaws.{mayRead, Checking, check-start, check-more, check-fails, check-end, reads-inside}
 use Rattle.records.proofs.permitted.Statement.{statement}
 use Rattle.records.proofs.permitted.Tie as tie

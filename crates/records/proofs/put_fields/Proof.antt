@@ -3,7 +3,7 @@ use mathlib.Core.Path.{_∙_}
 use Prim.Native.Nat.{_-_}
 use native.Mathlib.Omega.{arith}
 use borrow.Author.Needs.{needs}
-use Rattle.records.proofs.FlatLaws.{fits-at, sizes-at}
+use Rattle.rows.proofs.FlatLaws.{fits-at, sizes-at}
 use Rattle.records.proofs.PutLaws.{Writing, write-start, write-more, write-end}
 use Rattle.records.proofs.put_fields.Statement.{statement}
 use Rattle.records.proofs.put_fields.Tie as tie

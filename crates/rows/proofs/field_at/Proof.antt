@@ -1,8 +1,8 @@
--- `records::field_at` meets its contract: each part is read from its place.
+-- `rows::field_at` meets its contract: each part is read from its place.
 use borrow.Author.Needs.{needs}
-use Rattle.records.specs.Flat.{fieldAt}
-use Rattle.records.proofs.field_at.Statement.{statement}
-use Rattle.records.proofs.field_at.Tie as tie
+use Rattle.rows.specs.Flat.{fieldAt}
+use Rattle.rows.proofs.field_at.Statement.{statement}
+use Rattle.rows.proofs.field_at.Tie as tie
 
 mul-at : tie.Need-mul-at
 mul-at c = search needs

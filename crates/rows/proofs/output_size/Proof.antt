@@ -1,8 +1,8 @@
--- `records::kind_number` meets its contract: each arm gives the number of its kind.
+-- `rows::output_size` meets its contract: each arm gives the size of its kind; a copy has one.
 use borrow.Author.Needs.{needs}
 use Rattle.terms.specs.Meaning.{fieldOf}
-use Rattle.records.proofs.kind_number.Statement.{statement}
-use Rattle.records.proofs.kind_number.Tie as tie
+use Rattle.rows.proofs.output_size.Statement.{statement}
+use Rattle.rows.proofs.output_size.Tie as tie
 
 enum-told : tie.Need-enum-told
 enum-told c = search needs
@@ -25,6 +25,6 @@ returns-3 : tie.Need-returns-3
 unfolding fieldOf
 returns-3 c = rw (c .enum-told3 .given .1)
 
-pub kind-number-spec : {M : Type 1} → statement M
-kind-number-spec =
+pub output-size-spec : {M : Type 1} → statement M
+output-size-spec =
     tie.close (tie.spec enum-told enum-told-2 enum-told-3 returns returns-2 returns-3)

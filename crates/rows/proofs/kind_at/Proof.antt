@@ -1,8 +1,8 @@
--- `records::kind_at` meets its contract: each arm gives the kind that its number names.
+-- `rows::kind_at` meets its contract: each arm gives the kind that its number names.
 use borrow.Author.Tests.{ne-eqb}
-use Rattle.records.specs.Flat.{kindAt}
-use Rattle.records.proofs.kind_at.Statement.{statement}
-use Rattle.records.proofs.kind_at.Tie as tie
+use Rattle.rows.specs.Flat.{kindAt}
+use Rattle.rows.proofs.kind_at.Statement.{statement}
+use Rattle.rows.proofs.kind_at.Tie as tie
 
 returns : tie.Need-returns
 unfolding kindAt

@@ -1,0 +1,32 @@
+-- A field of the rules and the field as it is kept say the same, each the other, where a copy's size stands in both places. By its kind.
+use mathlib.Core.Path.{_≡_, refl, ap}
+use mathlib.Core.List.{List, [], _∷_, map}
+use Prim.Native.Nat.{ℕ}
+use native.Mathlib.Omega.{arith}
+use Rattle.rules.specs.Halves.{Kind as RuleKind, copy, pack, unpack, inputSize, outputSize, Field as RuleField}
+use Rattle.terms.specs.Meaning.{kindOf, fieldOf, OneSize}
+use Rattle.terms.specs.declared.Kind.the-variants.{Copy}
+use Rattle.rows.specs.Kept.{kindFor, fieldFor}
+
+kind-meant : (k : RuleKind) → kindOf (kindFor k) (inputSize k) (outputSize k) ≡ k
+kind-meant (copy s) = refl
+kind-meant (pack n m) = refl
+kind-meant (unpack n m) = refl
+
+-- what is kept means the field
+pub field-meant : (f : RuleField) → fieldOf (fieldFor f) ≡ f
+unfolding fieldFor fieldOf
+field-meant f = ap (λ (k : RuleKind). record { r = f .r; kind = k; t = f .t }) (kind-meant (f .kind))
+
+pub fields-meant : (fs : List RuleField) → map fieldOf (map fieldFor fs) ≡ fs
+fields-meant [] = refl
+fields-meant (f ∷ fs) = λ i. field-meant f i ∷ fields-meant fs i
+
+size-once : (k : RuleKind) → kindFor k ≡ Copy → inputSize k ≡ outputSize k
+size-once (copy s) e = refl
+size-once (pack n m) e = absurd (let z : _≡_ {A = ℕ} 0 1 = cc in omega arith)
+size-once (unpack n m) e = absurd (let z : _≡_ {A = ℕ} 0 1 = cc in omega arith)
+
+pub one-size : (f : RuleField) → OneSize (fieldFor f)
+unfolding fieldFor
+one-size f = size-once (f .kind)

@@ -1,0 +1,3 @@
+pub mod KeptLaws
+pub mod FlatLaws
+pub mod RowLaws

@@ -1,0 +1,104 @@
+// The fields of a plan as a row of numbers, five to a field: 64 fields are 320 numbers of 16 bits, a quarter of what 64 fields take as structs.
+ghost use mathlib.Core.Path.{_≡_};
+ghost use mathlib.Core.List.{[], _∷_};
+ghost use Prim.Native.Nat.{_+_, _*_, _≤_};
+ghost use lib.ListN.{length};
+ghost use Rattle.rules.specs.Halves.{outputSize, over};
+ghost use Rattle.rules.specs.Lent.{kindNumber};
+ghost use Rattle.terms.specs.Meaning.{fieldOf};
+ghost use Rattle.rows.specs.Flat.{flatOf, kindAt, fieldAt, Short};
+ghost use Rattle.rows.specs.Kept.{rowFields};
+use terms::Field;
+use terms::Kind;
+
+// The number of a field's kind: 0 copy, 1 pack, 2 unpack.
+fn kind_number(f: Field) -> u16
+    ensures { λ r. ⌜ r ≡ kindNumber (fieldOf f .kind) ⌝ }
+{
+    let kind = f.kind;
+    match kind {
+        Kind::Copy => 0,
+        Kind::Pack => 1,
+        Kind::Unpack => 2,
+    }
+}
+
+// How many bytes a field writes: a copy has one size.
+pub fn output_size(f: Field) -> usize
+    ensures { λ r. ⌜ r ≡ outputSize (fieldOf f .kind) ⌝ }
+{
+    let kind = f.kind;
+    match kind {
+        Kind::Copy => f.input,
+        Kind::Pack => f.output,
+        Kind::Unpack => f.output,
+    }
+}
+
+// Writes a field's five numbers from a place on.
+pub fn put_numbers(row: &mut [u16; 320], at: usize, f: Field)
+    requires { ⌜ length (now row) ≡ 320 ⌝ }
+    requires { ⌜ at + 5 ≤ 320 ⌝ }
+    requires { ⌜ Short (fieldOf f) ⌝ }
+    ensures { λ _. ⌜ now (row .exit) ≡ over at (flatOf (fieldOf f ∷ [])) (now (row .entry)) ⌝ }
+{
+    row[at] = kind_number(f);
+    row[at + 1] = f.r as u16;
+    row[at + 2] = f.input as u16;
+    row[at + 3] = output_size(f) as u16;
+    row[at + 4] = f.t as u16;
+}
+
+// A number of the row.
+fn wide(x: u16) -> usize
+    ensures { λ r. ⌜ r ≡ x ⌝ }
+{
+    x as usize
+}
+
+// The kind that a number names.
+fn kind_at(number: u16) -> Kind
+    ensures { λ r. ⌜ r ≡ kindAt number ⌝ }
+{
+    match number {
+        0 => Kind::Copy,
+        1 => Kind::Pack,
+        _ => Kind::Unpack,
+    }
+}
+
+// Field i of the row, i from 0.
+pub fn field_at(fields: &[u16], i: usize) -> Field
+    requires { ⌜ 5 * i + 5 ≤ length (now fields) ⌝ }
+    ensures { λ r. ⌜ r ≡ fieldAt (now (fields .entry)) i ⌝ }
+{
+    let at = 5 * i;
+    Field {
+        kind: kind_at(fields[at]),
+        r: wide(fields[at + 1]),
+        input: wide(fields[at + 2]),
+        output: wide(fields[at + 3]),
+        t: wide(fields[at + 4]),
+    }
+}
+
+// The first count fields of a row, and no field behind them.
+pub fn fields(row: [u16; 320], count: usize) -> [Field; 64]
+    requires { ⌜ count ≤ 64 ⌝ }
+    ensures { λ r. ⌜ r ≡ rowFields row count ⌝ }
+{
+    let none = Field {
+        kind: Kind::Copy,
+        r: 0,
+        input: 0,
+        output: 0,
+        t: 0,
+    };
+    let mut out = [none; 64];
+    let mut i = 0;
+    while i < count {
+        out[i] = field_at(&row, i);
+        i += 1;
+    }
+    out
+}
