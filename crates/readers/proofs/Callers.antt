@@ -1,11 +1,16 @@
--- What callers lean on: what was read took a byte or more, and every number that was read is at most 99,999, since a number is 1 to 5 digits.
+-- What callers lean on: what was read took a byte or more, every number that was read is at most 99,999, since a number is 1 to 5 digits, and the places
+-- that were answered are where its numbers begin.
+use mathlib.Core.Path.{_≡_}
+use mathlib.Core.Bool.{false}
 use mathlib.Core.List.{List}
 use Prim.Native.Nat.{ℕ, _≤_, _<_}
 use native.Mathlib.Omega.{arith}
-use lib.ListN.{drop}
+use lib.ListN.{length, take, drop}
 use Rattle.rules.specs.Reader.{Reader, number}
 use Rattle.rules.specs.Halves.{Kind as RuleKind, inputSize, outputSize}
 use Rattle.rules.specs.Grammar.{Size as RuleSize, two, one, Parameter as RuleParameter, modeIs, formatIs, inputIs, outputIs, rewindIn, rewindOut, firstIs, Item, field, cv, parameter, item}
+use Rattle.rules.specs.Places.{All}
+use Rattle.rules.specs.Words.{numberColumns}
 use Rattle.rules.specs.Texts.{SizeText, ParameterText, KindText, ItemText}
 use Rattle.rules.proofs.ReaderLaws.{Within, within-read, within-number}
 use Rattle.rules.proofs.NumberLaws.{number-small as value-small, text-small}
@@ -14,12 +19,15 @@ use Rattle.rules.proofs.ItemLaws.{within-item}
 use Rattle.rules.proofs.GrammarLaws.{parameter-sound, item-sound}
 use Rattle.terms.specs.Meaning.{fieldOf}
 use Rattle.terms.specs.declared.Field.{Field}
-use Rattle.readers.specs.Meaning.{Reads, NumberSays, parameterOf, ParameterSays, ItemSays}
+use Rattle.readers.specs.Meaning.{Reads, NumberSays, parameterOf, ParameterSays, parameterPlaces, ItemSays, fieldPlaces}
 use Rattle.readers.specs.declared.NumberRead.the-variants.{IsNumber}
 use Rattle.readers.specs.declared.UParameter.{UParameter}
 use Rattle.readers.specs.declared.ParameterRead.the-variants.{IsParameter}
+use Rattle.readers.specs.declared.Places.{Places}
 use Rattle.readers.specs.declared.ItemRead.the-variants.{IsField, IsCV}
 use Rattle.readers.proofs.OnlyOne.{taken-once, kind-back}
+use Rattle.readers.proofs.NumberPlaces.{all-inside}
+use Rattle.readers.proofs.TextPlaces.{parameter-numbers, item-numbers}
 
 -- ---- a byte or more
 
@@ -31,11 +39,11 @@ takes p w s a n r =
 pub number-takes : (s : List ℕ) (v n : ℕ) → NumberSays s (IsNumber v n) → 1 ≤ n
 number-takes s v n r = takes number within-number s v n r
 
-pub parameter-takes : (s : List ℕ) (u : UParameter) (n : ℕ) → ParameterSays s (IsParameter u n) → 1 ≤ n
-parameter-takes s u n r = takes parameter within-parameter s (parameterOf u) n r
+pub parameter-takes : (s : List ℕ) (u : UParameter) (second n : ℕ) → ParameterSays s (IsParameter u second n) → 1 ≤ n
+parameter-takes s u second n r = takes parameter within-parameter s (parameterOf u) n (r .0)
 
-pub field-takes : (s : List ℕ) (f : Field) (n : ℕ) → ItemSays s (IsField f n) → 1 ≤ n
-field-takes s f n r = takes item within-item s (field (fieldOf f)) n (r .0)
+pub field-takes : (s : List ℕ) (f : Field) (p : Places) (n : ℕ) → ItemSays s (IsField f p n) → 1 ≤ n
+field-takes s f p n r = takes item within-item s (field (fieldOf f)) n (r .0)
 
 pub cv-takes : (s : List ℕ) (n : ℕ) → ItemSays s (IsCV n) → 1 ≤ n
 cv-takes s n r = takes item within-item s cv n r
@@ -80,8 +88,8 @@ small-parameter ParameterText.ON = tt
 small-parameter ParameterText.OU = tt
 small-parameter (ParameterText.R a) = text-small a
 
-pub parameter-small : (s : List ℕ) (u : UParameter) (n : ℕ) → ParameterSays s (IsParameter u n) → SmallParameter (parameterOf u)
-parameter-small s u n r = small-parameter (parameter-sound s (parameterOf u) (drop n s) (r .1) .2)
+pub parameter-small : (s : List ℕ) (u : UParameter) (second n : ℕ) → ParameterSays s (IsParameter u second n) → SmallParameter (parameterOf u)
+parameter-small s u second n r = small-parameter (parameter-sound s (parameterOf u) (drop n s) (r .0 .1) .2)
 
 -- the numbers of a field
 pub record SmallField (f : Field) : Type 0 where
@@ -103,9 +111,23 @@ small-item : {x : List ℕ} {i : Item} → ItemText x i → SmallItem i
 small-item (ItemText.aField a k c) = let h = small-kind k in (text-small a, h .0, h .1, text-small c)
 small-item ItemText.CV = tt
 
-pub field-small : (s : List ℕ) (f : Field) (n : ℕ) → ItemSays s (IsField f n) → SmallField f
+pub field-small : (s : List ℕ) (f : Field) (p : Places) (n : ℕ) → ItemSays s (IsField f p n) → SmallField f
 unfolding fieldOf
-field-small s f n q =
+field-small s f p n q =
     let h : SmallItem (field (fieldOf f)) = small-item (item-sound s (field (fieldOf f)) (drop n s) (q .0 .1) .2) in
     let e = kind-back (f .kind) (f .input) (f .output) (q .1) in
     record { r = h .0; input = omega (arith, h .1, e .1); output = omega (arith, h .2, e .2); t = h .3 }
+
+-- ---- where the numbers begin
+
+-- the one place that a parameter's answer tells, and the three that a field's answer tells, are all that there are but the fixed ones
+pub parameter-places : (s : List ℕ) (u : UParameter) (second n : ℕ) → ParameterSays s (IsParameter u second n)
+    → numberColumns false 0 (take n s) ≡ parameterPlaces u second
+parameter-places s u second n r = parameter-numbers s n u second (r .0) (r .1)
+
+pub item-places : (s : List ℕ) (f : Field) (p : Places) (n : ℕ) → ItemSays s (IsField f p n) → numberColumns false 0 (take n s) ≡ fieldPlaces (f .kind) p
+item-places s f p n r = item-numbers s f p n (r .0) (r .2)
+
+-- every place of a number lies inside the text
+pub places-inside : (x : List ℕ) → All (λ p. p < length x) (numberColumns false 0 x)
+places-inside = all-inside

@@ -1,6 +1,8 @@
 pub mod Digits
-pub mod Places
+pub mod Parts
+pub mod NumberPlaces
 pub mod Parameters
 pub mod Items
 pub mod OnlyOne
+pub mod TextPlaces
 pub mod Callers

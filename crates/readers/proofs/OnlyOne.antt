@@ -1,13 +1,15 @@
 -- Each reader's promise allows one answer to a text: a reader of the rules answers once, what is left tells how many bytes were taken, and what a
 -- value means tells the value.
 use mathlib.Core.Path.{_≡_, refl, ap, sym, _∙_}
+use mathlib.Core.Bool.{false}
 use mathlib.Core.List.{List}
 use Prim.Native.Nat.{ℕ, _≤_}
 use native.Mathlib.Omega.{arith}
-use lib.ListN.{length, drop, length-drop}
+use lib.ListN.{length, take, drop, length-drop}
 use Rattle.rules.specs.Reader.{Reader, number}
 use Rattle.rules.specs.Halves.{Kind as RuleKind, copy, pack, unpack, inputSize, outputSize, Field as RuleField}
 use Rattle.rules.specs.Grammar.{Mode as RuleMode, tc, tf, tr, trf, Format as RuleFormat, ff, fv, fu, Size as RuleSize, two, one, Parameter as RuleParameter, modeIs, formatIs, inputIs, outputIs, rewindIn, rewindOut, firstIs, field, cv, parameter, item}
+use Rattle.rules.specs.Words.{numberColumns}
 use Rattle.rules.proofs.ReaderLaws.{not-read, read-value, read-left}
 use Rattle.terms.specs.Meaning.{modeOf, formatOf, sizeOf, kindOf, fieldOf}
 use Rattle.terms.specs.declared.Mode.{Mode}
@@ -19,7 +21,7 @@ use Rattle.terms.specs.declared.Size.the-variants.{Two, One}
 use Rattle.terms.specs.declared.Kind.{Kind}
 use Rattle.terms.specs.declared.Kind.the-variants.{Copy, Pack, Unpack}
 use Rattle.terms.specs.declared.Field.{Field}
-use Rattle.readers.specs.Meaning.{Reads, Stops, NumberSays, parameterOf, ParameterSays, OneSize, ItemSays}
+use Rattle.readers.specs.Meaning.{Reads, Stops, NumberSays, secondIn, placesIn, parameterOf, ParameterSays, OneSize, ItemSays}
 use Rattle.readers.specs.declared.NumberRead.{NumberRead}
 use Rattle.readers.specs.declared.NumberRead.the-variants.{IsNumber, NoNumber}
 use Rattle.readers.specs.declared.UParameter.{UParameter}
@@ -112,13 +114,14 @@ pub parameter-once : (u w : UParameter) → parameterOf u ≡ parameterOf w → 
 parameter-once u w e = sym (parameter-back u) ∙ ap parameterBack e ∙ parameter-back w
 
 pub parameter-only-one : (s : List ℕ) (a b : ParameterRead) → ParameterSays s a → ParameterSays s b → a ≡ b
-parameter-only-one s (IsParameter u n) (IsParameter w m) r q =
-    let e = one-read parameter s (parameterOf u) (parameterOf w) n m r q in
+parameter-only-one s (IsParameter u a n) (IsParameter w b m) r q =
+    let e = one-read parameter s (parameterOf u) (parameterOf w) n m (r .0) (q .0) in
     let f = parameter-once u w (e .0) in
     let g = e .1 in
+    let h : a ≡ b = r .1 ∙ ap (λ (k : ℕ). secondIn (numberColumns false 0 (take k s))) g ∙ sym (q .1) in
     cc
-parameter-only-one s (IsParameter u n) (NoParameter m) r q = absurd (not-both parameter s (parameterOf u) n m r q)
-parameter-only-one s (NoParameter n) (IsParameter w m) r q = absurd (not-both parameter s (parameterOf w) m n q r)
+parameter-only-one s (IsParameter u a n) (NoParameter m) r q = absurd (not-both parameter s (parameterOf u) n m (r .0) q)
+parameter-only-one s (NoParameter n) (IsParameter w b m) r q = absurd (not-both parameter s (parameterOf w) m n (q .0) r)
 parameter-only-one s (NoParameter n) (NoParameter m) r q = ap NoParameter (one-stop parameter s n m r q)
 
 -- ---- an item
@@ -153,16 +156,17 @@ not-cv : (f : RuleField) → field f ≡ cv → ⊥
 not-cv f e = let z : _≡_ {A = ℕ} 0 1 = cc in omega arith
 
 pub item-only-one : (s : List ℕ) (a b : ItemRead) → ItemSays s a → ItemSays s b → a ≡ b
-item-only-one s (IsField f n) (IsField g m) r q =
+item-only-one s (IsField f a n) (IsField g b m) r q =
     let e = one-read item s (field (fieldOf f)) (field (fieldOf g)) n m (r .0) (q .0) in
     let h = field-once f g (r .1) (q .1) (field-value (fieldOf f) (fieldOf g) (e .0)) in
     let k = e .1 in
+    let p : a ≡ b = r .2 ∙ ap (λ (j : ℕ). placesIn (numberColumns false 0 (take j s))) k ∙ sym (q .2) in
     cc
-item-only-one s (IsField f n) (IsCV m) r q = absurd (not-cv (fieldOf f) (one-read item s (field (fieldOf f)) cv n m (r .0) q .0))
-item-only-one s (IsField f n) (NoItem m) r q = absurd (not-both item s (field (fieldOf f)) n m (r .0) q)
-item-only-one s (IsCV n) (IsField g m) r q = absurd (not-cv (fieldOf g) (one-read item s (field (fieldOf g)) cv m n (q .0) r .0))
+item-only-one s (IsField f a n) (IsCV m) r q = absurd (not-cv (fieldOf f) (one-read item s (field (fieldOf f)) cv n m (r .0) q .0))
+item-only-one s (IsField f a n) (NoItem m) r q = absurd (not-both item s (field (fieldOf f)) n m (r .0) q)
+item-only-one s (IsCV n) (IsField g b m) r q = absurd (not-cv (fieldOf g) (one-read item s (field (fieldOf g)) cv m n (q .0) r .0))
 item-only-one s (IsCV n) (IsCV m) r q = ap IsCV (one-read item s cv cv n m r q .1)
 item-only-one s (IsCV n) (NoItem m) r q = absurd (not-both item s cv n m r q)
-item-only-one s (NoItem n) (IsField g m) r q = absurd (not-both item s (field (fieldOf g)) m n (q .0) r)
+item-only-one s (NoItem n) (IsField g b m) r q = absurd (not-both item s (field (fieldOf g)) m n (q .0) r)
 item-only-one s (NoItem n) (IsCV m) r q = absurd (not-both item s cv m n q r)
 item-only-one s (NoItem n) (NoItem m) r q = ap NoItem (one-stop item s n m r q)

@@ -1,35 +1,59 @@
 -- How a parameter is read part by part: by its first bytes, and by what its numbers say.
-use mathlib.Core.Path.{_≡_, refl, _∙_}
+use mathlib.Core.Path.{_≡_, refl, ap, sym, _∙_}
 use mathlib.Core.Logic.{_⊎_, inl, inr}
 use mathlib.Core.Bool.{Bool, true, false}
 use mathlib.Core.List.{List}
 use Prim.Native.Nat.{ℕ, _+_, _≤_, _<_}
 use native.Mathlib.Omega.{arith}
 use lib.Dec.{eqb}
-use lib.ListN.{length, getD}
+use lib.ListN.{length, getD, take}
 use borrow.Author.Tests.{eqb-true, eqb-false}
-use Rattle.rules.specs.Reader.{number}
-use Rattle.rules.specs.Grammar.{Size, two, inputIs, outputIs, firstIs, sizeReader, parameter}
+use Rattle.rules.specs.Reader.{isDigit, number}
+use Rattle.rules.specs.Grammar.{Size, two, one, inputIs, outputIs, firstIs, sizeReader, parameter}
+use Rattle.rules.specs.Words.{numberColumns}
 use Rattle.rules.specs.TextParts.{numberThen, sizeBehind}
-use Rattle.rules.proofs.ChoiceLaws.{Ending, byte-inside, parameter-A=, parameter-B=, parameter-first, size-open, size-comma}
-use Rattle.readers.specs.Meaning.{Reads, Stops, ReadsFrom, StopsFrom, SizeFrom}
+use Rattle.rules.proofs.ChoiceLaws.{Ending, byte-inside, parameter-A=, parameter-B=, parameter-first, size-open, size-comma, size-close}
+use Rattle.readers.specs.Meaning.{Reads, Stops, ReadsFrom, StopsFrom, numbersIn, firstIn, secondIn, SizeFrom}
 use Rattle.readers.specs.declared.SizeRead.{SizeRead}
 use Rattle.readers.specs.declared.SizeRead.the-variants.{IsSize, NoSize}
+use Rattle.readers.proofs.NumberPlaces.{none-between, mark-passed, number-ahead, number-passed, then-ahead, then-passed}
+use Rattle.readers.proofs.TextPlaces.{alone}
 
 -- ---- a size
 
 -- behind the first number
+pub only-read : (s : List ℕ) (from n : ℕ) → getD s from 256 ≡ 41
+    → ReadsFrom (sizeBehind n) from s (one n) (from + 1) × (from ≤ from + 1) × (0 ≡ firstIn (numbersIn true s from (from + 1)))
+only-read s from n e =
+    let l : from + 1 ≤ length s = omega (arith, byte-inside s from 41 e (omega arith)) in
+    ((l, size-close s from n e), omega arith, sym (ap firstIn (mark-passed s from true 41 (from + 1) e refl (omega arith) l ∙ none-between s (from + 1) false)))
+
 module _ (s : List ℕ) (from n : ℕ) (comma : getD s from 256 ≡ 44) where
-  pub second-read : (v to : ℕ) → ReadsFrom (numberThen 41) (from + 1) s v to → ReadsFrom (sizeBehind n) from s (two n v) to
-  second-read v to r = (r .0, size-comma s from n comma ∙ rw (r .1) refl)
+  pub second-read : (v to : ℕ) → ReadsFrom (numberThen 41) (from + 1) s v to
+      → ReadsFrom (sizeBehind n) from s (two n v) to × (from ≤ to) × (from + 1 ≡ firstIn (numbersIn true s from to))
+  second-read v to r =
+      let l : from + 1 ≤ length s = omega (arith, byte-inside s from 44 comma (omega arith)) in
+      let h = then-ahead s (from + 1) 41 v to l r in (
+        (r .0, size-comma s from n comma ∙ rw (r .1) refl),
+        omega arith,
+        sym (ap firstIn (mark-passed s from true 44 to comma refl (omega arith) (r .0) ∙ then-passed s (from + 1) 41 v to l r to refl (omega arith) (r .0))),
+      )
 
   pub second-stop : (a : ℕ) → StopsFrom (numberThen 41) (from + 1) s a → StopsFrom (sizeBehind n) from s a
   second-stop a r = (r .0, size-comma s from n comma ∙ rw (r .1) refl)
 
 -- behind the bracket
 module _ (s : List ℕ) (from : ℕ) (bracket : getD s from 256 ≡ 40) where
-  pub size-goes : (v to : ℕ) → ReadsFrom number (from + 1) s v to → (z : SizeRead) → SizeFrom (sizeBehind v) to s z → SizeFrom sizeReader from s z
-  size-goes v to r (IsSize z n) h = (h .0, size-open s from bracket ∙ rw (r .1) (h .1))
+  pub size-goes : (v to : ℕ) → ReadsFrom number (from + 1) s v to → (z : SizeRead) → SizeFrom true firstIn (sizeBehind v) to s z
+      → SizeFrom false secondIn sizeReader from s z
+  size-goes v to r (IsSize z second n) h =
+      let l : from + 1 ≤ length s = omega (arith, byte-inside s from 40 bracket (omega arith)) in
+      let a = number-ahead s (from + 1) v to l r in
+      let b = h .1 in (
+        (h .0 .0, size-open s from bracket ∙ rw (r .1) (h .0 .1)),
+        omega arith,
+        h .2 ∙ sym (ap secondIn (mark-passed s from false 40 n bracket refl (omega arith) (h .0 .0) ∙ number-passed s (from + 1) v to l r n b (h .0 .0))),
+      )
   size-goes v to r (NoSize a) h = (h .0, size-open s from bracket ∙ rw (r .1) (h .1))
 
   pub size-stops : (a : ℕ) → StopsFrom number (from + 1) s a → StopsFrom sizeReader from s a
@@ -50,11 +74,22 @@ module _ (s : List ℕ) where
   letter-inside (inl e) = omega (arith, byte-inside s 0 65 e (omega arith))
   letter-inside (inr e) = omega (arith, byte-inside s 0 66 e (omega arith))
 
-  pub input-read : getD s 0 256 ≡ 65 → getD s 1 256 ≡ 61 → (z : Size) (n : ℕ) → ReadsFrom sizeReader 2 s z n → Reads parameter s (inputIs z) n
-  input-read a e z n r = (r .0, parameter-A= s a e ∙ rw (r .1) refl)
+  -- the two bytes before the size are no digits
+  behind-sign : (m : ℕ) → getD s 0 256 ≡ m → isDigit m ≡ false → getD s 1 256 ≡ 61 → (n : ℕ) → n ≤ length s → 2 ≤ n
+      → numberColumns false 0 (take n s) ≡ numbersIn false s 2 n
+  behind-sign m a d e n l h = mark-passed s 0 false m n a d (omega arith) l ∙ mark-passed s 1 false 61 n e refl (omega arith) l
 
-  pub output-read : getD s 0 256 ≡ 66 → getD s 1 256 ≡ 61 → (z : Size) (n : ℕ) → ReadsFrom sizeReader 2 s z n → Reads parameter s (outputIs z) n
-  output-read b e z n r = (r .0, parameter-B= s b e ∙ rw (r .1) refl)
+  pub input-read : getD s 0 256 ≡ 65 → getD s 1 256 ≡ 61 → (z : Size) (second n : ℕ)
+      → ReadsFrom sizeReader 2 s z n × (2 ≤ n) × (second ≡ secondIn (numbersIn false s 2 n))
+      → Reads parameter s (inputIs z) n × (second ≡ secondIn (numberColumns false 0 (take n s)))
+  input-read a e z second n r =
+      ((r .0 .0, parameter-A= s a e ∙ rw (r .0 .1) refl), r .2 ∙ sym (ap secondIn (behind-sign 65 a refl e n (r .0 .0) (r .1))))
+
+  pub output-read : getD s 0 256 ≡ 66 → getD s 1 256 ≡ 61 → (z : Size) (second n : ℕ)
+      → ReadsFrom sizeReader 2 s z n × (2 ≤ n) × (second ≡ secondIn (numbersIn false s 2 n))
+      → Reads parameter s (outputIs z) n × (second ≡ secondIn (numberColumns false 0 (take n s)))
+  output-read b e z second n r =
+      ((r .0 .0, parameter-B= s b e ∙ rw (r .0 .1) refl), r .2 ∙ sym (ap secondIn (behind-sign 66 b refl e n (r .0 .0) (r .1))))
 
   pub given-stop : (getD s 0 256 ≡ 65) ⊎ (getD s 0 256 ≡ 66) → getD s 1 256 ≡ 61 → (a : ℕ) → StopsFrom sizeReader 2 s a → Stops parameter s a
   given-stop (inl t) e a r = (r .0, parameter-A= s t e ∙ rw (r .1) refl)
@@ -69,8 +104,8 @@ ending-inside s (inr (inl e)) = omega (arith, byte-inside s 1 82 e (omega arith)
 ending-inside s (inr (inr e)) = omega (arith, byte-inside s 1 85 e (omega arith))
 
 module _ (s : List ℕ) (r : getD s 0 256 ≡ 82) where
-  pub first-read : (v n : ℕ) → ReadsFrom number 1 s v n → Reads parameter s (firstIs v) n
-  first-read v n h = (h .0, parameter-first s r ∙ rw (h .1) refl)
+  pub first-read : (v n : ℕ) → ReadsFrom number 1 s v n → Reads parameter s (firstIs v) n × (0 ≡ secondIn (numberColumns false 0 (take n s)))
+  first-read v n h = alone s n (firstIs v) (λ k. refl) (h .0, parameter-first s r ∙ rw (h .1) refl)
 
   pub first-stop : (a : ℕ) → StopsFrom number 1 s a → Stops parameter s a
   first-stop a h = (h .0, parameter-first s r ∙ rw (h .1) refl)

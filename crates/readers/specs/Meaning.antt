@@ -1,13 +1,16 @@
 -- What the answers of the readers mean: each says what the rules' reader of the same text answers, and where.
 use mathlib.Core.Path.{_≡_}
-use mathlib.Core.Bool.{cond}
-use mathlib.Core.List.{List}
+use mathlib.Core.Bool.{Bool, false, cond}
+use mathlib.Core.List.{List, [], _∷_}
 use Prim.Native.Nat.{ℕ, _-_, _≤_}
-use lib.ListN.{length, drop}
+use lib.ListN.{length, take, drop}
+use lib.Seq.{slice}
 use Rattle.rules.specs.Reader.{read, stopped, Reader, isDigit, number}
 use Rattle.rules.specs.Halves.{Kind as RuleKind}
 use Rattle.rules.specs.Grammar.{Size as RuleSize, Parameter as RuleParameter, modeIs, formatIs, inputIs, outputIs, rewindIn, rewindOut, firstIs, Item, field, cv, parameter, item}
+use Rattle.rules.specs.Words.{numberColumns}
 use Rattle.terms.specs.Meaning.{modeOf, formatOf, sizeOf, kindOf, fieldOf}
+use Rattle.terms.specs.declared.Size.the-variants.{Two, One}
 use Rattle.terms.specs.declared.Kind.{Kind}
 use Rattle.terms.specs.declared.Kind.the-variants.{Copy, Pack, Unpack}
 use Rattle.readers.specs.declared.NumberRead.{NumberRead}
@@ -20,6 +23,7 @@ use Rattle.readers.specs.declared.UParameter.{UParameter}
 use Rattle.readers.specs.declared.UParameter.the-variants.{ModeIs, FormatIs, InputIs, OutputIs, RewindIn, RewindOut, FirstIs}
 use Rattle.readers.specs.declared.ParameterRead.{ParameterRead}
 use Rattle.readers.specs.declared.ParameterRead.the-variants.{IsParameter, NoParameter}
+use Rattle.readers.specs.declared.Places.{Places}
 use Rattle.readers.specs.declared.ItemRead.{ItemRead}
 use Rattle.readers.specs.declared.ItemRead.the-variants.{IsField, IsCV, NoItem}
 
@@ -55,11 +59,35 @@ abbrev pub NumberSays : List ℕ → NumberRead → Type 0
 NumberSays s (IsNumber v n) = Reads number s v n
 NumberSays s (NoNumber a) = Stops number s a
 
+-- ---- where numbers begin
+
+-- the places at which the numbers between two places of a text begin; the bit says that a digit stands before
+abbrev pub numbersIn : Bool → List ℕ → ℕ → ℕ → List ℕ
+numbersIn digit s from to = numberColumns digit from (slice from to s)
+
+-- where the first of some numbers begins, or 0
+abbrev pub firstIn : List ℕ → ℕ
+firstIn [] = 0
+firstIn (a ∷ more) = a
+
+-- where the second of some numbers begins, or 0
+abbrev pub secondIn : List ℕ → ℕ
+secondIn [] = 0
+secondIn (a ∷ more) = firstIn more
+
+-- where the numbers of a field begin
+abbrev pub placesIn : List ℕ → Places
+placesIn [] = record { input = 0; output = 0; t = 0 }
+placesIn (r ∷ []) = record { input = 0; output = 0; t = 0 }
+placesIn (r ∷ n ∷ []) = record { input = 0; output = 0; t = 0 }
+placesIn (r ∷ s ∷ t ∷ []) = record { input = s; output = s; t = t }
+placesIn (r ∷ n ∷ m ∷ t ∷ more) = record { input = n; output = m; t = t }
+
 -- ---- a parameter
 
-abbrev pub SizeFrom : Reader RuleSize → ℕ → List ℕ → SizeRead → Type 0
-SizeFrom p from s (IsSize z n) = ReadsFrom p from s (sizeOf z) n
-SizeFrom p from s (NoSize a) = StopsFrom p from s a
+abbrev pub SizeFrom : Bool → (List ℕ → ℕ) → Reader RuleSize → ℕ → List ℕ → SizeRead → Type 0
+SizeFrom digit place p from s (IsSize z second n) = ReadsFrom p from s (sizeOf z) n × (from ≤ n) × (second ≡ place (numbersIn digit s from n))
+SizeFrom digit place p from s (NoSize a) = StopsFrom p from s a
 
 abbrev pub parameterOf : UParameter → RuleParameter
 parameterOf (ModeIs m) = modeIs (modeOf m)
@@ -71,8 +99,20 @@ parameterOf RewindOut = rewindOut
 parameterOf (FirstIs n) = firstIs n
 
 abbrev pub ParameterSays : List ℕ → ParameterRead → Type 0
-ParameterSays s (IsParameter u n) = Reads parameter s (parameterOf u) n
+ParameterSays s (IsParameter u second n) = Reads parameter s (parameterOf u) n × (second ≡ secondIn (numberColumns false 0 (take n s)))
 ParameterSays s (NoParameter a) = Stops parameter s a
+
+-- the places of a parameter's numbers
+abbrev pub parameterPlaces : UParameter → ℕ → List ℕ
+parameterPlaces (ModeIs m) second = []
+parameterPlaces (FormatIs f) second = []
+parameterPlaces (InputIs (Two n m)) second = 3 ∷ second ∷ []
+parameterPlaces (InputIs (One g)) second = 3 ∷ []
+parameterPlaces (OutputIs (Two n m)) second = 3 ∷ second ∷ []
+parameterPlaces (OutputIs (One g)) second = 3 ∷ []
+parameterPlaces RewindIn second = []
+parameterPlaces RewindOut second = []
+parameterPlaces (FirstIs n) second = 1 ∷ []
 
 -- ---- an item
 
@@ -88,16 +128,35 @@ OneSize Copy input output = output ≡ input
 OneSize Pack input output = Unit
 OneSize Unpack input output = Unit
 
+-- the places of a middle's sizes
+abbrev pub kindPlaces : Kind → ℕ → ℕ → List ℕ
+kindPlaces Copy first second = first ∷ []
+kindPlaces Pack first second = first ∷ second ∷ []
+kindPlaces Unpack first second = first ∷ second ∷ []
+
 abbrev pub KindFrom : Reader RuleKind → ℕ → List ℕ → KindRead → Type 0
-KindFrom p from s (IsKind k input output n) = ReadsFrom p from s (kindOf k input output) n × OneSize k input output
+KindFrom p from s (IsKind k input output first second n) =
+    ReadsFrom p from s (kindOf k input output) n × OneSize k input output × (from ≤ n) × OneSize k first second × (numbersIn false s from n ≡ kindPlaces k first second)
 KindFrom p from s (NoKind a) = StopsFrom p from s a
 
+-- the places of a field's numbers, and of those behind r
+abbrev pub behindPlaces : Kind → Places → List ℕ
+behindPlaces Copy p = p .input ∷ p .t ∷ []
+behindPlaces Pack p = p .input ∷ p .output ∷ p .t ∷ []
+behindPlaces Unpack p = p .input ∷ p .output ∷ p .t ∷ []
+
+abbrev pub fieldPlaces : Kind → Places → List ℕ
+fieldPlaces k p = 0 ∷ behindPlaces k p
+
 abbrev pub ItemFrom : Reader Item → ℕ → List ℕ → ItemRead → Type 0
-ItemFrom p from s (IsField f n) = ReadsFrom p from s (field (fieldOf f)) n × OneSize (f .kind) (f .input) (f .output)
+ItemFrom p from s (IsField f q n) =
+    ReadsFrom p from s (field (fieldOf f)) n × OneSize (f .kind) (f .input) (f .output)
+    × (from ≤ n) × OneSize (f .kind) (q .input) (q .output) × (numbersIn false s from n ≡ behindPlaces (f .kind) q)
 ItemFrom p from s (IsCV n) = ReadsFrom p from s cv n
 ItemFrom p from s (NoItem a) = StopsFrom p from s a
 
 abbrev pub ItemSays : List ℕ → ItemRead → Type 0
-ItemSays s (IsField f n) = Reads item s (field (fieldOf f)) n × OneSize (f .kind) (f .input) (f .output)
+ItemSays s (IsField f p n) =
+    Reads item s (field (fieldOf f)) n × OneSize (f .kind) (f .input) (f .output) × (p ≡ placesIn (numberColumns false 0 (take n s)))
 ItemSays s (IsCV n) = Reads item s cv n
 ItemSays s (NoItem a) = Stops item s a

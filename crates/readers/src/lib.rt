@@ -1,14 +1,16 @@
 // From the text at the front of a slice to a value: numbers, parameters of the U card, items of the FS card.
-// Document 01, "The deck". Each answer also says how many bytes were taken, or the first byte at which no continuation could be right.
+// Document 01, "The deck". Each answer also says how many bytes were taken, or the first byte at which no continuation could be right. What a card's
+// limits ask of a number is refused at the number's column (document 02, order 1), so that the answers say where the numbers begin too.
 ghost use mathlib.Core.Logic.{_⊎_};
 ghost use mathlib.Core.Path.{_≡_};
+ghost use mathlib.Core.Bool.{true, false};
 ghost use Prim.Native.Nat.{_≤_};
 ghost use lib.ListN.{length, getD};
 ghost use Rattle.rules.specs.Reader.{number as ruleNumber};
 ghost use Rattle.rules.specs.Grammar.{sizeReader, kindReader};
 ghost use Rattle.rules.specs.TextParts.{numberThen, sizeBehind, sizesBehind, fieldBehind};
 ghost use Rattle.terms.specs.Meaning.{kindOf};
-ghost use Rattle.readers.specs.Meaning.{digitValue, NumberSays, NumberFrom, SizeFrom, KindFrom, Sized, ParameterSays, ItemSays, ItemFrom};
+ghost use Rattle.readers.specs.Meaning.{digitValue, NumberSays, NumberFrom, firstIn, secondIn, SizeFrom, KindFrom, Sized, ParameterSays, ItemSays, ItemFrom};
 use terms::Field;
 use terms::Format;
 use terms::Kind;
@@ -54,18 +56,26 @@ enum NumberRead {
     NoNumber { at: usize },
 }
 
-// A size of A or B, and the place behind it.
+// A size of A or B, the place of its second number (0 where it has none), and the place behind it.
 enum SizeRead {
-    IsSize { size: Size, used: usize },
-    NoSize { at: usize },
+    IsSize {
+        size: Size,
+        second: usize,
+        used: usize,
+    },
+    NoSize {
+        at: usize,
+    },
 }
 
-// The middle of an item, and the place behind it.
+// The middle of an item, the places of its two sizes (for a copy both are s), and the place behind it.
 enum KindRead {
     IsKind {
         kind: Kind,
         input: usize,
         output: usize,
+        first: usize,
+        second: usize,
         used: usize,
     },
     NoKind {
@@ -84,16 +94,38 @@ pub enum UParameter {
     FirstIs(usize),
 }
 
+// A parameter, the place where its second number begins (0 where it has none), and how many bytes it took; or the byte at which it stops.
 pub enum ParameterRead {
-    IsParameter { parameter: UParameter, used: usize },
-    NoParameter { at: usize },
+    IsParameter {
+        parameter: UParameter,
+        second: usize,
+        used: usize,
+    },
+    NoParameter {
+        at: usize,
+    },
 }
 
-// An item of an FS card: a field or CV.
+// Where the numbers of a field begin, behind r: its input size, its output size (for a copy both are s) and t.
+pub struct Places {
+    pub input: usize,
+    pub output: usize,
+    pub t: usize,
+}
+
+// An item of an FS card: a field or CV. Places count from 0 at the item's first byte, like what was taken.
 pub enum ItemRead {
-    IsField { field: Field, used: usize },
-    IsCV { used: usize },
-    NoItem { at: usize },
+    IsField {
+        field: Field,
+        places: Places,
+        used: usize,
+    },
+    IsCV {
+        used: usize,
+    },
+    NoItem {
+        at: usize,
+    },
 }
 
 // ---- numbers
@@ -183,22 +215,25 @@ fn number_then(s: &[u8], from: usize, mark: u8) -> NumberRead
 // `,m)` or `)` behind `(n`.
 fn size_behind(s: &[u8], from: usize, n: usize) -> SizeRead
     requires { ⌜ from ≤ length (now s) ⌝ }
-    ensures { λ r. ⌜ SizeFrom (sizeBehind n) from (now (s .entry)) r ⌝ }
+    ensures { λ r. ⌜ SizeFrom true firstIn (sizeBehind n) from (now (s .entry)) r ⌝ }
 {
     let mark = peek(s, from);
     if mark == CLOSE {
         return SizeRead::IsSize {
             size: Size::One { g: n },
+            second: 0,
             used: from + 1,
         };
     }
     if mark != COMMA {
         return SizeRead::NoSize { at: from };
     }
-    let m = number_then(s, from + 1, b')');
+    let start = from + 1;
+    let m = number_then(s, start, b')');
     match m {
         NumberRead::IsNumber { value, used } => SizeRead::IsSize {
             size: Size::Two { n, m: value },
+            second: start,
             used,
         },
         NumberRead::NoNumber { at } => SizeRead::NoSize { at },
@@ -208,7 +243,7 @@ fn size_behind(s: &[u8], from: usize, n: usize) -> SizeRead
 // `(n,m)` or `(g)`.
 fn size(s: &[u8], from: usize) -> SizeRead
     requires { ⌜ from ≤ length (now s) ⌝ }
-    ensures { λ r. ⌜ SizeFrom sizeReader from (now (s .entry)) r ⌝ }
+    ensures { λ r. ⌜ SizeFrom false secondIn sizeReader from (now (s .entry)) r ⌝ }
 {
     let first = peek(s, from);
     if first != OPEN {
@@ -230,12 +265,14 @@ fn mode(s: &[u8]) -> ParameterRead
     if second == LETTER_C {
         return ParameterRead::IsParameter {
             parameter: UParameter::ModeIs(Mode::TC),
+            second: 0,
             used: 2,
         };
     }
     if second == LETTER_F {
         return ParameterRead::IsParameter {
             parameter: UParameter::ModeIs(Mode::TF),
+            second: 0,
             used: 2,
         };
     }
@@ -246,11 +283,13 @@ fn mode(s: &[u8]) -> ParameterRead
     if third == LETTER_F {
         return ParameterRead::IsParameter {
             parameter: UParameter::ModeIs(Mode::TRF),
+            second: 0,
             used: 3,
         };
     }
     ParameterRead::IsParameter {
         parameter: UParameter::ModeIs(Mode::TR),
+        second: 0,
         used: 2,
     }
 }
@@ -264,14 +303,17 @@ fn format(s: &[u8]) -> ParameterRead
     match second {
         LETTER_F => ParameterRead::IsParameter {
             parameter: UParameter::FormatIs(Format::FF),
+            second: 0,
             used: 2,
         },
         LETTER_V => ParameterRead::IsParameter {
             parameter: UParameter::FormatIs(Format::FV),
+            second: 0,
             used: 2,
         },
         LETTER_U => ParameterRead::IsParameter {
             parameter: UParameter::FormatIs(Format::FU),
+            second: 0,
             used: 2,
         },
         _ => ParameterRead::NoParameter { at: 1 },
@@ -284,21 +326,23 @@ fn sizes(s: &[u8]) -> ParameterRead
     ensures { λ r. ⌜ ParameterSays (now (s .entry)) r ⌝ }
 {
     let letter = peek(s, 0);
-    let second = peek(s, 1);
-    if second != EQUALS {
+    let sign = peek(s, 1);
+    if sign != EQUALS {
         return ParameterRead::NoParameter { at: 1 };
     }
     let given = size(s, 2);
     match given {
-        SizeRead::IsSize { size, used } => {
+        SizeRead::IsSize { size, second, used } => {
             if letter == LETTER_A {
                 return ParameterRead::IsParameter {
                     parameter: UParameter::InputIs(size),
+                    second,
                     used,
                 };
             }
             ParameterRead::IsParameter {
                 parameter: UParameter::OutputIs(size),
+                second,
                 used,
             }
         }
@@ -318,11 +362,13 @@ fn rewind(s: &[u8]) -> ParameterRead
             if letter == LETTER_I {
                 return ParameterRead::IsParameter {
                     parameter: UParameter::RewindIn,
+                    second: 0,
                     used: 2,
                 };
             }
             ParameterRead::IsParameter {
                 parameter: UParameter::RewindOut,
+                second: 0,
                 used: 2,
             }
         }
@@ -339,6 +385,7 @@ fn first_record(s: &[u8]) -> ParameterRead
     match n {
         NumberRead::IsNumber { value, used } => ParameterRead::IsParameter {
             parameter: UParameter::FirstIs(value),
+            second: 0,
             used,
         },
         NumberRead::NoNumber { at } => ParameterRead::NoParameter { at },
@@ -371,7 +418,8 @@ fn sizes_behind(s: &[u8], from: usize, kind: Kind) -> KindRead
     if mark != COMMA {
         return KindRead::NoKind { at: from };
     }
-    let n = number_then(s, from + 1, b',');
+    let first = from + 1;
+    let n = number_then(s, first, b',');
     match n {
         NumberRead::IsNumber {
             value: input,
@@ -386,6 +434,8 @@ fn sizes_behind(s: &[u8], from: usize, kind: Kind) -> KindRead
                     kind,
                     input,
                     output,
+                    first,
+                    second: behind,
                     used,
                 },
                 NumberRead::NoNumber { at } => KindRead::NoKind { at },
@@ -417,6 +467,8 @@ fn kind(s: &[u8], from: usize) -> KindRead
             kind: Kind::Copy,
             input: value,
             output: value,
+            first: from,
+            second: from,
             used,
         },
         NumberRead::NoNumber { at } => KindRead::NoKind { at },
@@ -434,13 +486,16 @@ fn field_behind(s: &[u8], from: usize, r: usize) -> ItemRead
             kind,
             input,
             output,
+            first,
+            second,
             used: end,
         } => {
             let mark = peek(s, end);
             if mark != COMMA {
                 return ItemRead::NoItem { at: end };
             }
-            let n = number_at(s, end + 1);
+            let last = end + 1;
+            let n = number_at(s, last);
             match n {
                 NumberRead::IsNumber { value: t, used } => ItemRead::IsField {
                     field: Field {
@@ -449,6 +504,11 @@ fn field_behind(s: &[u8], from: usize, r: usize) -> ItemRead
                         input,
                         output,
                         t,
+                    },
+                    places: Places {
+                        input: first,
+                        output: second,
+                        t: last,
                     },
                     used,
                 },

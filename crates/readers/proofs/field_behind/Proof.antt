@@ -8,9 +8,9 @@ use native.Mathlib.Omega.{arith}
 use Rattle.rules.specs.Reader.{number}
 use Rattle.rules.specs.Grammar.{kindReader}
 use Rattle.rules.proofs.ChoiceLaws.{byte-inside}
-use Rattle.terms.specs.Meaning.{kindOf}
-use Rattle.readers.specs.Meaning.{NumberFrom, KindFrom, ReadsFrom, OneSize}
-use Rattle.readers.proofs.Items.{middle-stops, comma-missing, last-stops, field-read}
+use Rattle.readers.specs.Meaning.{NumberFrom, KindFrom}
+use Rattle.readers.specs.declared.KindRead.the-variants.{IsKind}
+use Rattle.readers.proofs.Items.{middle-stops, comma-missing, last-stops, field-read, field-placed}
 use Rattle.readers.proofs.field_behind.Statement.{statement}
 use Rattle.readers.proofs.field_behind.Tie as tie
 
@@ -25,10 +25,8 @@ peek-requires c κs = search needs
 
 -- the middle
 middle : (c : tie.After-middle)
-    → ReadsFrom kindReader (c .before .before .before .before .args .from) (now (c .before .before .before .before .args .s))
-    (kindOf (c .middle .given .0 .0) (c .middle .given .0 .1 .0) (c .middle .given .0 .1 .1 .0))
-    (c .middle .given .0 .1 .1 .1 .0)
-    × OneSize (c .middle .given .0 .0) (c .middle .given .0 .1 .0) (c .middle .given .0 .1 .1 .0)
+    → KindFrom kindReader (c .before .before .before .before .args .from) (now (c .before .before .before .before .args .s))
+    (IsKind (c .middle .given .0 .0) (c .middle .given .0 .1 .0) (c .middle .given .0 .1 .1 .0) (c .middle .given .0 .1 .1 .1 .0) (c .middle .given .0 .1 .1 .1 .1 .0) (c .middle .given .0 .1 .1 .1 .1 .1 .0))
 middle c =
     let a = c .before .before .before .before .args in
     subst (KindFrom kindReader (a .from) (now (a .s))) (c .middle .given .1) (c .before .before .kind .ensures)
@@ -39,17 +37,17 @@ returns c =
     comma-missing (a .r) (now (a .s)) (a .from) _ _ (middle (c .before .before .before) .0) (λ e. c .if1 .taken (c .before .peek .ensures ∙ e))
 
 -- the comma is there
-comma : (c : tie.Else1) → getD (now (c .before .before .before .before .before .before .before .args .s)) (c .before .before .before .middle .given .0 .1 .1 .1 .0) 256 ≡ 44
+comma : (c : tie.Else1) → getD (now (c .before .before .before .before .before .before .before .args .s)) (c .before .before .before .middle .given .0 .1 .1 .1 .1 .1 .0) 256 ≡ 44
 comma c = sym (c .before .peek .ensures) ∙ c .if1 .left
 
-add-number-at : tie.Need-add-number-at
-add-number-at c = let h = middle (c .before .before .before) .0 .0 in omega arith
+add-last : tie.Need-add-last
+add-last c = let h = middle (c .before .before .before) .0 .0 in omega arith
 
 number-at-requires : tie.Need-number-at-requires
 number-at-requires c κs =
     omega (
       arith,
-      byte-inside (now (c .before .before .before .before .before .before .before .args .s)) (c .before .before .before .middle .given .0 .1 .1 .1 .0) 44 (comma c) (omega arith),
+      byte-inside (now (c .before .before .before .before .before .before .before .args .s)) (c .before .before .before .middle .given .0 .1 .1 .1 .1 .1 .0) 44 (comma c) (omega arith),
     )
 
 enum-known-n : tie.Need-enum-known-n
@@ -66,11 +64,11 @@ returns-2 c =
     let a = c .before .before .before .before .before .before .before .before .before .before .before .args in
     let s = now (a .s) in
     let m = c .before .before .before .before .before .before .before in
-    let h = middle m in (
-      field-read (a .r) s (a .from) _ _ _ _ (h .0) (comma (c .before .before .before .before)) _ _
-          (subst (NumberFrom number (m .middle .given .0 .1 .1 .1 .0 + 1) s) (c .before .n .given .1) (c .before .before .before .number-at .ensures)),
-      h .1,
-    )
+    let h = middle m in
+    let e = comma (c .before .before .before .before) in
+    let r = subst (NumberFrom number (m .middle .given .0 .1 .1 .1 .1 .1 .0 + 1) s) (c .before .n .given .1) (c .before .before .before .number-at .ensures) in
+    let q = field-placed s (a .from) (m .middle .given .0 .0) _ _ _ (h .2) (h .4) e _ _ r in
+    (field-read (a .r) s (a .from) _ _ _ _ (h .0) e _ _ r, h .1, q .0, h .3, q .1)
 
 returns-3 : tie.Need-returns-3
 returns-3 c =
@@ -78,7 +76,7 @@ returns-3 c =
     let s = now (a .s) in
     let m = c .before .before .before .before .before .before .before in
     last-stops (a .r) s (a .from) _ _ (middle m .0) (comma (c .before .before .before .before)) _
-    (subst (NumberFrom number (m .middle .given .0 .1 .1 .1 .0 + 1) s) (c .before .n2 .given .1) (c .before .before .before .number-at .ensures))
+    (subst (NumberFrom number (m .middle .given .0 .1 .1 .1 .1 .1 .0 + 1) s) (c .before .n2 .given .1) (c .before .before .before .number-at .ensures))
 
 returns-4 : tie.Need-returns-4
 returns-4 c =
@@ -94,7 +92,7 @@ field-behind-spec =
     enum-known-middle
     peek-requires
     returns
-    add-number-at
+    add-last
     number-at-requires
     enum-known-n
     enum-known-n-2

@@ -1,9 +1,11 @@
 -- `readers::format` meets its contract: by the byte behind the F.
-use mathlib.Core.Path.{sym, _∙_}
+use mathlib.Core.Path.{refl, sym, _∙_}
 use borrow.Author.Needs.{needs}
 use denote.Ref.{now}
 use native.Mathlib.Omega.{arith}
+use Rattle.rules.specs.Grammar.{formatIs, ff, fv, fu}
 use Rattle.rules.proofs.ChoiceLaws.{byte-inside, parameter-FF, parameter-FV, parameter-FU, parameter-F-else}
+use Rattle.readers.proofs.TextPlaces.{alone}
 use Rattle.readers.proofs.format.Statement.{statement}
 use Rattle.readers.proofs.format.Tie as tie
 
@@ -15,21 +17,21 @@ returns c =
     let b = c .before .before .before in
     let s = now (b .args .s) in
     let e = sym (c .before .peek .ensures) ∙ c .match .keys1 in
-    (omega (arith, byte-inside s 1 70 e (omega arith)), parameter-FF s (b .pre) e)
+    alone s 2 (formatIs ff) (λ k. refl) (omega (arith, byte-inside s 1 70 e (omega arith)), parameter-FF s (b .pre) e)
 
 returns-2 : tie.Need-returns-2
 returns-2 c =
     let b = c .before .before .before in
     let s = now (b .args .s) in
     let e = sym (c .before .peek .ensures) ∙ c .match .keys2 in
-    (omega (arith, byte-inside s 1 86 e (omega arith)), parameter-FV s (b .pre) e)
+    alone s 2 (formatIs fv) (λ k. refl) (omega (arith, byte-inside s 1 86 e (omega arith)), parameter-FV s (b .pre) e)
 
 returns-3 : tie.Need-returns-3
 returns-3 c =
     let b = c .before .before .before in
     let s = now (b .args .s) in
     let e = sym (c .before .peek .ensures) ∙ c .match .keys3 in
-    (omega (arith, byte-inside s 1 85 e (omega arith)), parameter-FU s (b .pre) e)
+    alone s 2 (formatIs fu) (λ k. refl) (omega (arith, byte-inside s 1 85 e (omega arith)), parameter-FU s (b .pre) e)
 
 returns-4 : tie.Need-returns-4
 returns-4 c =

@@ -9,7 +9,7 @@ use Rattle.rules.specs.Reader.{number}
 use Rattle.rules.specs.Halves.{pack, unpack}
 use Rattle.rules.proofs.ChoiceLaws.{byte-inside, kind-pack, kind-unpack, kind-else}
 use Rattle.readers.specs.Meaning.{NumberFrom}
-use Rattle.readers.proofs.Items.{kind-goes, copy-read, copy-stops}
+use Rattle.readers.proofs.Items.{kind-goes, copy-read, copy-placed, copy-stops}
 use Rattle.readers.proofs.kind.Statement.{statement}
 use Rattle.readers.proofs.kind.Tie as tie
 
@@ -41,8 +41,9 @@ returns : tie.Need-returns
 returns c =
     let a = c .before .before .before .before .before .before .args in
     let s = now (a .s) in
-    kind-goes s (a .from) pack (kind-pack s (a .from) (bracket (c .before .before .before)) (letter (c .before .before) ∙ c .before .if2 .taken)) (c .sizes-behind .result)
-    (c .sizes-behind .ensures)
+    let e = bracket (c .before .before .before) in
+    let f = letter (c .before .before) ∙ c .before .if2 .taken in
+    kind-goes s (a .from) pack e 80 f refl (kind-pack s (a .from) e f) (c .sizes-behind .result) (c .sizes-behind .ensures)
 
 add-sizes-behind-2 : tie.Need-add-sizes-behind-2
 add-sizes-behind-2 c = search needs
@@ -56,9 +57,9 @@ returns-2 : tie.Need-returns-2
 returns-2 c =
     let a = c .before .before .before .before .before .before .before .args in
     let s = now (a .s) in
-    kind-goes s (a .from) unpack (kind-unpack s (a .from) (bracket (c .before .before .before .before)) (letter (c .before .before .before) ∙ c .before .if3 .taken))
-    (c .sizes-behind2 .result)
-    (c .sizes-behind2 .ensures)
+    let e = bracket (c .before .before .before .before) in
+    let f = letter (c .before .before .before) ∙ c .before .if3 .taken in
+    kind-goes s (a .from) unpack e 85 f refl (kind-unpack s (a .from) e f) (c .sizes-behind2 .result) (c .sizes-behind2 .ensures)
 
 add-t10 : tie.Need-add-t10
 add-t10 c = search needs
@@ -83,12 +84,13 @@ enum-known-n-2 c = search needs
 
 returns-4 : tie.Need-returns-4
 returns-4 c =
-    let a = c .before .before .before .before .before .before .before .args in
-    let s = now (a .s) in (
-      copy-read s (a .from) (λ z. c .before .before .before .before .if1 .left (c .before .before .before .before .before .peek .ensures ∙ z)) _ _
-          (subst (NumberFrom number (a .from) s) (c .before .n .given .1) (c .before .before .before .number-at .ensures)),
-      refl,
-    )
+    let b = c .before .before .before .before .before .before .before in
+    let a = b .args in
+    let s = now (a .s) in
+    let other : getD s (a .from) 256 ≡ 40 → ⊥ = λ z. c .before .before .before .before .if1 .left (c .before .before .before .before .before .peek .ensures ∙ z) in
+    let r = subst (NumberFrom number (a .from) s) (c .before .n .given .1) (c .before .before .before .number-at .ensures) in
+    let q = copy-placed s (a .from) other _ _ (b .pre) r in
+    (copy-read s (a .from) other _ _ r, refl, q .0, q .1, q .2)
 
 returns-5 : tie.Need-returns-5
 returns-5 c =

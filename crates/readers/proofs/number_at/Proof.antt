@@ -9,7 +9,7 @@ use lib.ListN.{drop, length-drop}
 use native.Mathlib.Omega.{arith}
 use Rattle.rules.specs.Reader.{number}
 use Rattle.readers.specs.Meaning.{NumberSays, Reads, Stops}
-use Rattle.readers.proofs.Places.{placed-read, placed-stop}
+use Rattle.readers.proofs.Parts.{placed-read, placed-stop}
 use Rattle.readers.proofs.number_at.Statement.{statement}
 use Rattle.readers.proofs.number_at.Tie as tie
 

@@ -5,7 +5,7 @@ use denote.Ref.{now}
 use native.Mathlib.Omega.{arith}
 use Rattle.rules.specs.Reader.{number}
 use Rattle.readers.specs.Meaning.{NumberFrom, ReadsFrom}
-use Rattle.readers.proofs.Places.{then-read, then-other, then-stop}
+use Rattle.readers.proofs.Parts.{then-read, then-other, then-stop}
 use Rattle.readers.proofs.number_then.Statement.{statement}
 use Rattle.readers.proofs.number_then.Tie as tie
 

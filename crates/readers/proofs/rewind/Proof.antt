@@ -1,13 +1,15 @@
 -- `readers::rewind` meets its contract: by the byte behind the I or the O.
 use Prim.Native.Nat.{_<_}
-use mathlib.Core.Path.{sym, _∙_, subst}
+use mathlib.Core.Path.{refl, sym, _∙_, subst}
 use mathlib.Core.Logic.{⊎-elim}
 use borrow.Author.Needs.{needs}
 use denote.Ref.{now}
 use lib.ListN.{length, getD}
 use native.Mathlib.Omega.{arith}
+use Rattle.rules.specs.Grammar.{rewindIn, rewindOut}
 use Rattle.rules.proofs.ChoiceLaws.{Ending, byte-inside, parameter-I-letter, parameter-O-letter, parameter-rewind-else}
 use Rattle.readers.proofs.Parameters.{ending-inside}
+use Rattle.readers.proofs.TextPlaces.{alone}
 use Rattle.readers.proofs.rewind.Statement.{statement}
 use Rattle.readers.proofs.rewind.Tie as tie
 
@@ -25,7 +27,7 @@ returns : tie.Need-returns
 returns c =
     let s = now (c .before .before .before .before .before .args .s) in
     let e = ending (c .before) in
-    (ending-inside s e, parameter-I-letter s (sym (c .before .before .before .peek .ensures) ∙ c .if1 .taken) e)
+    alone s 2 rewindIn (λ k. refl) (ending-inside s e, parameter-I-letter s (sym (c .before .before .before .peek .ensures) ∙ c .if1 .taken) e)
 
 returns-2 : tie.Need-returns-2
 returns-2 c =
@@ -33,7 +35,7 @@ returns-2 c =
     let s = now (b .args .s) in
     let e = ending (c .before) in
     let o = ⊎-elim (λ z. absurd (c .if1 .left (c .before .before .before .peek .ensures ∙ z))) (λ z. z) (b .pre) in
-    (ending-inside s e, parameter-O-letter s o e)
+    alone s 2 rewindOut (λ k. refl) (ending-inside s e, parameter-O-letter s o e)
 
 returns-3 : tie.Need-returns-3
 returns-3 c =

@@ -6,9 +6,9 @@ use denote.Ref.{now}
 use lib.ListN.{getD}
 use native.Mathlib.Omega.{arith}
 use Rattle.rules.specs.TextParts.{numberThen}
-use Rattle.rules.proofs.ChoiceLaws.{byte-inside, size-close, size-neither}
+use Rattle.rules.proofs.ChoiceLaws.{byte-inside, size-neither}
 use Rattle.readers.specs.Meaning.{NumberFrom}
-use Rattle.readers.proofs.Parameters.{second-read, second-stop}
+use Rattle.readers.proofs.Parameters.{only-read, second-read, second-stop}
 use Rattle.readers.proofs.size_behind.Statement.{statement}
 use Rattle.readers.proofs.size_behind.Tie as tie
 
@@ -19,15 +19,13 @@ peek-requires c κs = search needs
 mark : (c : tie.After-peek) → getD (now (c .before .before .args .s)) (c .before .before .args .from) 256 ≡ c .peek .result
 mark c = sym (c .peek .ensures)
 
-add-t11 : tie.Need-add-t11
-add-t11 c = search needs
+add-t12 : tie.Need-add-t12
+add-t12 c = search needs
 
 returns : tie.Need-returns
 returns c =
     let a = c .before .before .before .args in
-    let s = now (a .s) in
-    let e = mark (c .before) ∙ c .if1 .taken in
-    (omega (arith, byte-inside s (a .from) 41 e (omega arith)), size-close s (a .from) (a .n) e)
+    only-read (now (a .s)) (a .from) (a .n) (mark (c .before) ∙ c .if1 .taken)
 
 returns-2 : tie.Need-returns-2
 returns-2 c =
@@ -35,8 +33,8 @@ returns-2 c =
     let e = sym (mark (c .before .before)) in
     (b .pre, size-neither (now (b .args .s)) (b .args .from) (b .args .n) (λ z. c .if2 .taken (e ∙ z)) (λ z. c .before .if1 .left (e ∙ z)))
 
-add-number-then : tie.Need-add-number-then
-add-number-then c = search needs
+add-start : tie.Need-add-start
+add-start c = search needs
 
 number-then-requires : tie.Need-number-then-requires
 number-then-requires c κs =
@@ -68,10 +66,10 @@ size-behind-spec =
     tie.close
     (tie.spec
     peek-requires
-    add-t11
+    add-t12
     returns
     returns-2
-    add-number-then
+    add-start
     number-then-requires
     enum-known-m
     enum-known-m-2

@@ -9,7 +9,7 @@ use Rattle.rules.specs.TextParts.{numberThen}
 use Rattle.rules.proofs.ChoiceLaws.{byte-inside}
 use Rattle.terms.specs.Meaning.{kindOf}
 use Rattle.readers.specs.Meaning.{NumberFrom, ReadsFrom}
-use Rattle.readers.proofs.Items.{one-size, no-comma, first-stops, second-stops, both-read}
+use Rattle.readers.proofs.Items.{one-size, no-comma, first-stops, second-stops, both-read, both-placed}
 use Rattle.readers.proofs.sizes_behind.Statement.{statement}
 use Rattle.readers.proofs.sizes_behind.Tie as tie
 
@@ -25,8 +25,8 @@ returns c =
 comma : (c : tie.Else1) → getD (now (c .before .before .before .args .s)) (c .before .before .before .args .from) 256 ≡ 44
 comma c = sym (c .before .peek .ensures) ∙ c .if1 .left
 
-add-number-then : tie.Need-add-number-then
-add-number-then c = search needs
+add-first : tie.Need-add-first
+add-first c = search needs
 
 number-then-requires : tie.Need-number-then-requires
 number-then-requires c κs = let a = c .before .before .before .args in omega (arith, byte-inside (now (a .s)) (a .from) 44 (comma c) (omega arith))
@@ -56,12 +56,12 @@ enum-known-n-2 c = search needs
 returns-2 : tie.Need-returns-2
 returns-2 c =
     let b = c .before .before .before .before .before .before .before .before .before .before .before in
-    let s = now (b .args .s) in (
-      both-read (kindOf (b .args .kind)) s (b .args .from) (comma (c .before .before .before .before .before .before .before .before)) _ _ _ _
-          (first (c .before .before .before .before .before))
-          (subst (NumberFrom (numberThen 41) (c .before .before .before .before .before .n .given .0 .1 .0) s) (c .before .m .given .1) (c .before .before .before .number-then2 .ensures)),
-      one-size (b .args .kind) (b .pre .1) _ _,
-    )
+    let s = now (b .args .s) in
+    let e = comma (c .before .before .before .before .before .before .before .before) in
+    let n = first (c .before .before .before .before .before) in
+    let m = subst (NumberFrom (numberThen 41) (c .before .before .before .before .before .n .given .0 .1 .0) s) (c .before .m .given .1) (c .before .before .before .number-then2 .ensures) in
+    let z = both-placed (kindOf (b .args .kind)) s (b .args .from) e _ _ _ _ n m (b .args .kind) (b .pre .1) in
+    (both-read (kindOf (b .args .kind)) s (b .args .from) e _ _ _ _ n m, one-size (b .args .kind) (b .pre .1) _ _, z .0, z .1, z .2)
 
 returns-3 : tie.Need-returns-3
 returns-3 c =
@@ -84,7 +84,7 @@ sizes-behind-spec =
     (tie.spec
     peek-requires
     returns
-    add-number-then
+    add-first
     number-then-requires
     enum-known-n
     number-then-requires-2
