@@ -1,28 +1,31 @@
 -- Where the operand of a card stands in its deck, and how the FS cards are read one after another: what is right of the cards from here on is right of
 -- all of them.
 use mathlib.Core.Path.{_≡_, refl, ap, sym, _∙_, subst}
-use mathlib.Core.Bool.{true, false, true≢false}
 use mathlib.Core.List.{List, [], _∷_, _++_, map}
 use mathlib.Core.Option.{Option, none, some}
-use Prim.Native.Nat.{ℕ, zero, suc, _+_, _-_, _≤_}
+use Prim.Native.Nat.{ℕ, zero, suc, _+_, _-_, _≤_, _<_}
 use native.Mathlib.Omega.{arith}
-use lib.ListN.{length, take, drop}
+use lib.ListN.{length, take, drop, length-drop}
 use lib.Seq.{slice, take-take, drop-drop, length-slice, take-nil, drop-nil}
 use Rattle.rules.specs.Answer.{Answer, fine, refuse, _>>=_}
-use Rattle.rules.specs.Reader.{Read, read, stopped}
-use Rattle.rules.specs.Deck.{lines, Card, uCard, fsCard, endCard, cardOf}
+use Rattle.rules.specs.Reader.{Read, read, stopped, listOf}
+use Rattle.rules.specs.Deck.{lines, Card, uCard, fsCard, endCard, beforeFS, cardOf}
 use Rattle.rules.specs.Order.{Operands, operandsOf}
-use Rattle.rules.specs.Grammar.{Item, fsOperand}
+use Rattle.rules.specs.Grammar.{Item, item, fsOperand}
+use Rattle.rules.specs.Words.{Worded, worded, partsOf, fsWords, valuesOf}
 use Rattle.rules.specs.Asked.{itemsFrom}
 use Rattle.rules.proofs.AnswerLaws.{bind-fine}
 use Rattle.rules.proofs.OrderOutcome.{order-fine}
 use Rattle.rules.proofs.ScanLaws.{cards-each}
+use Rattle.rules.proofs.WordColumns.{plainRead, list-plain}
 use Rattle.lines.specs.declared.LineRead.the-variants.{Line, NoLine}
 use Rattle.lines.specs.Meaning.{LineSays}
+use Rattle.cards.specs.declared.ListRead.{ListRead}
 use Rattle.cards.specs.declared.Selected.{Selected}
 use Rattle.cards.specs.declared.FsCards.{FsCards}
-use Rattle.cards.specs.Selected.{noSelection, withItems, isRead}
-use Rattle.cards.specs.Deck.{cardsIn, fsFirst, OperandAt, Operandless, FsSaid}
+use Rattle.cards.specs.Selected.{ListSays, onCard, noSelection, withCard, withCards}
+use Rattle.cards.specs.Deck.{cardsIn, fsFirst, OperandAt, Operandless, FsRead, FsSaid}
+use Rattle.cards.proofs.RowLaws.{words-count}
 
 -- ---- a part of a part
 
@@ -72,65 +75,102 @@ nothing-at deck at h = subst Operandless (sym (ap (map cardOf) (h .1))) tt
 no-more : (cs : List (Option Card)) → Operandless cs → fsFirst cs ≡ []
 no-more [] h = refl
 no-more (none ∷ cs) h = refl
-no-more (some (uCard o) ∷ cs) h = absurd h
+no-more (some (uCard b o) ∷ cs) h = absurd h
 no-more (some (fsCard o) ∷ cs) h = absurd h
 no-more (some endCard ∷ cs) h = refl
 
 module _ (card : ℕ) (st : Selected) (r : FsCards) (o : List ℕ) (os : List (List ℕ)) where
-  pub said-card : (is : List Item) (left : List ℕ) → fsOperand o ≡ read is left → FsSaid (suc card) (withItems card is st) (itemsFrom (suc card) os) r
-      → FsSaid card st (itemsFrom card (o ∷ os)) r
-  unfolding _>>=_
-  said-card is left e h = rw e (go (itemsFrom (suc card) os) h)
+  -- a card whose operand could be read, and then the others
+  pub said-card : (ws : List (Worded Item)) (left : List ℕ) → listOf "/" (worded item) o ≡ read ws left → FsSaid (suc card) (withCard card ws st) os r → FsSaid card st (o ∷ os) r
+  unfolding _>>=_ fsOperand fsWords
+  said-card ws left e h =
+      let p : fsOperand o ≡ read (valuesOf ws) left = sym (list-plain "/" item o) ∙ ap plainRead e in
+      let q : fsWords o ≡ ws = ap partsOf e in
+      rw p (go q (itemsFrom (suc card) os) h)
     where
-      go : (x : Answer (List (List Item))) → FsSaid (suc card) (withItems card is st) x r → FsSaid card st (x >>= λ more. fine (is ∷ more)) r
-      go (fine cs) h = h
-      go (refuse x) h = h
+      go : fsWords o ≡ ws → (x : Answer (List (List Item))) → FsRead (suc card) (withCard card ws st) os x r → FsRead card st (o ∷ os) (x >>= λ more. fine (valuesOf ws ∷ more)) r
+      go q (fine cs) h = (h .0, h .1 ∙ ap (λ (v : List (Worded Item)). withCards (suc card) (map fsWords os) (withCard card v st)) (sym q))
+      go q (refuse x) h = h
 
-  said-stop : (left : List ℕ) → fsOperand o ≡ stopped left → r .unread ≡ card → FsSaid card st (itemsFrom card (o ∷ os)) r
-  unfolding _>>=_
-  said-stop left e h = rw e h
+  -- and one that could not
+  pub said-stop : (k : ℕ) → k ≤ length o → listOf "/" (worded item) o ≡ stopped (drop k o) → r .unread ≡ card → r .column ≡ suc beforeFS + k → FsSaid card st (o ∷ os) r
+  unfolding _>>=_ fsOperand
+  said-stop k l e h c =
+      let p : fsOperand o ≡ stopped (drop k o) = sym (list-plain "/" item o) ∙ ap plainRead e in
+      let n : length o - length (drop k o) ≡ k = omega (arith, length-drop k o) in
+      rw p (h, c ∙ (let z : suc beforeFS + k ≡ beforeFS + suc (length o - length (drop k o)) = omega arith in z))
 
 -- what is right of the FS cards from here on is right of all of them
 pub record Selecting (deck : List ℕ) (start : ℕ) (st : Selected) (card at : ℕ) : Type 0 where
   pub low : card ≤ 2 + at
-  pub on : (r : FsCards) → FsSaid card st (itemsFrom card (fsFirst (cardsIn (drop at deck)))) r
-      → FsSaid 2 noSelection (itemsFrom 2 (fsFirst (cardsIn (drop start deck)))) r
+  pub high : 2 ≤ card
+  pub few : st .noted .count ≤ 64
+  pub on : (r : FsCards) → FsSaid card st (fsFirst (cardsIn (drop at deck))) r → FsSaid 2 noSelection (fsFirst (cardsIn (drop start deck))) r
 
 pub selecting-start : (deck : List ℕ) (start : ℕ) → Selecting deck start noSelection 2 start
-selecting-start deck start = record { low = omega arith; on = λ r h. h }
+unfolding noSelection
+selecting-start deck start = record { low = omega arith; high = omega arith; few = omega arith; on = λ r h. h }
 
 module _ (deck : List ℕ) (from : ℕ) (st : Selected) (card at : ℕ) (g : Selecting deck from st card at) where
-  abbrev Whole : FsCards → Type 0
-  Whole r = FsSaid 2 noSelection (itemsFrom 2 (fsFirst (cardsIn (drop from deck)))) r
+  abbrev pub Whole : FsCards → Type 0
+  Whole r = FsSaid 2 noSelection (fsFirst (cardsIn (drop from deck))) r
 
   -- no FS card is left
-  ended : fsFirst (cardsIn (drop at deck)) ≡ [] → Whole (record { state = st; unread = 0 })
-  ended e = g .on _ (subst (λ (os : List (List ℕ)). FsSaid card st (itemsFrom card os) (record { state = st; unread = 0 })) (sym e) (refl, refl))
+  ended : fsFirst (cardsIn (drop at deck)) ≡ [] → Whole (record { state = st; unread = 0; column = 0 })
+  ended e = g .on _ (subst (λ (os : List (List ℕ)). FsSaid card st os (record { state = st; unread = 0; column = 0 })) (sym e) (refl, refl))
 
-  pub selecting-none : Operandless (cardsIn (drop at deck)) → Whole (record { state = st; unread = 0 })
+  pub selecting-none : Operandless (cardsIn (drop at deck)) → Whole (record { state = st; unread = 0; column = 0 })
   selecting-none h = ended (no-more (cardsIn (drop at deck)) h)
 
-  pub selecting-u : (start end next : ℕ) → OperandAt uCard deck at start end next → Whole (record { state = st; unread = 0 })
-  selecting-u start end next h = ended (ap fsFirst (h .is))
+  pub selecting-u : (b start end next : ℕ) → OperandAt (uCard b) deck at start end next → Whole (record { state = st; unread = 0; column = 0 })
+  selecting-u b start end next h = ended (ap fsFirst (h .is))
 
   module _ (start end next : ℕ) (h : OperandAt fsCard deck at start end next) where
     abbrev operand : List ℕ
     operand = slice start end deck
 
-    pub fs-first : fsFirst (cardsIn (drop at deck)) ≡ operand ∷ fsFirst (cardsIn (drop next deck))
+    fs-first : fsFirst (cardsIn (drop at deck)) ≡ operand ∷ fsFirst (cardsIn (drop next deck))
     fs-first = ap fsFirst (h .is)
 
-    -- it could not be read
-    pub selecting-stop : isRead (fsOperand operand) ≡ false → Whole (record { state = st; unread = card })
-    selecting-stop e =
-        g .on _
-        (subst (λ (os : List (List ℕ)). FsSaid card st (itemsFrom card os) (record { state = st; unread = card })) (sym fs-first)
-        (go (fsOperand operand) refl))
-      where
-        go : (x : Read (List Item)) → fsOperand operand ≡ x
-            → FsSaid card st (itemsFrom card (operand ∷ fsFirst (cardsIn (drop next deck)))) (record { state = st; unread = card })
-        go (read is left) q = absurd (true≢false (sym (ap isRead q) ∙ e))
-        go (stopped left) q = said-stop card st (record { state = st; unread = card }) operand (fsFirst (cardsIn (drop next deck))) left q refl
+    -- what the two functions gave of the card
+    module _ (read-as : ListRead) (row : List ℕ)
+        (says : ListSays card (suc beforeFS) (suc beforeFS) (st .noted, st .row) operand (listOf "/" (worded item) operand) read-as row) where
+      -- it could not be read
+      pub selecting-stop : (read-as .unread ≡ 0 → ⊥) → (x : Selected) → Whole (record { state = x; unread = card; column = read-as .unread })
+      selecting-stop n x =
+          g .on _ (subst (λ (os : List (List ℕ)). FsSaid card st os (record { state = x; unread = card; column = read-as .unread })) (sym fs-first) (go (listOf "/" (worded item) operand) refl says))
+        where
+          go : (y : Read (List (Worded Item))) → listOf "/" (worded item) operand ≡ y → ListSays card (suc beforeFS) (suc beforeFS) (st .noted, st .row) operand y read-as row
+              → FsSaid card st (operand ∷ fsFirst (cardsIn (drop next deck))) (record { state = x; unread = card; column = read-as .unread })
+          go (read ws left) e (u, m, w) = absurd (n u)
+          go (stopped left) e (k, l, d, u) =
+              said-stop card st (record { state = x; unread = card; column = read-as .unread }) operand (fsFirst (cardsIn (drop next deck))) k l (e ∙ ap stopped d) refl u
+
+      -- it could: the fields are counted up, and the next card comes
+      pub selecting-counts : read-as .unread ≡ 0 → (st .noted .count ≤ read-as .noted .count) × (read-as .noted .count ≤ 64)
+      selecting-counts z = go (listOf "/" (worded item) operand) says
+        where
+          go : (y : Read (List (Worded Item))) → ListSays card (suc beforeFS) (suc beforeFS) (st .noted, st .row) operand y read-as row → (st .noted .count ≤ read-as .noted .count) × (read-as .noted .count ≤ 64)
+          go (read ws left) (u, m, w) = let c = words-count card (suc beforeFS) ws (st .noted, st .row) (g .few) in rw m c
+          go (stopped left) (k, l, d, u) = absurd (omega arith)
+
+      pub selecting-more : read-as .unread ≡ 0
+          → Selecting deck from (record { row = row; cards = onCard (st .cards) (st .noted .count) (read-as .noted .count) card; noted = read-as .noted }) (suc card) next
+      unfolding withCard
+      selecting-more z =
+          let on : at < next = h .on in
+          record { low = omega (arith, g .low); high = omega (arith, g .high); few = selecting-counts z .1; on = λ r k. g .on r (subst (λ (os : List (List ℕ)). FsSaid card st os r) (sym fs-first) (go r k (listOf "/" (worded item) operand) refl says)) }
+        where
+          after : Selected
+          after = record { row = row; cards = onCard (st .cards) (st .noted .count) (read-as .noted .count) card; noted = read-as .noted }
+
+          go : (r : FsCards) → FsSaid (suc card) after (fsFirst (cardsIn (drop next deck))) r → (y : Read (List (Worded Item))) → listOf "/" (worded item) operand ≡ y
+              → ListSays card (suc beforeFS) (suc beforeFS) (st .noted, st .row) operand y read-as row → FsSaid card st (operand ∷ fsFirst (cardsIn (drop next deck))) r
+          go r k (read ws left) e (u, m, w) =
+              said-card card st r operand (fsFirst (cardsIn (drop next deck))) ws left e
+              (subst (λ (x : Selected). FsSaid (suc card) x (fsFirst (cardsIn (drop next deck))) r)
+              (λ i. record { row = w i; cards = onCard (st .cards) (st .noted .count) (m i .count) card; noted = m i }) k)
+          go r k (stopped left) e (j, l, d, u) = absurd (omega arith)
 
 -- ---- a deck in order
 
@@ -139,7 +179,7 @@ fs-all [] = refl
 fs-all (o ∷ fs) = ap (o ∷_) (fs-all fs)
 
 -- its cards are a U card, FS cards and an END card
-pub cards-ordered : (deck : List ℕ) (os : Operands) → operandsOf deck ≡ fine os → cardsIn deck ≡ some (uCard (os .u)) ∷ map some (map fsCard (os .fs) ++ (endCard ∷ []))
+pub cards-ordered : (deck : List ℕ) (os : Operands) → operandsOf deck ≡ fine os → cardsIn deck ≡ some (uCard (os .before) (os .u)) ∷ map some (map fsCard (os .fs) ++ (endCard ∷ []))
 unfolding operandsOf
 cards-ordered deck os e =
     let w = bind-fine _ _ os e in

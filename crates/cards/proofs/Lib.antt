@@ -1,11 +1,12 @@
-pub mod FieldLaws
 pub mod ListSteps
-pub mod SelectedLaws
+pub mod NotedLaws
+pub mod RowLaws
+pub mod LimitLaws
+pub mod ColumnLaws
 pub mod ListedLaws
 pub mod ParameterLaws
 pub mod DeckLaws
-pub mod AddingLaws
+pub mod CopySizes
 pub mod VerdictLaws
 pub mod OrderedLaws
 pub mod PromiseLaws
-pub mod CopySizes

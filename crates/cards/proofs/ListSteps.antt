@@ -1,5 +1,4 @@
--- The array of fields and the array of their cards, as a field more is placed: behind the others while there is room, and as they were when there is
--- none. The card of each field, and of CV, as the last card holds more.
+-- The array of the fields' cards: the first 64, and nothing behind them. The card of each field, and of CV, as the last card holds more.
 use mathlib.Core.Path.{_≡_, refl, ap, sym, _∙_}
 use mathlib.Core.Bool.{Bool, true, false, cond}
 use mathlib.Core.List.{List, [], _∷_, _++_, append-nil, append-assoc}
@@ -24,16 +23,6 @@ module _ {A : Type 0} (n : ℕ) (d : A) where
   abbrev pub padded : List A → List A
   padded l = take n l ++ replicate (n - length l) d
 
-  pub padded-more : (l : List A) (a : A) (k : ℕ) → length l ≡ k → k < n → set (padded l) k a ≡ padded (l ++ (a ∷ []))
-  padded-more l a k e h =
-      let m : length (l ++ (a ∷ [])) ≡ length l + 1 = length-append l (a ∷ []) in
-      let j : n - length l ≡ suc (n - length (l ++ (a ∷ []))) = omega arith in
-      let r = replicate (n - length (l ++ (a ∷ []))) d in
-      ap (λ (z : List A). set z k a) (λ i. take-all n l (omega arith) i ++ replicate (j i) d)
-      ∙ set-at l d r a k e
-      ∙ sym (append-snoc l a r)
-      ∙ sym (ap (λ (z : List A). z ++ r) (take-all n (l ++ (a ∷ [])) (omega arith)))
-
   pub padded-full : (l m : List A) → n ≤ length l → padded (l ++ m) ≡ padded l
   padded-full l m h =
       let k : n - length (l ++ m) ≡ n - length l = omega (arith, length-append l m) in
@@ -44,7 +33,7 @@ module _ {A : Type 0} (n : ℕ) (d : A) where
 
 -- ---- the card of each field
 
-cards-last : (i : ℕ) (cs : List (List Item)) (c : List Item)
+pub cards-last : (i : ℕ) (cs : List (List Item)) (c : List Item)
     → fieldCards i (cs ++ (c ∷ [])) ≡ fieldCards i cs ++ replicate (length (fieldsOf c)) (i + length cs)
 cards-last i [] c = rw (add-zero i) (append-nil _)
 cards-last i (d ∷ cs) c =
@@ -66,29 +55,9 @@ cards-length i (c ∷ cs) =
       length-append (fieldsOf c) (fieldsOf (joined cs)),
     )
 
-pub cards-field : (cs : List (List Item)) (c : List Item) (f : RuleField)
-    → fieldCards 2 (cs ++ ((c ++ (field f ∷ [])) ∷ [])) ≡ fieldCards 2 (cs ++ (c ∷ [])) ++ ((2 + length cs) ∷ [])
-cards-field cs c f =
-    let m : length (fieldsOf (c ++ (field f ∷ []))) ≡ length (fieldsOf c) + 1 = ap length (fields-append c (field f ∷ [])) ∙ length-append (fieldsOf c) (f ∷ []) in
-    let k = 2 + length cs in
-    cards-last 2 cs (c ++ (field f ∷ []))
-    ∙ ap (λ (n : ℕ). fieldCards 2 cs ++ replicate n k) m
-    ∙ ap (λ (l : List ℕ). fieldCards 2 cs ++ l) (sym (replicate-append-replicate (length (fieldsOf c)) 1 k))
-    ∙ sym (append-assoc (fieldCards 2 cs) (replicate (length (fieldsOf c)) k) (k ∷ []))
-    ∙ sym (ap (λ (l : List ℕ). l ++ (k ∷ [])) (cards-last 2 cs c))
-
 -- CV on the last card is no field
 pub no-field : (c : List Item) → fieldsOf (c ++ (cv ∷ [])) ≡ fieldsOf c
 no-field c = fields-append c (cv ∷ []) ∙ append-nil (fieldsOf c)
-
-pub cards-cv : (cs : List (List Item)) (c : List Item) → fieldCards 2 (cs ++ ((c ++ (cv ∷ [])) ∷ [])) ≡ fieldCards 2 (cs ++ (c ∷ []))
-cards-cv cs c =
-    cards-last 2 cs (c ++ (cv ∷ []))
-    ∙ ap (λ (l : List RuleField). fieldCards 2 cs ++ replicate (length l) (2 + length cs)) (no-field c)
-    ∙ sym (cards-last 2 cs c)
-
-pub cards-empty : (cs : List (List Item)) → fieldCards 2 (cs ++ ([] ∷ [])) ≡ fieldCards 2 cs
-cards-empty cs = cards-last 2 cs [] ∙ append-nil (fieldCards 2 cs)
 
 -- ---- the card of CV
 

@@ -1,12 +1,12 @@
--- What the selection holds once so many cards are read: the first 64 fields with their cards, and the cards that refusals 4, 6 and 7 name. It is kept by
--- a card more, and by a field or a CV more on the last card.
+-- What is noted once so many cards are read: how many fields there are, the card of CV, and the cards that refusals 4, 6 and 7 name. It is kept by a card
+-- more, and by a field or a CV more on the last card.
 use mathlib.Core.Path.{_≡_, refl, ap, sym, _∙_, subst}
 use mathlib.Core.Bool.{Bool, true, false, cond, _&&_, and-true, and-false}
 use mathlib.Core.List.{List, [], _∷_, _++_, append-nil, append-assoc, map}
 use Prim.Native.Nat.{ℕ, _+_, _-_, _≤_, _<_, min}
 use native.Mathlib.Omega.{arith}
 use lib.Dec.{ltb, eqb}
-use lib.ListN.{length, set, length-append, length-map}
+use lib.ListN.{length, length-append}
 use borrow.Author.Tests.{ltb-true, ltb-false, eqb-true, eqb-false}
 use Rattle.rules.specs.Base.{joined, every}
 use Rattle.rules.specs.Answer.{each}
@@ -16,14 +16,11 @@ use Rattle.rules.specs.Asked.{fieldsOf, cvs, upTo, fieldLimits}
 use Rattle.rules.specs.Rows.{total}
 use Rattle.rules.proofs.AcceptedLaws.{fields-append, cvs-append}
 use Rattle.rules.proofs.CardSteps.{noted, total-last, total-fields, total-cvs, upTo-empty, noted-equal, noted-within, noted-over, each-empty, noted-same, noted-fails, joined-last, every-append}
-use Rattle.terms.specs.declared.Field.{Field}
-use Rattle.terms.specs.Meaning.{fieldOf, noField, fieldCards, cvCard}
+use Rattle.terms.specs.Meaning.{cvCard}
 use Rattle.terms.proofs.PlanOf.{cv-said}
 use Rattle.cards.specs.declared.Noted.{Noted}
-use Rattle.cards.specs.declared.Selected.{Selected}
-use Rattle.cards.specs.Selected.{noSelection, counted, fieldNoted, cvNoted, withField, withCV, fieldFor, withItem, withItems}
-use Rattle.cards.proofs.FieldLaws.{field-meant}
-use Rattle.cards.proofs.ListSteps.{padded, padded-more, padded-full, cards-length, cards-field, no-field, cards-cv, cards-empty, cv-empty, cv-field, cv-cv}
+use Rattle.cards.specs.Selected.{nothingNoted, counted, beyondNoted, fieldNoted, secondNoted, cvNoted}
+use Rattle.cards.proofs.ListSteps.{no-field, cv-empty, cv-field, cv-cv}
 
 -- all fields of the cards
 abbrev pub allFields : List (List Item) → List RuleField
@@ -44,22 +41,17 @@ pub record Tells (n : Noted) (cs : List (List Item)) : Type 0 where
   pub twice : noted 4 (n .«second_cv») ≡ upTo 4 1 cvs 0 2 cs
   pub beyond : noted 7 (n .beyond) ≡ each 7 limited 2 cs
 
-pub record Holds (st : Selected) (cs : List (List Item)) : Type 0 where
-  pub fields : st .fields ≡ padded 64 noField (map fieldFor (allFields cs))
-  pub cards : st .cards ≡ padded 64 0 (fieldCards 2 cs)
-  pub tells : Tells (st .noted) cs
-
 -- no card yet
-pub holds-none : Holds noSelection []
-unfolding noSelection each
-holds-none = record { fields = refl; cards = refl; tells = record { count = refl; over = refl; cv = refl; twice = refl; beyond = refl } }
+pub tells-none : Tells nothingNoted []
+unfolding each
+tells-none = record { count = refl; over = refl; cv = refl; twice = refl; beyond = refl }
 
 -- ---- a card more
 
-no-items : (cs : List (List Item)) → joined (cs ++ ([] ∷ [])) ≡ joined cs
+pub no-items : (cs : List (List Item)) → joined (cs ++ ([] ∷ [])) ≡ joined cs
 no-items cs = joined-last cs [] ∙ append-nil (joined cs)
 
-tells-card : (n : Noted) (cs : List (List Item)) → Tells n cs → Tells n (cs ++ ([] ∷ []))
+pub tells-card : (n : Noted) (cs : List (List Item)) → Tells n cs → Tells n (cs ++ ([] ∷ []))
 tells-card n cs h =
     record {
       count = h .count ∙ sym (ap (λ (l : List Item). min 64 (length (fieldsOf l))) (no-items cs));
@@ -69,38 +61,26 @@ tells-card n cs h =
       beyond = h .beyond ∙ sym (each-empty 7 limited cs refl);
     }
 
-holds-card : (st : Selected) (cs : List (List Item)) → Holds st cs → Holds st (cs ++ ([] ∷ []))
-holds-card st cs h =
-    record {
-      fields = h .fields ∙ sym (ap (λ (l : List Item). padded 64 noField (map fieldFor (fieldsOf l))) (no-items cs));
-      cards = h .cards ∙ sym (ap (padded 64 0) (cards-empty cs));
-      tells = tells-card (st .noted) cs (h .tells);
-    }
-
 -- ---- a field more
 
 module _ (cs : List (List Item)) (c : List Item) where
-  abbrev with-last : List (List Item)
+  abbrev pub with-last : List (List Item)
   with-last = cs ++ (c ∷ [])
 
-  abbrev with-more : Item → List (List Item)
+  abbrev pub with-more : Item → List (List Item)
   with-more i = cs ++ ((c ++ (i ∷ [])) ∷ [])
 
   joined-more : (i : Item) → joined (with-more i) ≡ joined with-last ++ (i ∷ [])
   joined-more i =
       joined-last cs (c ++ (i ∷ [])) ∙ sym (append-assoc (joined cs) c (i ∷ [])) ∙ sym (ap (λ (l : List Item). l ++ (i ∷ [])) (joined-last cs c))
 
-  more-fields : (f : RuleField) → allFields (with-more (field f)) ≡ allFields with-last ++ (f ∷ [])
+  pub more-fields : (f : RuleField) → allFields (with-more (field f)) ≡ allFields with-last ++ (f ∷ [])
   more-fields f = ap fieldsOf (joined-more (field f)) ∙ fields-append (joined with-last) (field f ∷ [])
 
-  same-fields : allFields (with-more cv) ≡ allFields with-last
+  pub same-fields : allFields (with-more cv) ≡ allFields with-last
   same-fields = ap fieldsOf (joined-more cv) ∙ no-field (joined with-last)
 
-  map-more : (fs : List RuleField) (f : RuleField) → map fieldFor (fs ++ (f ∷ [])) ≡ map fieldFor fs ++ (fieldFor f ∷ [])
-  map-more [] f = refl
-  map-more (g ∷ fs) f = ap (fieldFor g ∷_) (map-more fs f)
-
-  abbrev card : ℕ
+  abbrev pub card : ℕ
   card = 2 + length cs
 
   module _ (n : Noted) (h : Tells n with-last) (f : RuleField) where
@@ -154,69 +134,45 @@ module _ (cs : List (List Item)) (c : List Item) where
     cvs-same : cvs (c ++ (field f ∷ [])) ≡ cvs c
     cvs-same = omega (arith, cvs-append c (field f ∷ []))
 
-    tells-field : Tells (fieldNoted n card (fieldFor f)) (with-more (field f))
+    -- the field's numbers are within their limits exactly if no column is given
+    pub tells-field : (outside : ℕ) → eqb outside 0 ≡ fieldLimits f → Tells (fieldNoted n card outside) (with-more (field f))
     unfolding fieldNoted
-    tells-field = go tells-counted (fieldLimits (fieldOf (fieldFor f))) refl
+    tells-field outside fair = go tells-counted (eqb outside 0) refl
       where
-        go : Counted (counted n card) → (t : Bool) → fieldLimits (fieldOf (fieldFor f)) ≡ t → Tells (fieldNoted n card (fieldFor f)) (with-more (field f))
+        twice-same : (x : Noted) → Counted x → noted 4 (x .«second_cv») ≡ upTo 4 1 cvs 0 2 (with-more (field f))
+        twice-same x p = ap (noted 4) (p .twice) ∙ noted-equal 4 1 cvs (n .«second_cv») cs c (c ++ (field f ∷ [])) (h .twice) cvs-same
+
+        cv-same : (x : Noted) → Counted x → x .cv ≡ cvCard 2 (with-more (field f))
+        cv-same x p = p .cv ∙ h .cv ∙ sym (cv-field cs c f)
+
+        fails : eqb outside 0 ≡ false → noted 7 (cond (eqb (n .beyond) 0) card (n .beyond)) ≡ each 7 limited 2 (with-more (field f))
+        fails e =
+            noted-fails 7 limited (n .beyond) cs c (c ++ (field f ∷ [])) (h .beyond)
+            (limited-more ∙ ap (λ (t : Bool). limited c && t) (sym fair ∙ e) ∙ and-false (limited c))
+
+        go : Counted (counted n card) → (t : Bool) → eqb outside 0 ≡ t → Tells (fieldNoted n card outside) (with-more (field f))
         go p true e =
-            let g : fieldLimits f ≡ true = ap fieldLimits (sym (field-meant f)) ∙ e in
             rw e (record {
               count = p .count;
               over = p .over;
-              cv = p .cv ∙ h .cv ∙ sym (cv-field cs c f);
-              twice = ap (noted 4) (p .twice) ∙ noted-equal 4 1 cvs (n .«second_cv») cs c (c ++ (field f ∷ [])) (h .twice) cvs-same;
+              cv = cv-same _ p;
+              twice = twice-same _ p;
               beyond =
                   ap (noted 7) (p .beyond)
-                  ∙ noted-same 7 limited (n .beyond) cs c (c ++ (field f ∷ [])) (h .beyond) (limited-more ∙ ap (λ (t : Bool). limited c && t) g ∙ and-true (limited c));
+                  ∙ noted-same 7 limited (n .beyond) cs c (c ++ (field f ∷ [])) (h .beyond) (limited-more ∙ ap (λ (t : Bool). limited c && t) (sym fair ∙ e) ∙ and-true (limited c));
             })
-        go p false e =
-            let g : fieldLimits f ≡ false = ap fieldLimits (sym (field-meant f)) ∙ e in
-            rw e (record {
-              count = p .count;
-              over = p .over;
-              cv = p .cv ∙ h .cv ∙ sym (cv-field cs c f);
-              twice = ap (noted 4) (p .twice) ∙ noted-equal 4 1 cvs (n .«second_cv») cs c (c ++ (field f ∷ [])) (h .twice) cvs-same;
-              beyond =
-                  noted-fails 7 limited (n .beyond) cs c (c ++ (field f ∷ [])) (h .beyond) (limited-more ∙ ap (λ (t : Bool). limited c && t) g ∙ and-false (limited c));
-            })
-
-  holds-field : (st : Selected) → Holds st with-last → (f : RuleField) → Holds (withField st card (fieldFor f)) (with-more (field f))
-  unfolding withField
-  holds-field st h f = go (ltb (st .noted .count) 64) refl
-    where
-      fields-are : padded 64 noField (map fieldFor (allFields (with-more (field f)))) ≡ padded 64 noField (map fieldFor (allFields with-last) ++ (fieldFor f ∷ []))
-      fields-are = ap (padded 64 noField) (ap (map fieldFor) (more-fields f) ∙ map-more (allFields with-last) f)
-
-      go : (t : Bool) → ltb (st .noted .count) 64 ≡ t → Holds (withField st card (fieldFor f)) (with-more (field f))
-      go true e =
-          let k = st .noted .count in
-          let l : k < 64 = ltb-true k 64 e in
-          let n : k ≡ length (allFields with-last) = omega (arith, h .tells .count) in
-          let m : length (map fieldFor (allFields with-last)) ≡ k = length-map (allFields with-last) fieldFor ∙ sym n in
-          let j : length (fieldCards 2 with-last) ≡ k = cards-length 2 with-last ∙ sym n in
-          rw e (record {
-            fields =
-                ap (λ (z : List Field). set z k (fieldFor f)) (h .fields)
-                ∙ padded-more 64 noField (map fieldFor (allFields with-last)) (fieldFor f) k m l
-                ∙ sym fields-are;
-            cards =
-                ap (λ (z : List ℕ). set z k card) (h .cards)
-                ∙ padded-more 64 0 (fieldCards 2 with-last) card k j l
-                ∙ sym (ap (padded 64 0) (cards-field cs c f));
-            tells = tells-field (st .noted) (h .tells) f;
-          })
-      go false e =
-          let k = st .noted .count in
-          let l : 64 ≤ k = ltb-false k 64 e in
-          let n : 64 ≤ length (allFields with-last) = omega (arith, h .tells .count) in
-          let m : 64 ≤ length (map fieldFor (allFields with-last)) = omega (arith, length-map (allFields with-last) fieldFor) in
-          let j : 64 ≤ length (fieldCards 2 with-last) = omega (arith, cards-length 2 with-last) in
-          rw e (record {
-            fields = h .fields ∙ sym (padded-full 64 noField (map fieldFor (allFields with-last)) (fieldFor f ∷ []) m) ∙ sym fields-are;
-            cards = h .cards ∙ sym (padded-full 64 0 (fieldCards 2 with-last) (card ∷ []) j) ∙ sym (ap (padded 64 0) (cards-field cs c f));
-            tells = tells-field (st .noted) (h .tells) f;
-          })
+        go p false e = rw e (by (eqb (n .beyond) 0) refl)
+          where
+            by : (t : Bool) → eqb (n .beyond) 0 ≡ t → Tells (cond (eqb (n .beyond) 0) (beyondNoted (counted n card) card outside) (counted n card)) (with-more (field f))
+            by true t = rw t (record { count = p .count; over = p .over; cv = cv-same _ p; twice = twice-same _ p; beyond = ap (λ (b : Bool). noted 7 (cond b card (n .beyond))) (sym t) ∙ fails e })
+            by false t =
+                rw t (record {
+                  count = p .count;
+                  over = p .over;
+                  cv = cv-same _ p;
+                  twice = twice-same _ p;
+                  beyond = ap (noted 7) (p .beyond) ∙ ap (λ (b : Bool). noted 7 (cond b card (n .beyond))) (sym t) ∙ fails e;
+                })
 
   -- ---- a CV more
 
@@ -231,9 +187,9 @@ module _ (cs : List (List Item)) (c : List Item) where
     more-cv : cvCard 2 (with-more cv) ≡ cond (eqb (n .cv) 0) card (n .cv)
     more-cv = cv-cv cs c ∙ sym (ap (λ (k : ℕ). cond (eqb k 0) card k) (h .cv))
 
-    tells-cv : Tells (cvNoted n card) (with-more cv)
+    pub tells-cv : (column : ℕ) → Tells (cvNoted n card column) (with-more cv)
     unfolding cvNoted
-    tells-cv = go (eqb (n .cv) 0) refl
+    tells-cv column = go (eqb (n .cv) 0) refl
       where
         count : n .count ≡ min 64 (length (allFields (with-more cv)))
         count = h .count ∙ sym (ap (λ (l : List RuleField). min 64 (length l)) same-fields)
@@ -244,7 +200,7 @@ module _ (cs : List (List Item)) (c : List Item) where
         beyond : noted 7 (n .beyond) ≡ each 7 limited 2 (with-more cv)
         beyond = noted-same 7 limited (n .beyond) cs c (c ++ (cv ∷ [])) (h .beyond) (ap (every fieldLimits) (no-field c))
 
-        go : (t : Bool) → eqb (n .cv) 0 ≡ t → Tells (cvNoted n card) (with-more cv)
+        go : (t : Bool) → eqb (n .cv) 0 ≡ t → Tells (cvNoted n card column) (with-more cv)
         go true e =
             let z : cvs (joined with-last) ≡ 0 = eqb-true (cvs (joined with-last)) 0 (sym cv-known ∙ e) in
             rw e (record {
@@ -254,43 +210,21 @@ module _ (cs : List (List Item)) (c : List Item) where
               twice = noted-within 4 1 cvs (n .«second_cv») cs c (c ++ (cv ∷ [])) (h .twice) (omega (arith, cvs-append c (cv ∷ []))) (omega (arith, cv-total));
               beyond = beyond;
             })
-        go false e =
-            let z : 1 ≤ cvs (joined with-last) = some (cvs (joined with-last)) (eqb-false (cvs (joined with-last)) 0 (sym cv-known ∙ e)) in
-            rw e (record {
-              count = count;
-              over = over;
-              cv = sym (more-cv ∙ ap (λ (t : Bool). cond t card (n .cv)) e);
-              twice = noted-over 4 1 cvs (n .«second_cv») cs c (c ++ (cv ∷ [])) (h .twice) (omega (arith, cv-total));
-              beyond = beyond;
-            })
+        go false e = rw e (by (eqb (n .«second_cv») 0) refl)
           where
             some : (k : ℕ) → (k ≡ 0 → ⊥) → 1 ≤ k
             some k q = omega arith
 
-  holds-cv : (st : Selected) → Holds st with-last → Holds (withCV st card) (with-more cv)
-  unfolding withCV
-  holds-cv st h =
-      record {
-        fields = h .fields ∙ sym (ap (λ (l : List RuleField). padded 64 noField (map fieldFor l)) same-fields);
-        cards = h .cards ∙ sym (ap (padded 64 0) (cards-cv cs c));
-        tells = tells-cv (st .noted) (h .tells);
-      }
+            second : noted 4 (cond (eqb (n .«second_cv») 0) card (n .«second_cv»)) ≡ upTo 4 1 cvs 0 2 (with-more cv)
+            second =
+                let z : 1 ≤ cvs (joined with-last) = some (cvs (joined with-last)) (eqb-false (cvs (joined with-last)) 0 (sym cv-known ∙ e)) in
+                noted-over 4 1 cvs (n .«second_cv») cs c (c ++ (cv ∷ [])) (h .twice) (omega (arith, cv-total))
 
--- ---- the items of a card
+            same-cv : n .cv ≡ cvCard 2 (with-more cv)
+            same-cv = sym (more-cv ∙ ap (λ (t : Bool). cond t card (n .cv)) e)
 
-holds-item : (cs : List (List Item)) (c : List Item) (i : Item) (st : Selected) → Holds st (cs ++ (c ∷ []))
-    → Holds (withItem (2 + length cs) i st) (cs ++ ((c ++ (i ∷ [])) ∷ []))
-unfolding withItem
-holds-item cs c (field f) st h = holds-field cs c st h f
-holds-item cs c cv st h = holds-cv cs c st h
-
-holds-more : (cs : List (List Item)) (c is : List Item) (st : Selected) → Holds st (cs ++ (c ∷ []))
-    → Holds (withItems (2 + length cs) is st) (cs ++ ((c ++ is) ∷ []))
-holds-more cs c [] st h = subst (λ (d : List Item). Holds st (cs ++ (d ∷ []))) (sym (append-nil c)) h
-holds-more cs c (i ∷ is) st h =
-    subst (λ (d : List Item). Holds (withItems (2 + length cs) is (withItem (2 + length cs) i st)) (cs ++ (d ∷ []))) (append-assoc c (i ∷ []) is)
-    (holds-more cs (c ++ (i ∷ [])) is (withItem (2 + length cs) i st) (holds-item cs c i st h))
-
--- all items of one card more
-pub holds-items : (cs : List (List Item)) (is : List Item) (st : Selected) → Holds st cs → Holds (withItems (2 + length cs) is st) (cs ++ (is ∷ []))
-holds-items cs is st h = holds-more cs [] is st (holds-card st cs h)
+            by : (t : Bool) → eqb (n .«second_cv») 0 ≡ t → Tells (cond (eqb (n .«second_cv») 0) (secondNoted n card column) n) (with-more cv)
+            by true t =
+                rw t (record { count = count; over = over; cv = same-cv; twice = ap (λ (b : Bool). noted 4 (cond b card (n .«second_cv»))) (sym t) ∙ second; beyond = beyond })
+            by false t =
+                rw t (record { count = count; over = over; cv = same-cv; twice = ap (λ (b : Bool). noted 4 (cond b card (n .«second_cv»))) (sym t) ∙ second; beyond = beyond })

@@ -1,48 +1,41 @@
 -- What a deck whose cards are in order says, by what was read of its U card and of its FS cards: refusal 3 at the first that could not be read, or what
 -- refusals 4 to 7 leave.
 use mathlib.Core.Path.{_≡_, refl, ap, sym, _∙_, subst}
-use mathlib.Core.Bool.{true, false, true≢false}
-use mathlib.Core.List.{List, [], _∷_, _++_, map, append-nil, append-assoc}
+use mathlib.Core.List.{List, [], _∷_, _++_, map}
 use mathlib.Core.Option.{some}
 use Prim.Native.Nat.{ℕ, suc, _+_, _-_, _≤_}
 use native.Mathlib.Omega.{arith}
-use lib.ListN.{length, drop, length-append}
+use lib.ListN.{length, drop}
 use lib.Seq.{slice}
-use Rattle.rules.specs.Places.{Found, Both, none-left, both}
-use Rattle.rules.specs.Answer.{Refusal, Answer, fine, refuse, refused, _>>=_, _>>_}
-use Rattle.rules.specs.Reader.{Read, read, stopped}
+use Rattle.rules.specs.Places.{All, noMore, also, Found, Both, none-left, both}
+use Rattle.rules.specs.Answer.{Refusal, Answer, fine, refuse, refused, refusedAt, _>>=_, _>>_}
+use Rattle.rules.specs.Reader.{Read, read, stopped, listOf}
 use Rattle.rules.specs.Deck.{uCard, fsCard, endCard}
 use Rattle.rules.specs.Order.{Operands, operandsOf}
-use Rattle.rules.specs.Grammar.{Parameter, Item, uOperand, fsOperand}
-use Rattle.rules.specs.Asked.{grammatical, itemsFrom, Cards, cardsOf, once, Asked as RuleAsked, askedOf}
+use Rattle.rules.specs.Grammar.{Parameter, Item, parameter, uOperand, fsOperand}
+use Rattle.rules.specs.Texts.{UText, FsText}
+use Rattle.rules.specs.Words.{Worded, worded, partsOf, uWords, fsWords, valuesOf}
+use Rattle.rules.specs.Asked.{grammatical, itemsFrom, Cards, cardsOf, Asked as RuleAsked, askedOf}
 use Rattle.rules.proofs.AnswerLaws.{not-fine, fine-same, refuse-same, bind-fine, fine-bind}
 use Rattle.rules.proofs.Given.{Outcome, found-low}
-use Rattle.rules.proofs.CardsOutcome.{Stops, items-outcome, items-fine}
+use Rattle.rules.proofs.GrammarLaws.{u-exactly, u-left, fs-exactly, fs-left}
+use Rattle.rules.proofs.CardsOutcome.{both-map, Stops, items-outcome, items-fine, read-text}
+use Rattle.rules.proofs.ColumnSteps.{grammatical-at}
+use Rattle.rules.proofs.WordedLaws.{fs-worded}
+use Rattle.rules.proofs.WordColumns.{plainRead, list-plain}
 use Rattle.lines.specs.Scanning.{cardCount}
 use Rattle.cards.specs.declared.Selected.{Selected}
 use Rattle.cards.specs.declared.URead.{URead}
 use Rattle.cards.specs.declared.FsCards.{FsCards}
-use Rattle.cards.specs.Selected.{noSelection, withItems}
+use Rattle.cards.specs.Selected.{noSelection, withCards}
 use Rattle.cards.specs.Parameters.{UListed}
-use Rattle.cards.specs.Deck.{cardsIn, fsFirst, OperandAt, Operandless, withCards, FsSaid}
+use Rattle.cards.specs.Deck.{cardsIn, fsFirst, OperandAt, Operandless, FsRead, FsSaid}
 use Rattle.cards.specs.Verdict.{judgedAs}
 use Rattle.cards.specs.Promise.{refusedDeck, Said, DeckSays, InOrder}
-use Rattle.cards.proofs.SelectedLaws.{Holds, holds-none, holds-items}
+use Rattle.cards.proofs.RowLaws.{Fair, Holds, holds-cards, cards-count}
+use Rattle.cards.proofs.ListedLaws.{words-fair}
 use Rattle.cards.proofs.DeckLaws.{fs-all, cards-ordered}
 use Rattle.cards.proofs.VerdictLaws.{judging, judged-said}
-
--- ---- what the selection holds once all FS cards are read
-
-holds-more : (done cs : List (List Item)) (st : Selected) → Holds st done → Holds (withCards (2 + length done) cs st) (done ++ cs)
-holds-more done [] st h = subst (Holds st) (sym (append-nil done)) h
-holds-more done (c ∷ cs) st h =
-    let n : 2 + length (done ++ (c ∷ [])) ≡ suc (2 + length done) = omega (arith, length-append done (c ∷ [])) in
-    let w = holds-more (done ++ (c ∷ [])) cs (withItems (2 + length done) c st) (holds-items done c st h) in
-    subst (λ (k : ℕ). Holds (withCards k cs (withItems (2 + length done) c st)) (done ++ (c ∷ cs))) n
-    (subst (Holds (withCards (2 + length (done ++ (c ∷ []))) cs (withItems (2 + length done) c st))) (append-assoc done (c ∷ []) cs) w)
-
-holds-cards : (cs : List (List Item)) → Holds (withCards 2 cs noSelection) cs
-holds-cards cs = holds-more [] cs noSelection holds-none
 
 -- ---- the cards that could not be read, and how many there are
 
@@ -55,8 +48,12 @@ both-length : {A B : Type 0} {P : A → B → Type 0} {xs : List A} {ys : List B
 both-length none-left = refl
 both-length (both p b) = ap suc (both-length b)
 
-items-many : (i : ℕ) (os : List (List ℕ)) (cs : List (List Item)) → itemsFrom i os ≡ fine cs → length os ≡ length cs
-items-many i os cs e = both-length (items-fine i os cs e)
+-- the parts of FS cards that could be read: their numbers, and the items that they are
+values-of : (os : List (List ℕ)) (cs : List (List Item)) → Both FsText os cs → All (All Fair) (map fsWords os) × (map valuesOf (map fsWords os) ≡ cs)
+values-of [] [] none-left = (noMore, refl)
+values-of (o ∷ os) (c ∷ cs) (both t b) =
+    let w = values-of os cs b in
+    (also (words-fair o c t) (w .0), (λ i. fs-worded o c t .1 i ∷ w .1 i))
 
 -- ---- the deck
 
@@ -67,13 +64,13 @@ operands-in deck fs e =
     (b .0, b .1, omega arith)
 
 -- refusals 1 and 2
-pub order-refused : (deck : List ℕ) (number place : ℕ) → cardCount (operandsOf deck) ≡ refused number place → DeckSays deck (refusedDeck number place)
+pub order-refused : (deck : List ℕ) (number place : ℕ) → cardCount (operandsOf deck) ≡ refused number place → DeckSays deck (refusedDeck number place 0)
 unfolding askedOf _>>=_
 order-refused deck number place e = go (operandsOf deck) refl e
   where
-    go : (x : Answer Operands) → operandsOf deck ≡ x → cardCount x ≡ refused number place → DeckSays deck (refusedDeck number place)
+    go : (x : Answer Operands) → operandsOf deck ≡ x → cardCount x ≡ refused number place → DeckSays deck (refusedDeck number place 0)
     go (fine os) q e = absurd (not-fine _ _ (sym e))
-    go (refuse r) q e = let s = refuse-same _ _ (sym e) in rw q (λ i. refusedDeck (s i .number) (s i .place))
+    go (refuse r) q e = let s = refuse-same _ _ (sym e) in rw q (λ i. refusedDeck (s i .number) (s i .place) (s i .column))
 
 -- there are a U card and an END card
 pub order-many : (deck : List ℕ) (n : ℕ) → cardCount (operandsOf deck) ≡ fine n → 2 ≤ n
@@ -89,7 +86,7 @@ module _ (deck : List ℕ) (fs : ℕ) (order : InOrder deck fs) where
   abbrev operands : Operands
   operands = operands-in deck fs order .0
 
-  cards-are : cardsIn deck ≡ some (uCard (operands .u)) ∷ map some (map fsCard (operands .fs) ++ (endCard ∷ []))
+  cards-are : cardsIn deck ≡ some (uCard (operands .before) (operands .u)) ∷ map some (map fsCard (operands .fs) ++ (endCard ∷ []))
   cards-are = cards-ordered deck operands (operands-in deck fs order .1)
 
   -- the first card is a U card
@@ -98,74 +95,103 @@ module _ (deck : List ℕ) (fs : ℕ) (order : InOrder deck fs) where
 
   pub first-not-fs : (start end next : ℕ) → OperandAt fsCard deck 0 start end next → ⊥
   first-not-fs start end next h =
-      let e : some (uCard (operands .u)) ∷ map some (map fsCard (operands .fs) ++ (endCard ∷ [])) ≡ some (fsCard (slice start end deck)) ∷ cardsIn (drop next deck)
+      let e : some (uCard (operands .before) (operands .u)) ∷ map some (map fsCard (operands .fs) ++ (endCard ∷ [])) ≡ some (fsCard (slice start end deck)) ∷ cardsIn (drop next deck)
       = sym cards-are ∙ h .is in
       let z : _≡_ {A = ℕ} 0 1 = cc in
       omega arith
 
-  asked-by : askedOf deck ≡ (cardsOf operands >>= judging)
+  asked-by : askedOf deck ≡ (cardsOf operands >>= judging operands)
   unfolding askedOf
   asked-by = fine-bind (operandsOf deck) _ operands (operands-in deck fs order .1)
 
-  module _ (start end next : ℕ) (h : OperandAt uCard deck 0 start end next) where
-    first-is : some (uCard (operands .u)) ∷ map some (map fsCard (operands .fs) ++ (endCard ∷ [])) ≡ some (uCard (slice start end deck)) ∷ cardsIn (drop next deck)
+  module _ (start end next : ℕ) (h : OperandAt (uCard (start - 0)) deck 0 start end next) where
+    first-is : some (uCard (operands .before) (operands .u)) ∷ map some (map fsCard (operands .fs) ++ (endCard ∷ [])) ≡ some (uCard (start - 0) (slice start end deck)) ∷ cardsIn (drop next deck)
     first-is = sym cards-are ∙ h .is
 
-    u-is : operands .u ≡ slice start end deck
+    before-is : start + 1 ≡ suc (operands .before)
+    before-is = let e = first-is in let b : operands .before ≡ start - 0 = cc in omega arith
+
+    u-is : slice start end deck ≡ operands .u
     u-is = let e = first-is in cc
 
-    fs-are : operands .fs ≡ fsFirst (cardsIn (drop next deck))
+    fs-are : fsFirst (cardsIn (drop next deck)) ≡ operands .fs
     fs-are =
         let e = first-is in
         let t : map some (map fsCard (operands .fs) ++ (endCard ∷ [])) ≡ cardsIn (drop next deck) = cc in
-        sym (fs-all (operands .fs)) ∙ ap fsFirst t
+        sym (ap fsFirst t) ∙ fs-all (operands .fs)
 
-    abbrev readCards : Read (List Parameter) → Answer (List (List Item)) → Answer Cards
-    readCards x y = grammatical 1 x >>= λ us. y >>= λ is. fine (record { parameters = us; items = is })
+    abbrev words : List ℕ → Read (List (Worded Parameter))
+    words s = listOf "," (worded parameter) s
 
-    asked-read : (x : Read (List Parameter)) (y : Answer (List (List Item))) → uOperand (slice start end deck) ≡ x → itemsFrom 2 (fsFirst (cardsIn (drop next deck))) ≡ y
-        → askedOf deck ≡ (readCards x y >>= judging)
-    unfolding cardsOf
-    asked-read x y e f =
-        asked-by
-        ∙ ap (λ (c : Answer Cards). c >>= judging)
-        (λ i. readCards ((ap uOperand u-is ∙ e) i) ((ap (itemsFrom 2) fs-are ∙ f) i))
+    -- what was read of the U card
+    module _ (r : URead) (l : UListed (start + 1) (slice start end deck) (words (slice start end deck)) r) where
+      listed : UListed (suc (operands .before)) (operands .u) (words (operands .u)) r
+      listed = subst (λ (s : List ℕ). UListed (suc (operands .before)) s (words s) r) u-is (subst (λ (c : ℕ). UListed c (slice start end deck) (words (slice start end deck)) r) before-is l)
 
-    module _ (r : URead) (l : UListed (uOperand (slice start end deck)) r) where
+      u-plain : (x : Read (List (Worded Parameter))) → words (operands .u) ≡ x → uOperand (operands .u) ≡ plainRead x
+      unfolding uOperand
+      u-plain x e = sym (list-plain "," parameter (operands .u)) ∙ ap plainRead e
+
       -- the U card could not be read
-      pub unread-u : r .read ≡ false → DeckSays deck (refusedDeck 3 1)
-      unfolding _>>=_
-      unread-u n = go (uOperand (slice start end deck)) refl l
+      pub unread-u : (r .unread ≡ 0 → ⊥) → DeckSays deck (refusedDeck 3 1 (r .unread))
+      unfolding cardsOf _>>=_
+      unread-u n = go (words (operands .u)) refl listed
         where
-          go : (x : Read (List Parameter)) → uOperand (slice start end deck) ≡ x → UListed x r → DeckSays deck (refusedDeck 3 1)
-          go (read us left) e l = absurd (true≢false (sym (l .0) ∙ n))
-          go (stopped left) e l =
-              subst (λ (a : Answer RuleAsked). Said a (refusedDeck 3 1)) (sym (asked-read (stopped left) (itemsFrom 2 (fsFirst (cardsIn (drop next deck)))) e refl)) refl
+          go : (x : Read (List (Worded Parameter))) → words (operands .u) ≡ x → UListed (suc (operands .before)) (operands .u) x r → DeckSays deck (refusedDeck 3 1 (r .unread))
+          go (read ws left) e l = absurd (n (l .0))
+          go (stopped left) e (k, m, d, u) =
+              let c : operands .before + suc k ≡ r .unread = omega arith in
+              let g : grammatical 1 (operands .before) (operands .u) (uOperand (operands .u)) ≡ refusedAt 3 1 (r .unread)
+              = grammatical-at 1 (operands .before) (operands .u) (uOperand (operands .u)) k m (u-plain (stopped left) e ∙ ap stopped d) ∙ ap (refusedAt 3 1) c in
+              let q : askedOf deck ≡ refusedAt 3 1 (r .unread) = asked-by ∙ rw g refl in
+              subst (λ (a : Answer RuleAsked). Said a (refusedDeck 3 1 (r .unread))) (sym q) refl
 
-      module _ (n : r .read ≡ true) (f : FsCards) (k : FsSaid 2 noSelection (itemsFrom 2 (fsFirst (cardsIn (drop next deck)))) f) where
+      module _ (n : r .unread ≡ 0) (f : FsCards) (k : FsSaid 2 noSelection (fsFirst (cardsIn (drop next deck))) f) where
+        fs-said : FsSaid 2 noSelection (operands .fs) f
+        fs-said = subst (λ (os : List (List ℕ)). FsSaid 2 noSelection os f) fs-are k
+
+        -- the parameters could be read
+        read-of : (ws : List (Worded Parameter)) (left : List ℕ) → words (operands .u) ≡ read ws left
+            → grammatical 1 (operands .before) (operands .u) (uOperand (operands .u)) ≡ fine (valuesOf ws)
+        read-of ws left e = ap (grammatical 1 (operands .before) (operands .u)) (u-plain (read ws left) e)
+
         -- an FS card could not be read
-        pub unread-fs : (f .unread ≡ 0 → ⊥) → DeckSays deck (refusedDeck 3 (f .unread))
-        unfolding _>>=_
-        unread-fs z = go (uOperand (slice start end deck)) refl l (itemsFrom 2 (fsFirst (cardsIn (drop next deck)))) refl k
+        pub unread-fs : (f .unread ≡ 0 → ⊥) → DeckSays deck (refusedDeck 3 (f .unread) (f .column))
+        unfolding cardsOf _>>=_
+        unread-fs z = go (words (operands .u)) refl listed (itemsFrom 2 (operands .fs)) refl fs-said
           where
-            go : (x : Read (List Parameter)) → uOperand (slice start end deck) ≡ x → UListed x r
-                → (y : Answer (List (List Item))) → itemsFrom 2 (fsFirst (cardsIn (drop next deck))) ≡ y → FsSaid 2 noSelection y f → DeckSays deck (refusedDeck 3 (f .unread))
-            go (stopped left) e l y q k = absurd (true≢false (sym n ∙ l))
-            go (read us left) e l (fine cs) q k = absurd (z (k .0))
-            go (read us left) e l (refuse x) q k =
-                subst (λ (a : Answer RuleAsked). Said a (refusedDeck 3 (f .unread))) (sym (asked-read (read us left) (refuse x) e q))
-                (λ i. refusedDeck (sym (items-refused (fsFirst (cardsIn (drop next deck))) x q .0) i) (k i))
+            go : (x : Read (List (Worded Parameter))) → words (operands .u) ≡ x → UListed (suc (operands .before)) (operands .u) x r
+                → (y : Answer (List (List Item))) → itemsFrom 2 (operands .fs) ≡ y → FsRead 2 noSelection (operands .fs) y f → DeckSays deck (refusedDeck 3 (f .unread) (f .column))
+            go (stopped left) e (k, m, d, u) y q w = absurd (omega arith)
+            go (read ws left) e l (fine cs) q w = absurd (z (w .0))
+            go (read ws left) e l (refuse x) q w =
+                let v : askedOf deck ≡ refuse x = asked-by ∙ rw (read-of ws left e, q) refl in
+                subst (λ (a : Answer RuleAsked). Said a (refusedDeck 3 (f .unread) (f .column))) (sym v)
+                (λ i. refusedDeck (sym (items-refused (operands .fs) x q .0) i) (w .0 i) (w .1 i))
 
         -- all could be read
-        pub all-read : f .unread ≡ 0 → DeckSays deck (judgedAs (r .state) (f .state) fs)
-        unfolding _>>=_
-        all-read z = go (uOperand (slice start end deck)) refl l (itemsFrom 2 (fsFirst (cardsIn (drop next deck)))) refl k
+        pub few-kept : f .unread ≡ 0 → f .state .noted .count ≤ 64
+        unfolding noSelection
+        few-kept z = go (itemsFrom 2 (operands .fs)) refl fs-said
           where
-            go : (x : Read (List Parameter)) → uOperand (slice start end deck) ≡ x → UListed x r
-                → (y : Answer (List (List Item))) → itemsFrom 2 (fsFirst (cardsIn (drop next deck))) ≡ y → FsSaid 2 noSelection y f → DeckSays deck (judgedAs (r .state) (f .state) fs)
-            go (stopped left) e l y q k = absurd (true≢false (sym n ∙ l))
-            go (read us left) e l (refuse x) q k = absurd (omega (arith, items-refused (fsFirst (cardsIn (drop next deck))) x q .1, k, z))
-            go (read us left) e l (fine cs) q k =
-                let m : fs ≡ length cs = sym (operands-in deck fs order .2) ∙ ap length fs-are ∙ items-many 2 (fsFirst (cardsIn (drop next deck))) cs q in
-                subst (λ (a : Answer RuleAsked). Said a (judgedAs (r .state) (f .state) fs)) (sym (asked-read (read us left) (fine cs) e q))
-                (judged-said (r .state) (f .state) us cs (l .1) (subst (λ (x : Selected). Holds x cs) (sym (k .1)) (holds-cards cs)) fs m)
+            go : (y : Answer (List (List Item))) → itemsFrom 2 (operands .fs) ≡ y → FsRead 2 noSelection (operands .fs) y f → f .state .noted .count ≤ 64
+            go (fine cs) q w = rw (w .1) (cards-count 2 (map fsWords (operands .fs)) noSelection (omega arith))
+            go (refuse x) q w = absurd (omega (arith, items-refused (operands .fs) x q .1, w .0, z))
+
+        pub all-read : f .unread ≡ 0 → DeckSays deck (judgedAs (r .state) (r .outside) (f .state) fs)
+        unfolding cardsOf _>>=_ uWords
+        all-read z = go (words (operands .u)) refl listed (itemsFrom 2 (operands .fs)) refl fs-said
+          where
+            go : (x : Read (List (Worded Parameter))) → words (operands .u) ≡ x → UListed (suc (operands .before)) (operands .u) x r
+                → (y : Answer (List (List Item))) → itemsFrom 2 (operands .fs) ≡ y → FsRead 2 noSelection (operands .fs) y f → DeckSays deck (judgedAs (r .state) (r .outside) (f .state) fs)
+            go (stopped left) e (k, m, d, u) y q w = absurd (omega arith)
+            go (read ws left) e l (refuse x) q w = absurd (omega (arith, items-refused (operands .fs) x q .1, w .0, z))
+            go (read ws left) e l (fine cs) q w =
+                let b : Both FsText (operands .fs) cs = both-map (λ o is x. read-text fsOperand FsText fs-exactly fs-left o is (x .0) (x .1)) (items-fine 2 (operands .fs) cs q) in
+                let v = values-of (operands .fs) cs b in
+                let m : fs ≡ length cs = sym (operands-in deck fs order .2) ∙ both-length b in
+                let t : UText (operands .u) (valuesOf ws) = read-text uOperand UText u-exactly u-left (operands .u) (valuesOf ws) left (u-plain (read ws left) e) in
+                let a : askedOf deck ≡ judging operands (record { parameters = valuesOf ws; items = cs }) = asked-by ∙ rw (read-of ws left e, q) refl in
+                subst (λ (x : Answer RuleAsked). Said x (judgedAs (r .state) (r .outside) (f .state) fs)) (sym a)
+                (judged-said operands (r .state) (r .outside) ws t (ap partsOf e) (l .1) (l .2) (f .state) (w .1) cs b
+                (subst (λ (x : Selected). Holds x cs) (sym (w .1)) (subst (Holds (withCards 2 (map fsWords (operands .fs)) noSelection)) (v .1) (holds-cards (map fsWords (operands .fs)) (v .0)))) fs m)

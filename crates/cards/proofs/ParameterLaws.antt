@@ -1,29 +1,37 @@
 -- What is noted of the U card's parameters, one after another, is what the rules say of all of them: a letter that stood before makes the parameter a
 -- second one, and another is noted. So the card is read parameter by parameter, to its end or to where it stops.
 use mathlib.Core.Path.{_≡_, refl, ap, sym, _∙_, subst}
-use mathlib.Core.Bool.{Bool, true, false, not, _&&_, _||_, and-true, and-false, or-true, or-false}
+use mathlib.Core.Bool.{Bool, true, false, cond, not, _&&_, _||_, and-true, and-false, or-true, or-false}
 use mathlib.Core.List.{List, [], _∷_, _++_, map}
 use Prim.Native.Nat.{ℕ, zero, suc, _+_, _-_, _≤_, _<_}
 use native.Mathlib.Numerals.{add-one}
 use native.Mathlib.Omega.{arith}
 use lib.Dec.{eqb}
-use lib.ListN.{length, drop, getD, set, replicate, length-set, length-drop, drop-of-length-le}
-use lib.Seq.{drop-cons, drop-drop, getD-set-same, getD-set-other}
-use borrow.Author.Tests.{eqb-true, eqb-false}
-use Rattle.rules.specs.Reader.{Read, read}
-use Rattle.rules.specs.Grammar.{Parameter, modeIs, formatIs, inputIs, outputIs, rewindIn, rewindOut, firstIs, parameter, uOperand}
-use Rattle.rules.specs.Asked.{letter, among, distinct, Given, note, given}
+use lib.ListN.{length, take, drop, getD, set, replicate, length-set, length-drop, drop-of-length-le}
+use lib.Seq.{drop-cons, drop-drop, getD-set-same, getD-set-other, length-take-le}
+use borrow.Author.Tests.{eqb-true, eqb-false, ne-eqb}
+use Rattle.rules.specs.Places.{All, also}
+use Rattle.rules.specs.Reader.{Read, read, stopped, listOf}
+use Rattle.rules.specs.Grammar.{Format as RuleFormat, ff, fv, Parameter, modeIs, formatIs, inputIs, outputIs, rewindIn, rewindOut, firstIs, parameter}
+use Rattle.rules.specs.Words.{Worded, worded, valuesOf, againColumn, numberColumns, outsideColumn, firstOf, outsideAmong}
+use Rattle.rules.specs.Asked.{letter, among, distinct, sameLetter, parameterNumbers, Given, note, given}
+use Rattle.rules.proofs.ReaderLaws.{Within}
 use Rattle.rules.proofs.ParameterLaws.{within-parameter}
 use Rattle.rules.proofs.ParameterSteps.{letters-last, among-last, distinct-last, given-new, given-again}
 use Rattle.rules.proofs.ListLaws.{ahead, ahead-none, ahead-more, ahead-last, ahead-other, ahead-stop}
+use Rattle.rules.proofs.WordedLaws.{within-worded}
+use Rattle.rules.proofs.WordColumns.{worded-reads, worded-stops, columns-shift, first-zero, width, width-last, values-last, outside-last, again-last}
 use Rattle.terms.specs.Meaning.{modeOf, formatOf, sizeOf}
 use Rattle.readers.specs.declared.UParameter.{UParameter}
 use Rattle.readers.specs.declared.UParameter.the-variants.{ModeIs, FormatIs, InputIs, OutputIs, RewindIn, RewindOut, FirstIs}
 use Rattle.readers.specs.declared.ParameterRead.the-variants.{IsParameter, NoParameter}
-use Rattle.readers.specs.Meaning.{parameterOf, ParameterSays}
+use Rattle.readers.specs.Meaning.{secondIn, parameterOf, parameterPlaces, ParameterSays}
+use Rattle.readers.proofs.Callers.{parameter-places, places-inside}
 use Rattle.cards.specs.declared.Parameters.{Parameters}
+use Rattle.cards.specs.declared.Outside.{Outside}
 use Rattle.cards.specs.declared.URead.{URead}
-use Rattle.cards.specs.Parameters.{noParameter, withPart, withLetter, withSecond, withParameter, hasSeen, option, givenOf, Notes, UListed}
+use Rattle.cards.specs.Limits.{shifted}
+use Rattle.cards.specs.Parameters.{noParameter, withPart, withLetter, withSecond, withParameter, noneOutside, parameterOutside, withNumbers, hasSeen, option, givenOf, Notes, NotesOutside, UListed}
 
 pub letter-small : (p : Parameter) → letter p < 7
 letter-small (modeIs m) = omega arith
@@ -41,9 +49,9 @@ none-seen zero k = refl
 none-seen (suc n) zero = refl
 none-seen (suc n) (suc k) = none-seen n k
 
-notes-none : Notes noParameter []
+notes-none : (c : ℕ) → Notes c noParameter []
 unfolding noParameter givenOf
-notes-none = record { room = refl; seen = none-seen 7; twice = refl; given = refl }
+notes-none c = record { room = refl; seen = none-seen 7; once = refl; twice = refl; given = refl }
 
 -- ---- a letter more
 
@@ -105,117 +113,190 @@ part-letters st (FirstIs n) = (refl, refl)
 
 -- ---- a parameter more
 
-module _ (st : Parameters) (ps : List Parameter) (h : Notes st ps) (p : UParameter) where
+first-not-0 : (t c : ℕ) → 1 ≤ c → eqb (firstOf t c) 0 ≡ false
+first-not-0 zero c l = ne-eqb c 0 (λ q. omega arith)
+first-not-0 (suc t) c l = rw (ne-eqb (suc t) 0 (λ q. omega arith)) (ne-eqb (suc t) 0 (λ q. omega arith))
+
+module _ (c : ℕ) (low : 1 ≤ c) (st : Parameters) (ws : List (Worded Parameter)) (h : Notes c st ws) (p : UParameter) (x : List ℕ) where
   abbrev said : Parameter
   said = parameterOf p
 
-  abbrev with-said : List Parameter
-  with-said = ps ++ (said ∷ [])
+  abbrev word : Worded Parameter
+  word = record { value = said; text = x }
 
-  among-said : (j : ℕ) → among j (map letter with-said) ≡ (among j (map letter ps) || eqb j (letter said))
-  among-said j = ap (among j) (letters-last ps said) ∙ among-last j (map letter ps) (letter said)
+  abbrev with-said : List (Worded Parameter)
+  with-said = ws ++ (word ∷ [])
 
-  distinct-said : distinct (map letter with-said) ≡ (distinct (map letter ps) && not (among (letter said) (map letter ps)))
-  distinct-said = ap distinct (letters-last ps said) ∙ distinct-last (map letter ps) (letter said)
+  abbrev letters : List ℕ
+  letters = map letter (valuesOf ws)
 
-  second-said : among (letter said) (map letter ps) ≡ true → Notes (withSecond st) with-said
+  letters-said : map letter (valuesOf with-said) ≡ letters ++ (letter said ∷ [])
+  letters-said = ap (map letter) (values-last ws word) ∙ letters-last (valuesOf ws) said
+
+  among-said : (j : ℕ) → among j (map letter (valuesOf with-said)) ≡ (among j letters || eqb j (letter said))
+  among-said j = ap (among j) letters-said ∙ among-last j letters (letter said)
+
+  distinct-said : distinct (map letter (valuesOf with-said)) ≡ (distinct letters && not (among (letter said) letters))
+  distinct-said = ap distinct letters-said ∙ distinct-last letters (letter said)
+
+  -- the column of the first that stands again
+  again-said : (t : Bool) → among (letter said) letters ≡ t → againColumn sameLetter [] c with-said ≡ firstOf (st .twice) (cond t (c + width ws) 0)
+  again-said t e =
+      again-last [] c low ws word
+      ∙ (λ i. firstOf (sym (h .twice) i) (cond (or-false (among (letter said) letters) i) (c + width ws) 0))
+      ∙ ap (λ (b : Bool). firstOf (st .twice) (cond b (c + width ws) 0)) e
+
+  second-said : among (letter said) letters ≡ true → Notes c (withSecond st (c + width ws)) with-said
   unfolding withSecond givenOf
   second-said e =
       record {
         room = h .room;
         seen = λ j. h .seen j ∙ go j (eqb j (letter said)) refl ∙ sym (among-said j);
-        twice = sym (ap not (distinct-said ∙ ap (λ (t : Bool). distinct (map letter ps) && not t) e ∙ and-false (distinct (map letter ps))));
-        given = h .given ∙ sym (given-again ps said e);
+        once = first-not-0 (st .twice) (c + width ws) (omega arith) ∙ sym (distinct-said ∙ ap (λ (t : Bool). distinct letters && not t) e ∙ and-false (distinct letters));
+        twice = sym (again-said true e);
+        given = h .given ∙ sym (given-again (valuesOf ws) said e) ∙ ap given (sym (values-last ws word));
       }
     where
-      go : (j : ℕ) (t : Bool) → eqb j (letter said) ≡ t → among j (map letter ps) ≡ (among j (map letter ps) || eqb j (letter said))
-      go j true f = let a : among j (map letter ps) ≡ true = ap (λ (n : ℕ). among n (map letter ps)) (eqb-true j (letter said) f) ∙ e in rw a
-      go j false f = rw f (sym (or-false (among j (map letter ps))))
+      go : (j : ℕ) (t : Bool) → eqb j (letter said) ≡ t → among j letters ≡ (among j letters || eqb j (letter said))
+      go j true f = let a : among j letters ≡ true = ap (λ (n : ℕ). among n letters) (eqb-true j (letter said) f) ∙ e in rw a
+      go j false f = rw f (sym (or-false (among j letters)))
 
-  first-said : among (letter said) (map letter ps) ≡ false → Notes (withLetter (withPart st p) (letter said)) with-said
+  first-said : among (letter said) letters ≡ false → Notes c (withLetter (withPart st p) (letter said)) with-said
   first-said e =
       let room : length (withPart st p .seen) ≡ 7 = ap length (part-letters st p .0) ∙ h .room in
+      let same : withLetter (withPart st p) (letter said) .twice ≡ st .twice = letter-kept (withPart st p) (letter said) .1 ∙ part-letters st p .1 in
       record {
         room = letter-kept (withPart st p) (letter said) .0 ∙ room;
         seen = λ j. seen-or (withPart st p) (letter said) j room (letter-small said) ∙ turn (eqb j (letter said)) (hasSeen (withPart st p) j)
             ∙ ap (λ (t : Bool). t || eqb j (letter said)) (ap (λ (l : List Bool). getD l j false) (part-letters st p .0) ∙ h .seen j) ∙ sym (among-said j);
-        twice = letter-kept (withPart st p) (letter said) .1 ∙ part-letters st p .1 ∙ h .twice
-            ∙ sym (ap not (distinct-said ∙ ap (λ (t : Bool). distinct (map letter ps) && not t) e ∙ and-true (distinct (map letter ps))));
-        given = given-marked (withPart st p) (letter said) room (letter-small said) ∙ sym (part-marked st p) ∙ ap (note said) (h .given) ∙ sym (given-new ps said e);
+        once = ap (λ (k : ℕ). eqb k 0) same ∙ h .once ∙ sym (distinct-said ∙ ap (λ (t : Bool). distinct letters && not t) e ∙ and-true (distinct letters));
+        twice = same ∙ sym (first-zero (st .twice)) ∙ sym (again-said false e);
+        given = given-marked (withPart st p) (letter said) room (letter-small said) ∙ sym (part-marked st p) ∙ ap (note said) (h .given)
+            ∙ sym (given-new (valuesOf ws) said e) ∙ ap given (sym (values-last ws word));
       }
     where
       turn : (a b : Bool) → (a || b) ≡ (b || a)
       turn true b = sym (or-true b)
       turn false b = sym (or-false b)
 
-  notes-more : Notes (withParameter st p) with-said
+  notes-more : Notes c (withParameter st p (c + width ws)) with-said
   unfolding withParameter
   notes-more = go (getD (st .seen) (letter said) false) refl
     where
-      go : (t : Bool) → getD (st .seen) (letter said) false ≡ t → Notes (withParameter st p) with-said
+      go : (t : Bool) → getD (st .seen) (letter said) false ≡ t → Notes c (withParameter st p (c + width ws)) with-said
       go true e = rw e (second-said (sym (h .seen (letter said)) ∙ e))
       go false e = rw e (first-said (sym (h .seen (letter said)) ∙ e))
 
+  -- its numbers
+  module _ (second : ℕ) (places : numberColumns false 0 x ≡ parameterPlaces p second) where
+    outside-said : (f : RuleFormat) (o : ℕ) → o ≡ outsideAmong (parameterNumbers f) c ws
+        → firstOf o (parameterOutside f p second (c + width ws)) ≡ outsideAmong (parameterNumbers f) c with-said
+    outside-said f o e =
+        let k : (c + width ws) + 0 ≡ c + width ws = omega arith in
+        let q : numberColumns false (c + width ws) x ≡ shifted (c + width ws) (parameterPlaces p second)
+        = ap (λ (j : ℕ). numberColumns false j x) (sym k) ∙ columns-shift false (c + width ws) 0 x ∙ ap (shifted (c + width ws)) places in
+        (λ i. firstOf (e i) (outsideColumn (sym q i) (parameterNumbers f said))) ∙ sym (outside-last (parameterNumbers f) c ws word)
+
+    numbers-more : (o : Outside) → NotesOutside c o ws → NotesOutside c (withNumbers o p second (c + width ws)) with-said
+    numbers-more o n = record { plain = outside-said ff (o .plain) (n .plain); variable = outside-said fv (o .variable) (n .variable) }
+
 -- ---- the card, parameter by parameter
 
-pub record Going (s : List ℕ) (st : Parameters) (at : ℕ) : Type 0 where
+abbrev words : List ℕ → Read (List (Worded Parameter))
+words s = listOf "," (worded parameter) s
+
+pub record Going (c : ℕ) (s : List ℕ) (st : Parameters) (o : Outside) (at : ℕ) : Type 0 where
   pub inside : at ≤ length s
-  pub so : List Parameter
-  pub notes : Notes st so
-  pub on : uOperand s ≡ ahead so (uOperand (drop at s))
+  pub so : List (Worded Parameter)
+  pub wide : width so ≡ at
+  pub notes : Notes c st so
+  pub numbers : NotesOutside c o so
+  pub on : words s ≡ ahead so (words (drop at s))
 
-pub going-start : (s : List ℕ) → Going s noParameter 0
-going-start s = record { inside = omega arith; so = []; notes = notes-none; on = ahead-none (uOperand s) }
+pub going-start : (c : ℕ) (s : List ℕ) → Going c s noParameter noneOutside 0
+going-start c s =
+    record { inside = omega arith; so = []; wide = refl; notes = notes-none c; numbers = record { plain = refl; variable = refl }; on = ahead-none (words s) }
 
-module _ (s : List ℕ) (st : Parameters) (at : ℕ) (g : Going s st at) where
+module _ (c : ℕ) (low : 1 ≤ c) (s : List ℕ) (st : Parameters) (o : Outside) (at : ℕ) (g : Going c s st o at) where
+  abbrev takes : Within 1 (worded parameter)
+  takes = within-worded parameter within-parameter
+
+  stopped-at : (k : ℕ) → k ≤ length s → words s ≡ stopped (drop k s) → (r : URead) → r .unread ≡ c + k → UListed c s (words s) r
+  stopped-at k l e r h = subst (λ (x : Read (List (Worded Parameter))). UListed c s x r) (sym e) (k, l, refl, h)
+
   -- it stops
-  pub going-stop : (r : URead) (a : ℕ) → ParameterSays (drop at s) (NoParameter a) → r .read ≡ false → UListed (uOperand s) r
-  unfolding uOperand
+  pub going-stop : (r : URead) (a : ℕ) → ParameterSays (drop at s) (NoParameter a) → r .unread ≡ c + at + a → UListed c s (words s) r
   going-stop r a e h =
-      subst (λ (x : Read (List Parameter)). UListed x r)
-      (sym (g .on ∙ ahead-stop "," parameter within-parameter 44 refl (g .so) (drop at s) (drop a (drop at s)) (e .1))) h
+      let m = e .0 in
+      stopped-at (at + a) (omega (arith, length-drop at s, g .inside))
+      (g .on ∙ ahead-stop "," (worded parameter) takes 44 refl (g .so) (drop at s) (drop a (drop at s)) (worded-stops parameter (drop at s) (drop a (drop at s)) (e .1)) ∙ ap stopped (drop-drop a at s))
+      r (omega arith)
 
-  module _ (p : UParameter) (n : ℕ) (e : ParameterSays (drop at s) (IsParameter p n)) where
+  module _ (p : UParameter) (second n : ℕ) (e : ParameterSays (drop at s) (IsParameter p second n)) where
     pub parameter-inside : at + n ≤ length s
-    parameter-inside = let l = e .0 in omega (arith, length-drop at s, g .inside)
+    parameter-inside = let l = e .0 .0 in omega (arith, length-drop at s, g .inside)
 
-    behind : parameter (drop at s) ≡ read (parameterOf p) (drop (at + n) s)
-    behind = e .1 ∙ ap (read (parameterOf p)) (drop-drop n at s)
+    -- its second number begins inside it
+    pub second-low : second ≤ n
+    second-low = rw (e .1) (go (numberColumns false 0 (take n (drop at s))) (places-inside (take n (drop at s))) (length-take-le n (drop at s) (e .0 .0)))
+      where
+        go : (cs : List ℕ) → All (λ k. k < length (take n (drop at s))) cs → length (take n (drop at s)) ≡ n → secondIn cs ≤ n
+        go [] a l = omega arith
+        go (c ∷ []) a l = omega arith
+        go (c ∷ d ∷ cs) (also p (also q a)) l = omega arith
+
+    abbrev part : List ℕ
+    part = take n (drop at s)
+
+    abbrev theWord : Worded Parameter
+    theWord = record { value = parameterOf p; text = part }
+
+    behind : worded parameter (drop at s) ≡ read theWord (drop (at + n) s)
+    behind = worded-reads parameter (drop at s) (parameterOf p) n (e .0 .0) (e .0 .1) ∙ ap (read theWord) (drop-drop n at s)
 
     next : (b : ℕ) → at + n < length s → getD s (at + n) 0 ≡ b → drop (at + n) s ≡ b ∷ drop (at + n + 1) s
     next b l f = rw (add-one (at + n)) (drop-cons s (at + n) 0 l ∙ ap (λ (x : ℕ). x ∷ drop (suc (at + n)) s) f)
 
+    more : Notes c (withParameter st p (c + at)) (g .so ++ (theWord ∷ []))
+    more = subst (λ (k : ℕ). Notes c (withParameter st p (c + k)) (g .so ++ (theWord ∷ []))) (g .wide) (notes-more c low st (g .so) (g .notes) p part)
+
+    more-numbers : NotesOutside c (withNumbers o p second (c + at)) (g .so ++ (theWord ∷ []))
+    more-numbers =
+        subst (λ (k : ℕ). NotesOutside c (withNumbers o p second (c + k)) (g .so ++ (theWord ∷ []))) (g .wide)
+        (numbers-more c low st (g .so) (g .notes) p part second (parameter-places (drop at s) p second n e) o (g .numbers))
+
     -- the last
-    pub going-last : at + n ≡ length s → UListed (uOperand s) (record { state = withParameter st p; read = true })
-    unfolding uOperand
+    pub going-last : at + n ≡ length s
+        → UListed c s (words s) (record { state = withParameter st p (c + at); outside = withNumbers o p second (c + at); unread = 0 })
     going-last l =
         let m : length s ≤ at + n = omega arith in
         let k : drop (at + n) s ≡ [] = drop-of-length-le s m in
-        subst (λ (x : Read (List Parameter)). UListed x (record { state = withParameter st p; read = true }))
-        (sym (g .on ∙ ahead-last "," parameter within-parameter 44 refl (g .so) (drop at s) (parameterOf p) (behind ∙ ap (read (parameterOf p)) k)))
-        (refl, notes-more st (g .so) (g .notes) p)
+        subst (λ (x : Read (List (Worded Parameter))). UListed c s x (record { state = withParameter st p (c + at); outside = withNumbers o p second (c + at); unread = 0 }))
+        (sym (g .on ∙ ahead-last "," (worded parameter) takes 44 refl (g .so) (drop at s) theWord (behind ∙ ap (read theWord) k)))
+        (refl, more, more-numbers)
 
     -- another byte than a comma behind it
-    pub going-other : (r : URead) → at + n < length s → (getD s (at + n) 0 ≡ 44 → ⊥) → r .read ≡ false → UListed (uOperand s) r
-    unfolding uOperand
+    pub going-other : (r : URead) → at + n < length s → (getD s (at + n) 0 ≡ 44 → ⊥) → r .unread ≡ c + (at + n) → UListed c s (words s) r
     going-other r l f h =
-        subst (λ (x : Read (List Parameter)). UListed x r)
-        (sym
+        stopped-at (at + n) (omega arith)
         (g .on
-        ∙ ahead-other "," parameter within-parameter 44 refl (g .so) (drop at s) (parameterOf p) (getD s (at + n) 0) (drop (at + n + 1) s)
-        (behind ∙ ap (read (parameterOf p)) (next (getD s (at + n) 0) l refl)) f))
-        h
+        ∙ ahead-other "," (worded parameter) takes 44 refl (g .so) (drop at s) theWord (getD s (at + n) 0) (drop (at + n + 1) s)
+        (behind ∙ ap (read theWord) (next (getD s (at + n) 0) l refl)) f
+        ∙ ap stopped (sym (next (getD s (at + n) 0) l refl)))
+        r h
 
     -- a comma behind it
-    pub going-more : at + n < length s → getD s (at + n) 0 ≡ 44 → Going s (withParameter st p) (at + n + 1)
-    unfolding uOperand
+    pub going-more : at + n < length s → getD s (at + n) 0 ≡ 44 → Going c s (withParameter st p (c + at)) (withNumbers o p second (c + at)) (at + n + 1)
     going-more l f =
+        let w : length part ≡ n = length-take-le n (drop at s) (e .0 .0) in
         record {
           inside = omega arith;
-          so = g .so ++ (parameterOf p ∷ []);
-          notes = notes-more st (g .so) (g .notes) p;
+          so = g .so ++ (theWord ∷ []);
+          wide = omega (arith, width-last (g .so) theWord, w, g .wide);
+          notes = more;
+          numbers = more-numbers;
           on =
               g .on
-              ∙ ahead-more "," parameter within-parameter 44 refl (g .so) (drop at s) (parameterOf p) (drop (at + n + 1) s)
-              (behind ∙ ap (read (parameterOf p)) (next 44 l f));
+              ∙ ahead-more "," (worded parameter) takes 44 refl (g .so) (drop at s) theWord (drop (at + n + 1) s)
+              (behind ∙ ap (read theWord) (next 44 l f));
         }

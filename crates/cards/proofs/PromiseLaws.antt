@@ -6,7 +6,7 @@ use Prim.Native.Nat.{ℕ, zero, suc, _-_, _≤_}
 use native.Mathlib.Omega.{arith}
 use lib.ListN.{take, replicate}
 use Rattle.rules.specs.Places.{All, also}
-use Rattle.rules.specs.Answer.{Refusal, Answer, fine, refuse, refused}
+use Rattle.rules.specs.Answer.{Refusal, Answer, fine, refuse, refusedAt}
 use Rattle.rules.specs.Grammar.{modeIs, formatIs, inputIs}
 use Rattle.rules.specs.Asked.{Asked as RuleAsked, askedOf}
 use Rattle.rules.specs.Rows.{Done, PlanRows}
@@ -95,7 +95,8 @@ module _ (r q : DeckRead) (a : RuleAsked) (x : Accepts r a) (y : Accepts q a) wh
   accepts-once =
       let e : r .refusal ≡ q .refusal = x .refusal ∙ sym (y .refusal) in
       let f : r .place ≡ q .place = x .place ∙ sym (y .place) in
-      λ i. record { refusal = e i; place = f i; asked = asked-once i }
+      let g : r .column ≡ q .column = x .column ∙ sym (y .column) in
+      λ i. record { refusal = e i; place = f i; column = g i; asked = asked-once i }
 
 pub only-one : (deck : List ℕ) (r q : DeckRead) → DeckSays deck r → DeckSays deck q → r ≡ q
 only-one deck r q e f = go (askedOf deck) e f
@@ -118,13 +119,11 @@ some-refusal deck x e =
     go zero h = absurd h
     go (suc n) h = omega arith
 
-refusal-number : (number place : ℕ) → refusedDeck number place .refusal ≡ number
+-- the three numbers of a refused deck
+numbers-of : (x : Refusal) → (refusedDeck (x .number) (x .place) (x .column) .refusal ≡ x .number)
+    × (refusedDeck (x .number) (x .place) (x .column) .place ≡ x .place) × (refusedDeck (x .number) (x .place) (x .column) .column ≡ x .column)
 unfolding refusedDeck
-refusal-number number place = refl
-
-refusal-place : (number place : ℕ) → refusedDeck number place .place ≡ place
-unfolding refusedDeck
-refusal-place number place = refl
+numbers-of x = (refl, refl, refl)
 
 module _ (deck : List ℕ) (r : DeckRead) (h : DeckSays deck r) where
   -- the deck is accepted
@@ -133,15 +132,16 @@ module _ (deck : List ℕ) (r : DeckRead) (h : DeckSays deck r) where
     where
       go : (x : Answer RuleAsked) → askedOf deck ≡ x → Said x r → (a : RuleAsked) × (askedOf deck ≡ fine a) × Accepts r a
       go (fine a) q h = (a, q, h)
-      go (refuse x) q h = absurd (omega (arith, some-refusal deck x q, e, ap (λ (d : DeckRead). d .refusal) h, refusal-number (x .number) (x .place)))
+      go (refuse x) q h = absurd (omega (arith, some-refusal deck x q, e, ap (λ (d : DeckRead). d .refusal) h, numbers-of x .0))
 
   -- it is refused, as the answer says
-  pub refused-as : (r .refusal ≡ 0 → ⊥) → askedOf deck ≡ refused (r .refusal) (r .place)
+  pub refused-as : (r .refusal ≡ 0 → ⊥) → askedOf deck ≡ refusedAt (r .refusal) (r .place) (r .column)
   refused-as n = go (askedOf deck) refl h
     where
-      go : (x : Answer RuleAsked) → askedOf deck ≡ x → Said x r → askedOf deck ≡ refused (r .refusal) (r .place)
+      go : (x : Answer RuleAsked) → askedOf deck ≡ x → Said x r → askedOf deck ≡ refusedAt (r .refusal) (r .place) (r .column)
       go (fine a) q h = absurd (n (h .refusal))
       go (refuse x) q h =
-          let a : x .number ≡ r .refusal = sym (ap (λ (d : DeckRead). d .refusal) h ∙ refusal-number (x .number) (x .place)) in
-          let b : x .place ≡ r .place = sym (ap (λ (d : DeckRead). d .place) h ∙ refusal-place (x .number) (x .place)) in
-          q ∙ (λ i. refused (a i) (b i))
+          let a : x .number ≡ r .refusal = sym (ap (λ (d : DeckRead). d .refusal) h ∙ numbers-of x .0) in
+          let b : x .place ≡ r .place = sym (ap (λ (d : DeckRead). d .place) h ∙ numbers-of x .1) in
+          let c : x .column ≡ r .column = sym (ap (λ (d : DeckRead). d .column) h ∙ numbers-of x .2) in
+          q ∙ (λ i. refusedAt (a i) (b i) (c i))

@@ -1,7 +1,7 @@
--- The order of refusals 4 to 7, told from what was noted of the U card and of the FS cards, is the rules' order over the whole deck: each test of the rules is
--- what was noted. Where nothing is refused, what was noted is what the cards ask for.
+-- The order of refusals 4 to 7, told from what was noted of the U card and of the FS cards, is the rules' order over the whole deck: each test of the rules, with
+-- its column, is what was noted. Where nothing is refused, what was noted is what the cards ask for.
 use mathlib.Core.Path.{_≡_, refl, ap, sym, _∙_, subst}
-use mathlib.Core.Bool.{Bool, true, false, cond, not, Bool·not-not}
+use mathlib.Core.Bool.{Bool, true, false, cond, true≢false}
 use mathlib.Core.List.{List, [], _∷_, _++_, map}
 use Prim.Native.Nat.{ℕ, zero, suc, _+_, _-_, _≤_}
 use native.Mathlib.Omega.{arith}
@@ -9,26 +9,46 @@ use lib.Dec.{eqb}
 use lib.ListN.{length, take, replicate, length-map}
 use lib.Seq.{take-at}
 use borrow.Author.Tests.{ne-eqb}
-use Rattle.rules.specs.Places.{All, noMore, also}
-use Rattle.rules.specs.Answer.{Answer, fine, refused, _>>=_, _>>_, unless, each}
-use Rattle.rules.specs.Grammar.{Parameter, Item}
+use Rattle.rules.specs.Base.{every, joined}
+use Rattle.rules.specs.Places.{All, noMore, also, Both}
+use Rattle.rules.specs.Answer.{Refusal, Answer, fine, refuse, refused, refusedAt, located, _>>=_, _>>_, unless, each}
+use Rattle.rules.specs.Order.{Operands}
+use Rattle.rules.specs.Grammar.{Format, ff, fv, fu, Parameter, Item}
 use Rattle.rules.specs.Halves.{Field as RuleField}
-use Rattle.rules.specs.Asked.{Cards, letter, distinct, once, given, Utility, complete, utilityLimits, limits, Asked as RuleAsked}
-use Rattle.rules.proofs.AnswerLaws.{bind-fine, then-fine}
+use Rattle.rules.specs.Texts.{ParameterText, UText, FsText}
+use Rattle.rules.specs.Words.{Worded, uWords, fsWords, valuesOf, againColumn, numberColumns, Limit, meets, outsideColumn, firstOf, outsideIn, outsideAmong}
+use Rattle.rules.specs.Asked.{Cards, letter, distinct, sameLetter, cvs, upTo, cvColumn, once, given, Utility, complete, fieldLimits, utilityLimits, parameterNumbers, fieldColumn, limits, Asked as RuleAsked}
+use Rattle.rules.specs.Rows.{Twice}
+use Rattle.rules.specs.ColumnRows.{UParts}
+use Rattle.rules.proofs.Tests.{all-every}
+use Rattle.rules.proofs.AnswerLaws.{bind-fine, then-fine, each-fine, located-fine}
+use Rattle.rules.proofs.AcceptedLaws.{all-fields}
 use Rattle.rules.proofs.CardSteps.{noted, total-fields, upTo-fine}
+use Rattle.rules.proofs.ParameterOutcome.{of-twice, complete-fine}
+use Rattle.rules.proofs.WordedLaws.{u-worded}
+use Rattle.rules.proofs.NumberColumns.{parameter-count, u-count}
+use Rattle.rules.proofs.NumberLimits.{utility-exactly, numbers-fu}
+use Rattle.rules.proofs.WordColumns.{columns-low, outside-none, outside-parts}
 use Rattle.terms.specs.declared.Field.{Field}
-use Rattle.terms.specs.Meaning.{fieldOf, noField, utilityOf, fieldsIn, fieldCards, Means}
+use Rattle.terms.specs.Meaning.{formatOf, fieldOf, noField, utilityOf, fieldsIn, fieldCards, Means, OneSize as TermSize}
+use Rattle.rows.specs.Kept.{fieldFor, rowFields}
+use Rattle.rows.proofs.KeptLaws.{fields-meant, one-size}
+use Rattle.rows.proofs.RowLaws.{fields-back}
 use Rattle.readers.specs.Meaning.{OneSize}
 use Rattle.cards.specs.declared.Parameters.{Parameters}
+use Rattle.cards.specs.declared.Outside.{Outside}
+use Rattle.cards.specs.declared.Noted.{Noted}
 use Rattle.cards.specs.declared.Selected.{Selected}
 use Rattle.cards.specs.declared.Verdict.{Verdict}
-use Rattle.cards.specs.Selected.{fieldFor}
-use Rattle.cards.specs.Parameters.{hasSeen, givenOf, Notes}
-use Rattle.cards.specs.Verdict.{isComplete, utilityIn, verdict, orNoted, limitsOf, verdictOf, askedFor, judgedAs}
+use Rattle.cards.specs.Selected.{noSelection, withCards}
+use Rattle.cards.specs.Parameters.{hasSeen, givenOf, Notes, NotesOutside}
+use Rattle.cards.specs.Verdict.{isComplete, utilityIn, uOutside, verdict, orNoted, orColumn, limitsOf, verdictOf, askedFor, judgedAs}
 use Rattle.cards.specs.Promise.{Accepts, Said}
-use Rattle.cards.proofs.FieldLaws.{fields-meant, one-size}
+use Rattle.cards.proofs.CopySizes.{sizes-read}
 use Rattle.cards.proofs.ListSteps.{padded-few, cards-length}
-use Rattle.cards.proofs.SelectedLaws.{allFields, manyFields, Holds}
+use Rattle.cards.proofs.NotedLaws.{allFields, manyFields, limited}
+use Rattle.cards.proofs.RowLaws.{Holds}
+use Rattle.cards.proofs.ColumnLaws.{cv-column, number-column}
 
 -- ---- refusal 5
 
@@ -47,70 +67,153 @@ complete-given p = go (hasSeen p 0) (hasSeen p 1) (hasSeen p 2) (hasSeen p 3) re
 -- ---- one after another
 
 -- refusals 4 to 7 of cards that all could be read
-abbrev pub judging : Cards → Answer RuleAsked
-judging c = once c >> (complete (given (c .parameters)) >>= λ u. limits u (c .items) >> fine (record { utility = u; cards = c .items }))
+abbrev pub judging : Operands → Cards → Answer RuleAsked
+judging os c = once os c >> (complete (given (c .parameters)) >>= λ u. limits os c u >> fine (record { utility = u; cards = c .items }))
 
 abbrev answerOf : {A : Type 0} → Verdict → A → Answer A
-answerOf v a = cond (eqb (v .number) 0) (fine a) (refused (v .number) (v .place))
+answerOf v a = cond (eqb (v .number) 0) (fine a) (refusedAt (v .number) (v .place) (v .column))
+
+-- a card that was noted, and a column of the U card that was noted, where 0 is none
+abbrev cardNoted : ℕ → ℕ → ℕ → Answer Unit
+cardNoted number zero column = fine tt
+cardNoted number (suc card) column = refusedAt number (suc card) column
+
+abbrev columnNoted : ℕ → ℕ → Answer Unit
+columnNoted number zero = fine tt
+columnNoted number (suc column) = refusedAt number 1 (suc column)
+
+card-noted : (column : ℕ → ℕ) (number card c : ℕ) → ((card ≡ 0 → ⊥) → c ≡ column card) → located column (noted number card) ≡ cardNoted number card c
+card-noted column number zero c h = refl
+card-noted column number (suc card) c h = ap (refusedAt {A = Unit} number (suc card)) (sym (h (λ z. omega arith)))
+
+column-noted : (number c : ℕ) (t : Bool) → eqb c 0 ≡ t → located (λ p. c) (unless t number 1) ≡ columnNoted number c
+unfolding unless
+column-noted number zero true e = refl
+column-noted number zero false e = absurd (true≢false e)
+column-noted number (suc c) true e = absurd (true≢false (sym e ∙ ne-eqb (suc c) 0 (λ q. omega arith)))
+column-noted number (suc c) false e = refl
 
 -- the tests, each as it was noted
-order-of : {A : Type 0} (twice : Bool) (second : ℕ) (full : Bool) (over : ℕ) (within : Utility → Bool) (beyond : ℕ) (u : Utility) (f : Utility → A)
-    → ((unless (not twice) 4 1 >> noted 4 second) >> (cond full (fine u) (refused 5 1) >>= λ v. (noted 6 over >> (unless (within v) 7 1 >> noted 7 beyond)) >> fine (f v)))
-    ≡ answerOf (cond twice (verdict 4 1) (orNoted 4 second (cond full (orNoted 6 over (cond (within u) (orNoted 7 beyond (verdict 0 0)) (verdict 7 1))) (verdict 5 1)))) (f u)
-unfolding _>>=_ _>>_ unless
-order-of true second full over within beyond u f = refl
-order-of false (suc k) full over within beyond u f = rw (ne-eqb (suc k) 0 (λ q. omega arith))
-order-of false zero false over within beyond u f = refl
-order-of false zero true (suc k) within beyond u f = rw (ne-eqb (suc k) 0 (λ q. omega arith))
-order-of false zero true zero within beyond u f = go (within u) refl beyond
-  where
-    go : (t : Bool) → within u ≡ t → (beyond : ℕ)
-        → ((unless (within u) 7 1 >> noted 7 beyond) >> fine (f u)) ≡ answerOf (cond (within u) (orNoted 7 beyond (verdict 0 0)) (verdict 7 1)) (f u)
-    go false t beyond = rw t
-    go true t zero = rw t
-    go true t (suc k) = rw (t, ne-eqb (suc k) 0 (λ q. omega arith))
+limits-order : {A : Type 0} (over out beyond column : ℕ) (a : A)
+    → ((noted 6 over >> (columnNoted 7 out >> cardNoted 7 beyond column)) >> fine a) ≡ answerOf (orNoted 6 over 0 (orColumn 7 out (orNoted 7 beyond column (verdict 0 0 0)))) a
+unfolding _>>_
+limits-order (suc k) out beyond column a = rw (ne-eqb (suc k) 0 (λ q. omega arith))
+limits-order zero (suc k) beyond column a = rw (ne-eqb (suc k) 0 (λ q. omega arith))
+limits-order zero zero (suc k) column a = rw (ne-eqb (suc k) 0 (λ q. omega arith))
+limits-order zero zero zero column a = refl
 
-module _ (p : Parameters) (s : Selected) (ps : List Parameter) (cs : List (List Item)) (n : Notes p ps) (h : Holds s cs) where
+once-order : {A : Type 0} (twice second column : ℕ) (later : Answer A) (v : Verdict) (a : A) → (twice ≡ 0 → later ≡ answerOf v a)
+    → ((columnNoted 4 twice >> cardNoted 4 second column) >> later) ≡ answerOf (orColumn 4 twice (orNoted 4 second column v)) a
+unfolding _>>_
+once-order (suc k) second column later v a h = rw (ne-eqb (suc k) 0 (λ q. omega arith))
+once-order zero (suc k) column later v a h = rw (ne-eqb (suc k) 0 (λ q. omega arith))
+once-order zero zero column later v a h = h refl
+
+-- numbers with the same limits
+outside-same : {A : Type 0} (f g : A → List Limit) → ((a : A) → f a ≡ g a) → (c : ℕ) (ws : List (Worded A)) → outsideAmong f c ws ≡ outsideAmong g c ws
+outside-same f g h c [] = refl
+outside-same f g h c (w ∷ ws) =
+    λ i. firstOf (outsideColumn (numberColumns false c (w .text)) (h (w .value) i)) (outside-same f g h (c + suc (length (w .text))) ws i)
+
+module _ (os : Operands) (p : Parameters) (o : Outside) (ws : List (Worded Parameter)) (t : UText (os .u) (valuesOf ws)) (same : uWords (os .u) ≡ ws)
+    (n : Notes (suc (os .before)) p ws) (nums : NotesOutside (suc (os .before)) o ws) (s : Selected) (is : s ≡ withCards 2 (map fsWords (os .fs)) noSelection)
+    (cs : List (List Item)) (b : Both FsText (os .fs) cs) (h : Holds s cs) where
+  abbrev ps : List Parameter
+  ps = valuesOf ws
+
   abbrev theCards : Cards
   theCards = record { parameters = ps; items = cs }
 
   abbrev theAsked : RuleAsked
   theAsked = record { utility = utilityIn p; cards = cs }
 
-  distinct-is : distinct (map letter ps) ≡ not (p .twice)
-  distinct-is = sym (Bool·not-not (distinct (map letter ps))) ∙ ap not (sym (n .twice))
+  abbrev k : Noted
+  k = s .noted
+
+  abbrev first : ℕ
+  first = suc (os .before)
 
   complete-is : complete (given ps) ≡ cond (isComplete p) (fine (utilityIn p)) (refused 5 1)
   complete-is = ap complete (sym (n .given)) ∙ complete-given p
 
-  judging-is : judging theCards ≡ answerOf (verdictOf p (s .noted)) theAsked
-  unfolding once limits limitsOf verdictOf
+  -- refusal 4
+  twice-is : located (λ q. againColumn sameLetter [] first (uWords (os .u))) (unless (distinct (map letter ps)) 4 1) ≡ columnNoted 4 (p .twice)
+  twice-is =
+      ap (λ (c : ℕ). located (λ q. c) (unless (distinct (map letter ps)) 4 1)) (ap (againColumn sameLetter [] first) same ∙ sym (n .twice))
+      ∙ column-noted 4 (p .twice) (distinct (map letter ps)) (n .once)
+
+  second-is : located (cvColumn [] 2 (os .fs)) (upTo 4 1 cvs 0 2 cs) ≡ cardNoted 4 (k .«second_cv») (k .«second_column»)
+  second-is =
+      ap (located (cvColumn [] 2 (os .fs))) (sym (h .rowed .tells .twice))
+      ∙ card-noted (cvColumn [] 2 (os .fs)) 4 (k .«second_cv») (k .«second_column»)
+      (subst (λ (x : Selected). (x .noted .«second_cv» ≡ 0 → ⊥) → x .noted .«second_column» ≡ cvColumn [] 2 (os .fs) (x .noted .«second_cv»)) (sym is) (cv-column (os .fs)))
+
+  -- refusal 7
+  beyond-is : located (fieldColumn 2 (os .fs) cs) (each 7 limited 2 cs) ≡ cardNoted 7 (k .beyond) (k .«beyond_column»)
+  beyond-is =
+      ap (located (fieldColumn 2 (os .fs) cs)) (sym (h .rowed .tells .beyond))
+      ∙ card-noted (fieldColumn 2 (os .fs) cs) 7 (k .beyond) (k .«beyond_column»)
+      (subst (λ (x : Selected). (x .noted .beyond ≡ 0 → ⊥) → x .noted .«beyond_column» ≡ fieldColumn 2 (os .fs) cs (x .noted .beyond)) (sym is) (number-column (os .fs) cs b))
+
+  parts : UParts (os .u) ws
+  parts = subst (UParts (os .u)) same (u-worded (os .u) ps t .0)
+
+  column-of : (f : Format) → outsideColumn (numberColumns false first (os .u)) (joined (map (parameterNumbers f) ps)) ≡ uOutside f o
+  column-of f = outside-parts "," 44 refl refl ParameterText (parameterNumbers f) (λ x a t c. parameter-count c f t) parts first (omega arith) ∙ go f
+    where
+      go : (f : Format) → outsideAmong (parameterNumbers f) first ws ≡ uOutside f o
+      go ff = sym (nums .plain)
+      go fv = sym (nums .variable)
+      go fu = outside-same (parameterNumbers fu) (parameterNumbers ff) numbers-fu first ws ∙ sym (nums .plain)
+
+  numbers-is : p .twice ≡ 0 → (u : Utility) → complete (given ps) ≡ fine u
+      → located (λ q. outsideColumn (numberColumns false first (os .u)) (joined (map (parameterNumbers (u .format)) ps))) (unless (utilityLimits u) 7 1) ≡ columnNoted 7 (uOutside (u .format) o)
+  numbers-is z u e =
+      let single : Twice ps → ⊥ = λ (w : Twice ps). true≢false (sym (ap (λ (c : ℕ). eqb c 0) z) ∙ n .once ∙ of-twice ps w) in
+      let q : eqb (uOutside (u .format) o) 0 ≡ utilityLimits u
+      = ap (λ (c : ℕ). eqb c 0) (sym (column-of (u .format)))
+      ∙ outside-none (numberColumns false first (os .u)) (joined (map (parameterNumbers (u .format)) ps)) (u-count (u .format) first (os .u) ps t) (columns-low false first (os .u) (omega arith))
+      ∙ sym (utility-exactly ps u single (complete-fine ps u e)) in
+      ap (λ (c : ℕ). located (λ q. c) (unless (utilityLimits u) 7 1)) (column-of (u .format)) ∙ column-noted 7 (uOutside (u .format) o) (utilityLimits u) q
+
+  judging-is : judging os theCards ≡ answerOf (verdictOf p o k) theAsked
+  unfolding once limits limitsOf verdictOf utilityIn _>>=_
   judging-is =
-      rw (distinct-is, complete-is, ← h .tells .over, ← h .tells .twice, ← h .tells .beyond)
-      (order-of (p .twice) (s .noted .«second_cv») (isComplete p) (s .noted .«sixty_fifth») utilityLimits (s .noted .beyond) (utilityIn p) (λ u. record { utility = u; cards = cs }))
+      (λ i. (twice-is i >> second-is i) >> (complete (given ps) >>= rest))
+      ∙ once-order (p .twice) (k .«second_cv») (k .«second_column») (complete (given ps) >>= rest)
+      (cond (isComplete p) (orNoted 6 (k .«sixty_fifth») 0 (orColumn 7 (uOutside (formatOf (p .format)) o) (orNoted 7 (k .beyond) (k .«beyond_column») (verdict 0 0 0)))) (verdict 5 1 0)) theAsked
+      (λ z. go z (isComplete p) refl)
+    where
+      rest : Utility → Answer RuleAsked
+      rest u = limits os theCards u >> fine (record { utility = u; cards = cs })
+
+      go : p .twice ≡ 0 → (full : Bool) → isComplete p ≡ full → (complete (given ps) >>= rest)
+          ≡ answerOf (cond (isComplete p) (orNoted 6 (k .«sixty_fifth») 0 (orColumn 7 (uOutside (formatOf (p .format)) o) (orNoted 7 (k .beyond) (k .«beyond_column») (verdict 0 0 0)))) (verdict 5 1 0)) theAsked
+      go z false e =
+          let c : complete (given ps) ≡ refused 5 1 = complete-is ∙ ap (λ (x : Bool). cond x (fine (utilityIn p)) (refused 5 1)) e in
+          rw (c, e) refl
+      go z true e =
+          let c : complete (given ps) ≡ fine (utilityIn p) = complete-is ∙ ap (λ (x : Bool). cond x (fine (utilityIn p)) (refused 5 1)) e in
+          rw (c, e)
+          ((λ i. (sym (h .rowed .tells .over) i >> (numbers-is z (utilityIn p) c i >> beyond-is i)) >> fine theAsked)
+          ∙ limits-order (k .«sixty_fifth») (uOutside (formatOf (p .format)) o) (k .beyond) (k .«beyond_column») theAsked)
 
   -- ---- what is asked for, where nothing is refused
 
-  module _ (fs : ℕ) (many : fs ≡ length cs) (few : length (allFields cs) ≤ 64) where
-    count-is : s .noted .count ≡ length (allFields cs)
-    count-is = omega (arith, h .tells .count)
+  module _ (fs : ℕ) (many : fs ≡ length cs) (few : length (allFields cs) ≤ 64) (right : every fieldLimits (allFields cs) ≡ true) where
+    count-is : k .count ≡ length (allFields cs)
+    count-is = omega (arith, h .rowed .tells .count)
 
-    kept-length : length (map fieldFor (allFields cs)) ≡ s .noted .count
-    kept-length = length-map (allFields cs) fieldFor ∙ sym count-is
+    kept : rowFields (s .row) (k .count) ≡ map fieldFor (allFields cs) ++ replicate (64 - k .count) noField
+    kept = fields-back (allFields cs) (s .row) (k .count) (h .rowed .row right few) count-is few
 
-    kept : s .fields ≡ map fieldFor (allFields cs) ++ replicate (64 - s .noted .count) noField
-    kept =
-        h .fields
-        ∙ padded-few 64 noField (map fieldFor (allFields cs)) (omega (arith, kept-length, count-is))
-        ∙ ap (λ (k : ℕ). map fieldFor (allFields cs) ++ replicate (64 - k) noField) kept-length
+    first-fields : take (k .count) (rowFields (s .row) (k .count)) ≡ map fieldFor (allFields cs)
+    first-fields = ap (take (k .count)) kept ∙ take-at (map fieldFor (allFields cs)) (replicate (64 - k .count) noField) (k .count) (length-map (allFields cs) fieldFor ∙ sym count-is)
 
-    first-fields : take (s .noted .count) (s .fields) ≡ map fieldFor (allFields cs)
-    first-fields = ap (take (s .noted .count)) kept ∙ take-at (map fieldFor (allFields cs)) (replicate (64 - s .noted .count) noField) (s .noted .count) kept-length
-
-    cards-are : s .cards ≡ fieldCards 2 cs ++ replicate (64 - s .noted .count) 0
+    cards-are : s .cards ≡ fieldCards 2 cs ++ replicate (64 - k .count) 0
     cards-are =
-        let l : length (fieldCards 2 cs) ≡ s .noted .count = cards-length 2 cs ∙ sym count-is in
-        h .cards ∙ padded-few 64 0 (fieldCards 2 cs) (omega (arith, count-is)) ∙ ap (λ (k : ℕ). fieldCards 2 cs ++ replicate (64 - k) 0) l
+        let l : length (fieldCards 2 cs) ≡ k .count = cards-length 2 cs ∙ sym count-is in
+        h .cards ∙ padded-few 64 0 (fieldCards 2 cs) (omega (arith, count-is)) ∙ ap (λ (j : ℕ). fieldCards 2 cs ++ replicate (64 - j) 0) l
 
     means-asked : Means (askedFor p s fs) theAsked
     unfolding askedFor utilityOf fieldsIn utilityIn
@@ -119,46 +222,52 @@ module _ (p : Parameters) (s : Selected) (ps : List Parameter) (cs : List (List 
           utility = refl;
           fields = ap (map fieldOf) first-fields ∙ fields-meant (allFields cs);
           few = omega (arith, count-is);
-          many = kept ∙ sym (ap (λ (l : List Field). l ++ replicate (64 - s .noted .count) noField) first-fields);
+          many = kept ∙ sym (ap (λ (l : List Field). l ++ replicate (64 - k .count) noField) first-fields);
           cards = cards-are;
           fs = many;
-          cv = h .tells .cv;
+          cv = h .rowed .tells .cv;
         }
 
     one-sizes : (l : List RuleField) → All (λ f. OneSize (f .kind) (f .input) (f .output)) (map fieldFor l)
-    one-sizes [] = noMore
-    one-sizes (f ∷ l) = also (one-size f) (one-sizes l)
+    one-sizes l = sizes-read (all-sizes l)
+      where
+        all-sizes : (l : List RuleField) → All TermSize (map fieldFor l)
+        all-sizes [] = noMore
+        all-sizes (f ∷ l) = also (one-size f) (all-sizes l)
 
-    accepts : Accepts (record { refusal = 0; place = 0; asked = askedFor p s fs }) theAsked
+    accepts : Accepts (record { refusal = 0; place = 0; column = 0; asked = askedFor p s fs }) theAsked
     unfolding askedFor
     accepts =
         record {
           refusal = refl;
           place = refl;
+          column = refl;
           means = means-asked;
           count = count-is;
           sizes = subst (All (λ f. OneSize (f .kind) (f .input) (f .output))) (sym first-fields) (one-sizes (allFields cs));
         }
 
-  -- where nothing is refused there are at most 64 fields
-  few-fields : judging theCards ≡ fine theAsked → length (allFields cs) ≤ 64
+  -- where nothing is refused there are at most 64 fields, with all numbers within their limits
+  fair-fields : judging os theCards ≡ fine theAsked → (length (allFields cs) ≤ 64) × (every fieldLimits (allFields cs) ≡ true)
   unfolding limits
-  few-fields e =
+  fair-fields e =
       let s1 = then-fine _ _ theAsked e in
       let s2 = bind-fine _ _ theAsked (s1 .1) in
       let s3 = then-fine _ _ theAsked (s2 .2) in
       let s4 = then-fine _ _ tt (s3 .0) in
-      omega (arith, upTo-fine 6 64 manyFields 0 2 cs (omega arith) (s4 .0), total-fields cs)
+      let s5 = then-fine _ _ tt (s4 .1) in
+      (omega (arith, upTo-fine 6 64 manyFields 0 2 cs (omega arith) (s4 .0), total-fields cs), all-every fieldLimits (all-fields fieldLimits cs (each-fine 7 _ 2 cs (located-fine _ _ tt (s5 .1)))))
 
-  pub judged-said : (fs : ℕ) → fs ≡ length cs → Said (judging theCards) (judgedAs p s fs)
+  pub judged-said : (fs : ℕ) → fs ≡ length cs → Said (judging os theCards) (judgedAs p o s fs)
   unfolding judgedAs
-  judged-said fs m = go (eqb (verdictOf p (s .noted) .number) 0) refl
+  judged-said fs m = go (eqb (verdictOf p o k .number) 0) refl
     where
-      go : (t : Bool) → eqb (verdictOf p (s .noted) .number) 0 ≡ t → Said (judging theCards) (judgedAs p s fs)
+      go : (t : Bool) → eqb (verdictOf p o k .number) 0 ≡ t → Said (judging os theCards) (judgedAs p o s fs)
       go true e =
-          let j : judging theCards ≡ fine theAsked = judging-is ∙ ap (λ (t : Bool). cond t (fine theAsked) (refused (verdictOf p (s .noted) .number) (verdictOf p (s .noted) .place))) e in
-          subst (λ (x : Answer RuleAsked). Said x (judgedAs p s fs)) (sym j) (rw e (accepts fs m (few-fields j)))
+          let j : judging os theCards ≡ fine theAsked = judging-is ∙ ap (λ (t : Bool). cond t (fine theAsked) (refusedAt (verdictOf p o k .number) (verdictOf p o k .place) (verdictOf p o k .column))) e in
+          let g = fair-fields j in
+          subst (λ (x : Answer RuleAsked). Said x (judgedAs p o s fs)) (sym j) (rw e (accepts fs m (g .0) (g .1)))
       go false e =
-          let j : judging theCards ≡ refused (verdictOf p (s .noted) .number) (verdictOf p (s .noted) .place)
-          = judging-is ∙ ap (λ (t : Bool). cond t (fine theAsked) (refused (verdictOf p (s .noted) .number) (verdictOf p (s .noted) .place))) e in
-          subst (λ (x : Answer RuleAsked). Said x (judgedAs p s fs)) (sym j) (rw e)
+          let j : judging os theCards ≡ refusedAt (verdictOf p o k .number) (verdictOf p o k .place) (verdictOf p o k .column)
+          = judging-is ∙ ap (λ (t : Bool). cond t (fine theAsked) (refusedAt (verdictOf p o k .number) (verdictOf p o k .place) (verdictOf p o k .column))) e in
+          subst (λ (x : Answer RuleAsked). Said x (judgedAs p o s fs)) (sym j) (rw e)

@@ -2,17 +2,19 @@
 use mathlib.Core.Path.{_≡_}
 use mathlib.Core.List.{List, [], _∷_, map}
 use mathlib.Core.Option.{Option, none, some}
-use Prim.Native.Nat.{ℕ, suc, _≤_, _<_}
+use Prim.Native.Nat.{ℕ, _-_, _≤_, _<_}
 use lib.ListN.{length, drop}
 use lib.Seq.{slice}
 use Rattle.rules.specs.Answer.{Answer, fine, refuse}
 use Rattle.rules.specs.Deck.{lines, Card, uCard, fsCard, endCard, cardOf}
 use Rattle.rules.specs.Grammar.{Item}
+use Rattle.rules.specs.Words.{fsWords}
+use Rattle.rules.specs.Asked.{itemsFrom}
 use Rattle.cards.specs.declared.CardAt.{CardAt}
 use Rattle.cards.specs.declared.CardAt.the-variants.{UAt, FsAt, NoOperand}
 use Rattle.cards.specs.declared.Selected.{Selected}
 use Rattle.cards.specs.declared.FsCards.{FsCards}
-use Rattle.cards.specs.Selected.{withItems}
+use Rattle.cards.specs.Selected.{withCards}
 
 -- what card each line is
 abbrev pub cardsIn : List ℕ → List (Option Card)
@@ -22,7 +24,7 @@ cardsIn deck = map cardOf (lines deck)
 abbrev pub fsFirst : List (Option Card) → List (List ℕ)
 fsFirst [] = []
 fsFirst (none ∷ cs) = []
-fsFirst (some (uCard o) ∷ cs) = []
+fsFirst (some (uCard b o) ∷ cs) = []
 fsFirst (some (fsCard o) ∷ cs) = o ∷ fsFirst cs
 fsFirst (some endCard ∷ cs) = []
 
@@ -38,23 +40,21 @@ pub record OperandAt (card : List ℕ → Card) (deck : List ℕ) (at start end 
 abbrev pub Operandless : List (Option Card) → Type 0
 Operandless [] = Unit
 Operandless (none ∷ cs) = Unit
-Operandless (some (uCard o) ∷ cs) = ⊥
+Operandless (some (uCard b o) ∷ cs) = ⊥
 Operandless (some (fsCard o) ∷ cs) = ⊥
 Operandless (some endCard ∷ cs) = Unit
 
 abbrev pub CardAtSays : List ℕ → ℕ → CardAt → Type 0
-CardAtSays deck at (UAt start end next) = OperandAt uCard deck at start end next
+CardAtSays deck at (UAt start end next) = OperandAt (uCard (start - at)) deck at start end next
 CardAtSays deck at (FsAt start end next) = OperandAt fsCard deck at start end next
 CardAtSays deck at NoOperand = Operandless (cardsIn (drop at deck))
 
 -- ---- FS cards
 
--- the items of the cards from a card on, one card after another
-abbrev pub withCards : ℕ → List (List Item) → Selected → Selected
-withCards card [] st = st
-withCards card (c ∷ cs) st = withCards (suc card) cs (withItems card c st)
+-- what was read of the FS cards with these operands, from a card on: the items of all of them, or the first card that could not be read, and where it stopped
+abbrev pub FsRead : ℕ → Selected → List (List ℕ) → Answer (List (List Item)) → FsCards → Type 0
+FsRead card st os (fine cs) r = (r .unread ≡ 0) × (r .state ≡ withCards card (map fsWords os) st)
+FsRead card st os (refuse x) r = (r .unread ≡ x .place) × (r .column ≡ x .column)
 
--- what was read from a card on: the items of all FS cards, or the first card that could not be read
-abbrev pub FsSaid : ℕ → Selected → Answer (List (List Item)) → FsCards → Type 0
-FsSaid card st (fine cs) r = (r .unread ≡ 0) × (r .state ≡ withCards card cs st)
-FsSaid card st (refuse x) r = r .unread ≡ x .place
+abbrev pub FsSaid : ℕ → Selected → List (List ℕ) → FsCards → Type 0
+FsSaid card st os r = FsRead card st os (itemsFrom card os) r

@@ -1,4 +1,5 @@
 pub mod Promise
+pub mod Limits
 pub mod Selected
 pub mod Parameters
 pub mod Verdict

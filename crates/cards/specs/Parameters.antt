@@ -1,25 +1,29 @@
 -- What the parameters of the U card have said so far, and what a parameter more makes of it.
 use mathlib.Core.Path.{_≡_}
-use mathlib.Core.Bool.{Bool, true, false, cond, not}
-use mathlib.Core.List.{List, map}
+use mathlib.Core.Bool.{Bool, true, false, cond}
+use mathlib.Core.List.{List, [], map}
 use mathlib.Core.Option.{Option, none, some}
-use Prim.Native.Nat.{ℕ, _<_}
+use Prim.Native.Nat.{ℕ}
+use lib.Dec.{eqb}
 use lib.ListN.{length, getD, set, replicate}
 use Rattle.rules.specs.Reader.{Read, read, stopped}
-use Rattle.rules.specs.Grammar.{Parameter}
-use Rattle.rules.specs.Asked.{letter, among, distinct, Given, given}
+use Rattle.rules.specs.Grammar.{Parameter, Format as RuleFormat, ff, fv}
+use Rattle.rules.specs.Words.{Worded, valuesOf, againColumn, outsideColumn, firstOf, outsideAmong}
+use Rattle.rules.specs.Asked.{letter, among, distinct, sameLetter, parameterNumbers, Given, given}
 use Rattle.terms.specs.Meaning.{modeOf, formatOf, sizeOf}
 use Rattle.terms.specs.declared.Mode.the-variants.{TC}
 use Rattle.terms.specs.declared.Format.the-variants.{FF}
 use Rattle.terms.specs.declared.Size.the-variants.{One}
 use Rattle.readers.specs.declared.UParameter.{UParameter}
 use Rattle.readers.specs.declared.UParameter.the-variants.{ModeIs, FormatIs, InputIs, OutputIs, RewindIn, RewindOut, FirstIs}
-use Rattle.readers.specs.Meaning.{parameterOf}
+use Rattle.readers.specs.Meaning.{parameterOf, parameterPlaces}
 use Rattle.cards.specs.declared.Parameters.{Parameters}
+use Rattle.cards.specs.declared.Outside.{Outside}
 use Rattle.cards.specs.declared.URead.{URead}
+use Rattle.cards.specs.Limits.{shifted, StopsAt}
 
 unfoldable pub noParameter : Parameters
-noParameter = record { mode = TC; format = FF; input = One 0; output = One 0; first = 1; seen = replicate 7 false; twice = false }
+noParameter = record { mode = TC; format = FF; input = One 0; output = One 0; first = 1; seen = replicate 7 false; twice = 0 }
 
 -- the part that a parameter gives; the letters of I and O say nothing
 unfoldable pub withPart : Parameters → UParameter → Parameters
@@ -44,16 +48,29 @@ withLetter st k =
       twice = st .twice;
     }
 
--- a letter has stood twice
-unfoldable pub withSecond : Parameters → Parameters
-withSecond st =
-    record { mode = st .mode; format = st .format; input = st .input; output = st .output; first = st .first; seen = st .seen; twice = true }
+-- a letter has stood before, and its parameter begins at this column
+unfoldable pub withSecond : Parameters → ℕ → Parameters
+withSecond st column =
+    record { mode = st .mode; format = st .format; input = st .input; output = st .output; first = st .first; seen = st .seen; twice = firstOf (st .twice) column }
 
 -- the first of a letter counts
-unfoldable pub withParameter : Parameters → UParameter → Parameters
-withParameter st p =
+unfoldable pub withParameter : Parameters → UParameter → ℕ → Parameters
+withParameter st p column =
     let k = letter (parameterOf p) in
-    cond (getD (st .seen) k false) (withSecond st) (withLetter (withPart st p) k)
+    cond (getD (st .seen) k false) (withSecond st column) (withLetter (withPart st p) k)
+
+-- ---- numbers outside their limits
+
+abbrev pub noneOutside : Outside
+noneOutside = record { plain = 0; variable = 0 }
+
+-- the column of a parameter's first number outside its limits, where F is this
+abbrev pub parameterOutside : RuleFormat → UParameter → ℕ → ℕ → ℕ
+parameterOutside f p second column = outsideColumn (shifted column (parameterPlaces p second)) (parameterNumbers f (parameterOf p))
+
+abbrev pub withNumbers : Outside → UParameter → ℕ → ℕ → Outside
+withNumbers o p second column =
+    record { plain = firstOf (o .plain) (parameterOutside ff p second column); variable = firstOf (o .variable) (parameterOutside fv p second column) }
 
 -- ---- what is noted means
 
@@ -74,14 +91,19 @@ givenOf st =
       first = st .first;
     }
 
--- what the rules say of these parameters
-pub record Notes (st : Parameters) (ps : List Parameter) : Type 0 where
+-- what the rules say of these parameters, the first of which begins at this column
+pub record Notes (column : ℕ) (st : Parameters) (ws : List (Worded Parameter)) : Type 0 where
   pub room : length (st .seen) ≡ 7
-  pub seen : (k : ℕ) → hasSeen st k ≡ among k (map letter ps)
-  pub twice : st .twice ≡ not (distinct (map letter ps))
-  pub given : givenOf st ≡ given ps
+  pub seen : (k : ℕ) → hasSeen st k ≡ among k (map letter (valuesOf ws))
+  pub once : eqb (st .twice) 0 ≡ distinct (map letter (valuesOf ws))
+  pub twice : st .twice ≡ againColumn sameLetter [] column ws
+  pub given : givenOf st ≡ given (valuesOf ws)
 
--- what was read of a U card: its parameters, or it could not be read
-abbrev pub UListed : Read (List Parameter) → URead → Type 0
-UListed (read ps left) r = (r .read ≡ true) × Notes (r .state) ps
-UListed (stopped left) r = r .read ≡ false
+pub record NotesOutside (column : ℕ) (o : Outside) (ws : List (Worded Parameter)) : Type 0 where
+  pub plain : o .plain ≡ outsideAmong (parameterNumbers ff) column ws
+  pub variable : o .variable ≡ outsideAmong (parameterNumbers fv) column ws
+
+-- what was read of a U card whose operand begins at this column: its parameters, or where it stopped
+abbrev pub UListed : ℕ → List ℕ → Read (List (Worded Parameter)) → URead → Type 0
+UListed column s (read ws left) r = (r .unread ≡ 0) × Notes column (r .state) ws × NotesOutside column (r .outside) ws
+UListed column s (stopped left) r = StopsAt column s left (r .unread)

@@ -32,13 +32,14 @@ nothingAsked =
       cv = 0;
     }
 
-unfoldable pub refusedDeck : ℕ → ℕ → DeckRead
-refusedDeck number place = record { refusal = number; place = place; asked = nothingAsked }
+unfoldable pub refusedDeck : ℕ → ℕ → ℕ → DeckRead
+refusedDeck number place column = record { refusal = number; place = place; column = column; asked = nothingAsked }
 
 -- the answer says what the cards ask for, and nothing else
 pub record Accepts (r : DeckRead) (a : RuleAsked) : Type 0 where
   pub refusal : r .refusal ≡ 0
   pub place : r .place ≡ 0
+  pub column : r .column ≡ 0
   pub means : Means (r .asked) a
   pub count : r .asked .count ≡ length (fieldsOf (joined (a .cards)))
   -- a copy's size stands in both places
@@ -46,7 +47,7 @@ pub record Accepts (r : DeckRead) (a : RuleAsked) : Type 0 where
 
 abbrev pub Said : Answer RuleAsked → DeckRead → Type 0
 Said (fine a) r = Accepts r a
-Said (refuse x) r = r ≡ refusedDeck (x .number) (x .place)
+Said (refuse x) r = r ≡ refusedDeck (x .number) (x .place) (x .column)
 
 abbrev pub DeckSays : List ℕ → DeckRead → Type 0
 DeckSays deck r = Said (askedOf deck) r

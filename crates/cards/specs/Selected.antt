@@ -1,108 +1,104 @@
--- What the FS cards have said so far, and what a field or a CV more makes of it.
-use mathlib.Core.Bool.{Bool, true, false, cond}
-use mathlib.Core.List.{List, [], _∷_}
-use Prim.Native.Nat.{ℕ, _+_}
+-- What the FS cards have said so far, and what an item more makes of it: what is noted, with columns, and the row that the fields go into.
+use mathlib.Core.Path.{_≡_}
+use mathlib.Core.Bool.{cond}
+use mathlib.Core.List.{List, [], _∷_, _++_}
+use Prim.Native.Nat.{ℕ, suc, _+_, _-_, _*_}
 use lib.Dec.{ltb, eqb}
-use lib.ListN.{set, replicate}
-use Rattle.rules.specs.Halves.{Kind as RuleKind, copy, pack, unpack, inputSize, outputSize, Field as RuleField}
+use lib.ListN.{length, take, drop, replicate}
+use Rattle.rules.specs.Halves.{Field as RuleField, over}
 use Rattle.rules.specs.Reader.{Read, read, stopped}
+use Rattle.rules.specs.Deck.{beforeFS}
 use Rattle.rules.specs.Grammar.{Item, field, cv}
-use Rattle.rules.specs.Asked.{fieldLimits}
-use Rattle.terms.specs.declared.Kind.{Kind}
-use Rattle.terms.specs.declared.Kind.the-variants.{Copy, Pack, Unpack}
+use Rattle.rules.specs.Words.{Worded, firstOf, outsideIn}
+use Rattle.rules.specs.Asked.{itemNumbers}
 use Rattle.terms.specs.declared.Field.{Field}
-use Rattle.terms.specs.Meaning.{fieldOf, noField}
-use Rattle.readers.specs.declared.ItemRead.{ItemRead}
-use Rattle.readers.specs.declared.ItemRead.the-variants.{IsField, IsCV, NoItem}
-use Rattle.cards.specs.declared.Selected.{Selected}
+use Rattle.terms.specs.Meaning.{fieldOf}
+use Rattle.rows.specs.Flat.{flatOf, Short}
 use Rattle.cards.specs.declared.Noted.{Noted}
+use Rattle.cards.specs.declared.ListRead.{ListRead}
+use Rattle.cards.specs.declared.Selected.{Selected}
+use Rattle.cards.specs.Limits.{StopsAt}
 
-unfoldable pub noSelection : Selected
-noSelection =
-    record {
-      fields = replicate 64 noField;
-      cards = replicate 64 0;
-      noted = record { count = 0; «sixty_fifth» = 0; cv = 0; «second_cv» = 0; beyond = 0 };
-    }
+-- ---- what is noted
 
--- the card that was noted first, where 0 is none
-abbrev pub firstCard : ℕ → ℕ → ℕ
-firstCard noted card = cond (eqb noted 0) card noted
+abbrev pub nothingNoted : Noted
+nothingNoted = record { count = 0; «sixty_fifth» = 0; cv = 0; «second_cv» = 0; «second_column» = 0; beyond = 0; «beyond_column» = 0 }
 
 -- a field more is counted; of the 65th its card is noted
 unfoldable pub counted : Noted → ℕ → Noted
 counted n card =
     cond (ltb (n .count) 64)
-    (record { count = n .count + 1; «sixty_fifth» = n .«sixty_fifth»; cv = n .cv; «second_cv» = n .«second_cv»; beyond = n .beyond })
-    (record { count = n .count; «sixty_fifth» = firstCard (n .«sixty_fifth») card; cv = n .cv; «second_cv» = n .«second_cv»; beyond = n .beyond })
+    (record { count = n .count + 1; «sixty_fifth» = n .«sixty_fifth»; cv = n .cv; «second_cv» = n .«second_cv»; «second_column» = n .«second_column»; beyond = n .beyond; «beyond_column» = n .«beyond_column» })
+    (record { count = n .count; «sixty_fifth» = firstOf (n .«sixty_fifth») card; cv = n .cv; «second_cv» = n .«second_cv»; «second_column» = n .«second_column»; beyond = n .beyond; «beyond_column» = n .«beyond_column» })
 
--- of the first field with a number outside its limits its card is noted
-unfoldable pub fieldNoted : Noted → ℕ → Field → Noted
-fieldNoted n card f =
+-- of the first field with a number outside its limits the card and the number's column are noted
+abbrev pub beyondNoted : Noted → ℕ → ℕ → Noted
+beyondNoted n card column =
+    record { count = n .count; «sixty_fifth» = n .«sixty_fifth»; cv = n .cv; «second_cv» = n .«second_cv»; «second_column» = n .«second_column»; beyond = card; «beyond_column» = column }
+
+unfoldable pub fieldNoted : Noted → ℕ → ℕ → Noted
+fieldNoted n card outside =
     let next = counted n card in
-    cond (fieldLimits (fieldOf f)) next
-    (record {
-      count = next .count;
-      «sixty_fifth» = next .«sixty_fifth»;
-      cv = next .cv;
-      «second_cv» = next .«second_cv»;
-      beyond = firstCard (n .beyond) card;
-    })
+    cond (eqb outside 0) next (cond (eqb (n .beyond) 0) (beyondNoted next card outside) next)
 
--- the cards of CV and of the second CV are noted
-unfoldable pub cvNoted : Noted → ℕ → Noted
-cvNoted n card =
-    cond (eqb (n .cv) 0)
-    (record { count = n .count; «sixty_fifth» = n .«sixty_fifth»; cv = card; «second_cv» = n .«second_cv»; beyond = n .beyond })
-    (record { count = n .count; «sixty_fifth» = n .«sixty_fifth»; cv = n .cv; «second_cv» = firstCard (n .«second_cv») card; beyond = n .beyond })
+-- the card of CV, and the card and column of the second CV, are noted
+abbrev pub firstNoted : Noted → ℕ → Noted
+firstNoted n card =
+    record { count = n .count; «sixty_fifth» = n .«sixty_fifth»; cv = card; «second_cv» = n .«second_cv»; «second_column» = n .«second_column»; beyond = n .beyond; «beyond_column» = n .«beyond_column» }
 
--- a field stands behind those before it, while there is room
-unfoldable pub withField : Selected → ℕ → Field → Selected
-withField st card f =
-    cond (ltb (st .noted .count) 64)
-    (record {
-      fields = set (st .fields) (st .noted .count) f;
-      cards = set (st .cards) (st .noted .count) card;
-      noted = fieldNoted (st .noted) card f;
-    })
-    (record { fields = st .fields; cards = st .cards; noted = fieldNoted (st .noted) card f })
+abbrev pub secondNoted : Noted → ℕ → ℕ → Noted
+secondNoted n card column =
+    record { count = n .count; «sixty_fifth» = n .«sixty_fifth»; cv = n .cv; «second_cv» = card; «second_column» = column; beyond = n .beyond; «beyond_column» = n .«beyond_column» }
 
-unfoldable pub withCV : Selected → ℕ → Selected
-withCV st card = record { fields = st .fields; cards = st .cards; noted = cvNoted (st .noted) card }
+unfoldable pub cvNoted : Noted → ℕ → ℕ → Noted
+cvNoted n card column = cond (eqb (n .cv) 0) (firstNoted n card) (cond (eqb (n .«second_cv») 0) (secondNoted n card column) n)
 
--- ---- what was read
+-- ---- the row
 
-abbrev pub itemNoted : Noted → ℕ → ItemRead → Noted
-itemNoted n card (IsField f used) = fieldNoted n card f
-itemNoted n card (IsCV used) = cvNoted n card
-itemNoted n card (NoItem at) = n
+-- 16 bits hold the numbers of a field that are within their limits
+abbrev pub Keepable : Field → ℕ → Type 0
+Keepable f outside = outside ≡ 0 → Short (fieldOf f)
 
--- how many bytes an item took, of so many that are left
-abbrev pub takenOf : ℕ → ItemRead → ℕ
-takenOf left (IsField f used) = used
-takenOf left (IsCV used) = used
-takenOf left (NoItem at) = left
+-- a field goes behind those before it, while there is room; one with a number outside its limits does not
+unfoldable pub keptRow : ℕ → ℕ → RuleField → List ℕ → List ℕ
+keptRow count outside f row = cond (eqb outside 0) (cond (ltb count 64) (over (5 * count) (flatOf (f ∷ [])) row) row) row
 
-abbrev pub isRead : {A : Type 0} → Read A → Bool
-isRead (read a left) = true
-isRead (stopped left) = false
+-- ---- the items of a card
 
--- ---- the items of cards
+-- what is noted, and the row
+abbrev pub Taken : Type 0
+Taken = Noted × List ℕ
 
-abbrev pub kindFor : RuleKind → Kind
-kindFor (copy s) = Copy
-kindFor (pack n m) = Pack
-kindFor (unpack n m) = Unpack
+-- an item that begins at this column
+unfoldable pub withItem : ℕ → ℕ → ℕ → Item → Taken → Taken
+withItem card column outside (field f) t = (fieldNoted (t .0) card outside, keptRow (t .0 .count) outside f (t .1))
+withItem card column outside cv t = (cvNoted (t .0) card column, t .1)
 
--- the field as it is kept: a copy's size stands in both places
-unfoldable pub fieldFor : RuleField → Field
-fieldFor f = record { kind = kindFor (f .kind); r = f .r; input = inputSize (f .kind); output = outputSize (f .kind); t = f .t }
+abbrev pub withWords : ℕ → ℕ → List (Worded Item) → Taken → Taken
+withWords card column [] t = t
+withWords card column (w ∷ ws) t =
+    withWords card (column + suc (length (w .text))) ws (withItem card column (outsideIn itemNumbers column w) (w .value) t)
 
-unfoldable pub withItem : ℕ → Item → Selected → Selected
-withItem card (field f) st = withField st card (fieldFor f)
-withItem card cv st = withCV st card
+-- what a list, or a rest, gives: of a text that begins at a column, whose first item begins at column b
+abbrev pub ListSays : ℕ → ℕ → ℕ → Taken → List ℕ → Read (List (Worded Item)) → ListRead → List ℕ → Type 0
+ListSays card b column t s (read ws left) r row = (r .unread ≡ 0) × (r .noted ≡ withWords card b ws t .0) × (row ≡ withWords card b ws t .1)
+ListSays card b column t s (stopped left) r row = StopsAt column s left (r .unread)
 
--- the items of a card, one after another
-abbrev pub withItems : ℕ → List Item → Selected → Selected
-withItems card [] st = st
-withItems card (i ∷ is) st = withItems card is (withItem card i st)
+-- ---- the cards
+
+-- the fields from one on to before another stand on this card
+unfoldable pub onCard : List ℕ → ℕ → ℕ → ℕ → List ℕ
+onCard cards from to card = take from cards ++ (replicate (to - from) card ++ drop to cards)
+
+unfoldable pub noSelection : Selected
+noSelection = record { row = replicate 320 0; cards = replicate 64 0; noted = nothingNoted }
+
+unfoldable pub withCard : ℕ → List (Worded Item) → Selected → Selected
+withCard card ws st =
+    let t = withWords card (suc beforeFS) ws (st .noted, st .row) in
+    record { row = t .1; cards = onCard (st .cards) (st .noted .count) (t .0 .count) card; noted = t .0 }
+
+-- the cards from a card on, one after another
+abbrev pub withCards : ℕ → List (List (Worded Item)) → Selected → Selected
+withCards card [] st = st
+withCards card (ws ∷ cs) st = withCards (suc card) cs (withCard card ws st)

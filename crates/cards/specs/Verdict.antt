@@ -2,10 +2,13 @@
 use mathlib.Core.Bool.{Bool, cond, _&&_}
 use Prim.Native.Nat.{ℕ}
 use lib.Dec.{eqb}
-use Rattle.rules.specs.Asked.{Utility, utilityLimits}
+use Rattle.rules.specs.Grammar.{Format, ff, fv, fu}
+use Rattle.rules.specs.Asked.{Utility}
 use Rattle.terms.specs.declared.Asked.{Asked}
 use Rattle.terms.specs.Meaning.{modeOf, formatOf, sizeOf}
+use Rattle.rows.specs.Kept.{rowFields}
 use Rattle.cards.specs.declared.Parameters.{Parameters}
+use Rattle.cards.specs.declared.Outside.{Outside}
 use Rattle.cards.specs.declared.Noted.{Noted}
 use Rattle.cards.specs.declared.Selected.{Selected}
 use Rattle.cards.specs.declared.Verdict.{Verdict}
@@ -21,27 +24,33 @@ isComplete p = hasSeen p 0 && hasSeen p 1 && hasSeen p 2 && hasSeen p 3
 unfoldable pub utilityIn : Parameters → Utility
 utilityIn p = record { mode = modeOf (p .mode); format = formatOf (p .format); input = sizeOf (p .input); output = sizeOf (p .output); first = p .first }
 
-abbrev pub verdict : ℕ → ℕ → Verdict
-verdict number place = record { number = number; place = place }
+-- the column of its first number outside its limits
+abbrev pub uOutside : Format → Outside → ℕ
+uOutside ff o = o .plain
+uOutside fv o = o .variable
+uOutside fu o = o .plain
 
--- a card that was noted
-abbrev pub orNoted : ℕ → ℕ → Verdict → Verdict
-orNoted number card next = cond (eqb card 0) next (verdict number card)
+abbrev pub verdict : ℕ → ℕ → ℕ → Verdict
+verdict number place column = record { number = number; place = place; column = column }
+
+-- a card that was noted, with a column
+abbrev pub orNoted : ℕ → ℕ → ℕ → Verdict → Verdict
+orNoted number card column next = cond (eqb card 0) next (verdict number card column)
+
+-- a column of the U card that was noted
+abbrev pub orColumn : ℕ → ℕ → Verdict → Verdict
+orColumn number column next = cond (eqb column 0) next (verdict number 1 column)
 
 -- refusals 6 and 7
-unfoldable pub limitsOf : Parameters → Noted → Verdict
-limitsOf p n =
-    orNoted 6 (n .«sixty_fifth»)
-    (cond (utilityLimits (utilityIn p))
-    (orNoted 7 (n .beyond) (verdict 0 0))
-    (verdict 7 1))
+unfoldable pub limitsOf : Format → Outside → Noted → Verdict
+limitsOf f o n = orNoted 6 (n .«sixty_fifth») 0 (orColumn 7 (uOutside f o) (orNoted 7 (n .beyond) (n .«beyond_column») (verdict 0 0 0)))
 
 -- the lowest number first, and of one number the U card before the FS cards
-unfoldable pub verdictOf : Parameters → Noted → Verdict
-verdictOf p n =
-    cond (p .twice) (verdict 4 1)
-    (orNoted 4 (n .«second_cv»)
-    (cond (isComplete p) (limitsOf p n) (verdict 5 1)))
+unfoldable pub verdictOf : Parameters → Outside → Noted → Verdict
+verdictOf p o n =
+    orColumn 4 (p .twice)
+    (orNoted 4 (n .«second_cv») (n .«second_column»)
+    (cond (isComplete p) (limitsOf (formatOf (p .format)) o n) (verdict 5 1 0)))
 
 -- what the cards ask for, where they are not refused
 unfoldable pub askedFor : Parameters → Selected → ℕ → Asked
@@ -52,7 +61,7 @@ askedFor p s fs =
       input = p .input;
       output = p .output;
       first = p .first;
-      fields = s .fields;
+      fields = rowFields (s .row) (s .noted .count);
       cards = s .cards;
       count = s .noted .count;
       fs = fs;
@@ -60,7 +69,7 @@ askedFor p s fs =
     }
 
 -- the deck whose cards all could be read
-unfoldable pub judgedAs : Parameters → Selected → ℕ → DeckRead
-judgedAs p s fs =
-    let v = verdictOf p (s .noted) in
-    cond (eqb (v .number) 0) (record { refusal = 0; place = 0; asked = askedFor p s fs }) (refusedDeck (v .number) (v .place))
+unfoldable pub judgedAs : Parameters → Outside → Selected → ℕ → DeckRead
+judgedAs p o s fs =
+    let v = verdictOf p o (s .noted) in
+    cond (eqb (v .number) 0) (record { refusal = 0; place = 0; column = 0; asked = askedFor p s fs }) (refusedDeck (v .number) (v .place) (v .column))

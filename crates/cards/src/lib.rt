@@ -4,6 +4,7 @@ use lines::LineRead;
 use lines::OrderRead;
 use readers::ItemRead;
 use readers::ParameterRead;
+use readers::Places;
 use readers::UParameter;
 use terms::Asked;
 use terms::Field;
@@ -12,21 +13,25 @@ use terms::Kind;
 use terms::Mode;
 use terms::Size;
 ghost use mathlib.Core.Path.{_≡_};
-ghost use mathlib.Core.Bool.{_&&_};
-ghost use lib.ListN.{drop};
+ghost use mathlib.Core.Bool.{cond};
+ghost use mathlib.Core.List.{map};
+ghost use Prim.Native.Nat.{_+_, _*_, _≤_};
+ghost use lib.ListN.{length, drop};
 ghost use Rattle.rules.specs.Base.{within};
-ghost use Rattle.rules.specs.Reader.{restOf};
-ghost use Rattle.rules.specs.Grammar.{uOperand, item, fsOperand};
-ghost use Rattle.rules.specs.Asked.{itemsFrom, letter, least, sizeLimits, utilityLimits, kindLimits, fieldLimits};
-ghost use Rattle.terms.specs.Meaning.{formatOf, sizeOf, kindOf, fieldOf};
+ghost use Rattle.rules.specs.Reader.{listOf, restOf};
+ghost use Rattle.rules.specs.Grammar.{parameter as ruleParameter, item, field as fieldItem};
+ghost use Rattle.rules.specs.Words.{worded, outsideColumn, firstOf};
+ghost use Rattle.rules.specs.Asked.{letter, least, sizeNumbers, parameterNumbers, itemNumbers};
+ghost use Rattle.terms.specs.Meaning.{formatOf, sizeOf, fieldOf};
 ghost use Rattle.readers.specs.declared.UParameter.the-variants.{ModeIs, FormatIs, InputIs, OutputIs};
-ghost use Rattle.readers.specs.Meaning.{parameterOf};
+ghost use Rattle.readers.specs.Meaning.{OneSize, parameterOf, parameterPlaces, fieldPlaces};
 ghost use Rattle.lines.specs.declared.LineRead.the-variants.{Line};
 ghost use Rattle.lines.specs.Meaning.{LineSays};
-ghost use Rattle.cards.specs.Selected.{noSelection, firstCard, counted, fieldNoted, cvNoted, itemNoted, takenOf, isRead};
-ghost use Rattle.cards.specs.Parameters.{noParameter, withPart, withParameter, UListed};
+ghost use Rattle.cards.specs.Limits.{Reaches, sizePlaces, mostOf, shifted};
+ghost use Rattle.cards.specs.Selected.{nothingNoted, counted, fieldNoted, cvNoted, Keepable, keptRow, ListSays, onCard, noSelection};
+ghost use Rattle.cards.specs.Parameters.{noParameter, withPart, withParameter, noneOutside, withNumbers, UListed};
 ghost use Rattle.cards.specs.Deck.{cardsIn, fsFirst, CardAtSays, FsSaid};
-ghost use Rattle.cards.specs.Verdict.{isComplete, utilityIn, limitsOf, verdictOf, askedFor, judgedAs};
+ghost use Rattle.cards.specs.Verdict.{isComplete, uOutside, limitsOf, verdictOf, askedFor, judgedAs};
 ghost use Rattle.cards.specs.Promise.{refusedDeck, nothingAsked, InOrder, DeckSays};
 
 const COMMA: u8 = b',';
@@ -45,36 +50,49 @@ fn allowed(low: usize, high: usize, number: usize) -> bool
     low <= number && number <= high
 }
 
-// Whether n and m are within limits that begin at 1.
-fn both_allowed(n: usize, n_most: usize, m: usize, m_most: usize) -> bool
-    ensures { λ r. ⌜ r ≡ (within 1 «n_most» n && within 1 «m_most» m) ⌝ }
+// The column of a number that is outside its limits, or 0.
+fn number_outside(low: usize, high: usize, number: usize, column: usize) -> usize
+    ensures { λ r. ⌜ r ≡ cond (within low high number) 0 column ⌝ }
 {
-    allowed(1, n_most, n) && allowed(1, m_most, m)
+    if allowed(low, high, number) {
+        return 0;
+    }
+    column
 }
 
-// Whether the sizes of a field are within their limits.
-fn kind_allowed(kind: Kind, input: usize, output: usize) -> bool
-    ensures { λ r. ⌜ r ≡ kindLimits (kindOf kind input output) ⌝ }
+// The first of two columns or cards; 0 is none.
+fn first_of(noted: usize, next: usize) -> usize
+    ensures { λ r. ⌜ r ≡ firstOf noted next ⌝ }
+{
+    if noted == 0 {
+        return next;
+    }
+    noted
+}
+
+// The most that a field's sizes may be.
+fn most(kind: Kind) -> usize
+    ensures { λ r. ⌜ r ≡ mostOf kind ⌝ }
 {
     match kind {
-        Kind::Copy => allowed(1, 4096, input),
-        Kind::Pack => both_allowed(input, 16, output, 16),
-        Kind::Unpack => both_allowed(input, 16, output, 16),
+        Kind::Copy => 4096,
+        Kind::Pack => 16,
+        Kind::Unpack => 16,
     }
 }
 
-// Whether all numbers of a field are within their limits.
-fn field_allowed(field: Field) -> bool
-    ensures { λ r. ⌜ r ≡ fieldLimits (fieldOf field) ⌝ }
+// The column of the first number of a field that is outside its limits, or 0. The field begins at this column.
+fn field_outside(field: Field, places: Places, column: usize) -> usize
+    requires { ⌜ OneSize (field .kind) (field .input) (field .output) × (1 ≤ column) × Reaches column (places .input) × Reaches column (places .output) × Reaches column (places .t) ⌝ }
+    ensures { λ r. ⌜ r ≡ outsideColumn (shifted column (fieldPlaces (field .kind) places)) (itemNumbers (fieldItem (fieldOf field))) ⌝ }
 {
     let kind = field.kind;
-    if !allowed(1, 4096, field.r) {
-        return false;
-    }
-    if !kind_allowed(kind, field.input, field.output) {
-        return false;
-    }
-    allowed(1, 4096, field.t)
+    let most = most(kind);
+    let r = number_outside(1, 4096, field.r, column);
+    let input = number_outside(1, most, field.input, column + places.input);
+    let output = number_outside(1, most, field.output, column + places.output);
+    let t = number_outside(1, 4096, field.t, column + places.t);
+    first_of(first_of(r, input), first_of(output, t))
 }
 
 // The least that a single size may be.
@@ -88,68 +106,62 @@ fn least(format: Format) -> usize
     }
 }
 
-// Whether the numbers of A or B are within their limits.
-fn size_allowed(format: Format, size: Size) -> bool
-    ensures { λ r. ⌜ r ≡ sizeLimits (formatOf format) (sizeOf size) ⌝ }
+// The column of the first number of A or B that is outside its limits, or 0, where F is this. The parameter begins at this column.
+fn size_outside(format: Format, size: Size, second: usize, column: usize) -> usize
+    requires { ⌜ Reaches column 3 × Reaches column second ⌝ }
+    ensures { λ r. ⌜ r ≡ outsideColumn (shifted column (sizePlaces size second)) (sizeNumbers (formatOf format) (sizeOf size)) ⌝ }
 {
     match size {
-        Size::Two { n, m } => both_allowed(n, 4096, m, 32760),
-        Size::One { g } => allowed(least(format), 32760, g),
+        Size::Two { n, m } => {
+            let first = number_outside(1, 4096, n, column + 3);
+            first_of(first, number_outside(1, 32760, m, column + second))
+        }
+        Size::One { g } => number_outside(least(format), 32760, g, column + 3),
+    }
+}
+
+// The column of the first number of a parameter that is outside its limits, or 0, where F is this.
+fn parameter_outside(format: Format, parameter: UParameter, second: usize, column: usize) -> usize
+    requires { ⌜ Reaches column 3 × Reaches column second ⌝ }
+    ensures { λ r. ⌜ r ≡ outsideColumn (shifted column (parameterPlaces parameter second)) (parameterNumbers (formatOf format) (parameterOf parameter)) ⌝ }
+{
+    match parameter {
+        UParameter::ModeIs(_) => 0,
+        UParameter::FormatIs(_) => 0,
+        UParameter::InputIs(size) => size_outside(format, size, second, column),
+        UParameter::OutputIs(size) => size_outside(format, size, second, column),
+        UParameter::RewindIn => 0,
+        UParameter::RewindOut => 0,
+        UParameter::FirstIs(n) => number_outside(1, 65536, n, column + 1),
     }
 }
 
 // ---- FS cards
 
-// What is noted of the FS cards so far: how many fields are kept, and the cards of the 65th field, of CV, of the second CV and of the first number
-// outside its limits, 0 for none.
+// What is noted of the FS cards so far: how many fields are kept; the cards of the 65th field and of CV; the card and column of the second CV and of
+// the first number outside its limits. 0 is none.
 struct Noted {
     count: usize,
     sixty_fifth: usize,
     cv: usize,
     second_cv: usize,
+    second_column: usize,
     beyond: usize,
+    beyond_column: usize,
 }
 
-// What the FS cards have said so far: the fields and the card of each, and what is noted.
-struct Selected {
-    fields: [Field; 64],
-    cards: [usize; 64],
-    noted: Noted,
-}
-
-// No field and no CV.
-fn no_selection() -> Selected
-    ensures { λ r. ⌜ r ≡ noSelection ⌝ }
+fn nothing_noted() -> Noted
+    ensures { λ r. ⌜ r ≡ nothingNoted ⌝ }
 {
-    let field = Field {
-        kind: Kind::Copy,
-        r: 0,
-        input: 0,
-        output: 0,
-        t: 0,
-    };
-    let noted = Noted {
+    Noted {
         count: 0,
         sixty_fifth: 0,
         cv: 0,
         second_cv: 0,
+        second_column: 0,
         beyond: 0,
-    };
-    Selected {
-        fields: [field; 64],
-        cards: [0; 64],
-        noted,
+        beyond_column: 0,
     }
-}
-
-// The card that was noted first; 0 is none.
-fn first_card(noted: usize, card: usize) -> usize
-    ensures { λ r. ⌜ r ≡ firstCard noted card ⌝ }
-{
-    if noted == 0 {
-        return card;
-    }
-    noted
 }
 
 // One field more, whatever its numbers are.
@@ -162,85 +174,108 @@ fn counted(noted: Noted, card: usize) -> Noted
         next.count = count + 1;
         return next;
     }
-    next.sixty_fifth = first_card(noted.sixty_fifth, card);
+    next.sixty_fifth = first_of(noted.sixty_fifth, card);
     next
 }
 
-// One field more.
-fn field_noted(noted: Noted, card: usize, field: Field) -> Noted
-    ensures { λ r. ⌜ r ≡ fieldNoted noted card field ⌝ }
+// One field more, whose first number outside its limits stands in this column.
+fn field_noted(noted: Noted, card: usize, outside: usize) -> Noted
+    ensures { λ r. ⌜ r ≡ fieldNoted noted card outside ⌝ }
 {
     let mut next = counted(noted, card);
-    if !field_allowed(field) {
-        next.beyond = first_card(noted.beyond, card);
+    if outside == 0 {
+        return next;
+    }
+    if noted.beyond == 0 {
+        next.beyond = card;
+        next.beyond_column = outside;
     }
     next
 }
 
 // One CV more. A second one is noted, and no later one.
-fn cv_noted(noted: Noted, card: usize) -> Noted
-    ensures { λ r. ⌜ r ≡ cvNoted noted card ⌝ }
+fn cv_noted(noted: Noted, card: usize, column: usize) -> Noted
+    ensures { λ r. ⌜ r ≡ cvNoted noted card column ⌝ }
 {
     let mut next = noted;
     if noted.cv == 0 {
         next.cv = card;
         return next;
     }
-    next.second_cv = first_card(noted.second_cv, card);
+    if noted.second_cv == 0 {
+        next.second_cv = card;
+        next.second_column = column;
+    }
     next
 }
 
-// One item more.
-fn item_noted(noted: Noted, card: usize, read: ItemRead) -> Noted
-    ensures { λ r. ⌜ r ≡ itemNoted noted card read ⌝ }
+// A field goes into the row behind those before it, while there is room. One with a number outside its limits does not: its deck is refused.
+fn keep(row: &mut [u16; 320], count: usize, field: Field, outside: usize)
+    requires { ⌜ (length (now row) ≡ 320) × Keepable field outside ⌝ }
+    ensures { λ _. ⌜ (length (now (row .exit)) ≡ 320) × (now (row .exit) ≡ keptRow count outside (fieldOf field) (now (row .entry))) ⌝ }
 {
-    match read {
-        ItemRead::IsField { field, used: _ } => field_noted(noted, card, field),
-        ItemRead::IsCV { used: _ } => cv_noted(noted, card),
-        ItemRead::NoItem { at: _ } => noted,
+    if outside == 0 {
+        if count < FIELDS {
+            rows::put_numbers(row, 5 * count, field);
+        }
     }
 }
 
-// How many bytes an item took; all that are left, where there is none.
-fn taken(left: usize, read: ItemRead) -> usize
-    ensures { λ r. ⌜ r ≡ takenOf left read ⌝ }
-{
-    match read {
-        ItemRead::IsField { field: _, used } => used,
-        ItemRead::IsCV { used } => used,
-        ItemRead::NoItem { at: _ } => left,
-    }
+// What a list gives beside the row: what is noted, and the column at which it stopped, or 0 where all of it was read.
+struct ListRead {
+    noted: Noted,
+    unread: usize,
 }
 
-// A list is an item and its rest. Whether a card's operand is a list is told before any of its items is kept.
-fn list(operand: &[u8]) -> bool
-    ensures { λ r. ⌜ r ≡ isRead (fsOperand (now (operand .entry))) ⌝ }
+// A list is an item and its rest.
+fn list(operand: &[u8], card: usize, column: usize, noted: Noted, row: &mut [u16; 320]) -> ListRead
+    requires { ⌜ (length (now row) ≡ 320) × (1 ≤ column) × Reaches column (length (now operand)) ⌝ }
+    ensures { λ r. ⌜ (length (now (row .exit)) ≡ 320) × ListSays card column column (noted, now (row .entry)) (now (operand .entry)) (listOf "/" (worded item) (now (operand .entry))) r (now (row .exit)) ⌝ }
 {
     let next = readers::item(operand);
     match next {
-        ItemRead::IsField { field: _, used } => rest(&operand[used..]),
-        ItemRead::IsCV { used } => rest(&operand[used..]),
-        ItemRead::NoItem { at: _ } => false,
+        ItemRead::IsField {
+            field,
+            places,
+            used,
+        } => {
+            let outside = field_outside(field, places, column);
+            keep(row, noted.count, field, outside);
+            let after = field_noted(noted, card, outside);
+            rest(&operand[used..], card, column + used, after, row)
+        }
+        ItemRead::IsCV { used } => {
+            let after = cv_noted(noted, card, column);
+            rest(&operand[used..], card, column + used, after, row)
+        }
+        ItemRead::NoItem { at } => ListRead {
+            noted,
+            unread: column + at,
+        },
     }
 }
 
 // A rest is nothing, or a slash and a list.
-fn rest(operand: &[u8]) -> bool
-    ensures { λ r. ⌜ r ≡ isRead (restOf "/" item (now (operand .entry))) ⌝ }
+fn rest(operand: &[u8], card: usize, column: usize, noted: Noted, row: &mut [u16; 320]) -> ListRead
+    requires { ⌜ (length (now row) ≡ 320) × (1 ≤ column) × Reaches column (length (now operand)) ⌝ }
+    ensures { λ r. ⌜ (length (now (row .exit)) ≡ 320) × ListSays card (1 + column) column (noted, now (row .entry)) (now (operand .entry)) (restOf "/" (worded item) (now (operand .entry))) r (now (row .exit)) ⌝ }
 {
     if operand.len() == 0 {
-        return true;
+        return ListRead { noted, unread: 0 };
     }
     if operand[0] == SLASH {
-        return list(&operand[1..]);
+        return list(&operand[1..], card, column + 1, noted, row);
     }
-    false
+    ListRead {
+        noted,
+        unread: column,
+    }
 }
 
 // ---- the U card
 
-// What the parameters of the U card have said so far: T, F, A, B and R, which of the letters T, F, A, B, I, O and R have stood, and whether one
-// stood twice.
+// What the parameters of the U card have said so far: T, F, A, B and R, which of the letters T, F, A, B, I, O and R have stood, and the column of the
+// first parameter whose letter stood before, or 0.
 struct Parameters {
     mode: Mode,
     format: Format,
@@ -248,7 +283,7 @@ struct Parameters {
     output: Size,
     first: usize,
     seen: [bool; 7],
-    twice: bool,
+    twice: usize,
 }
 
 // No parameter. Where R is not given the first record is taken first.
@@ -262,7 +297,7 @@ fn no_parameter() -> Parameters
         output: Size::One { g: 0 },
         first: 1,
         seen: [false; 7],
-        twice: false,
+        twice: 0,
     }
 }
 
@@ -376,14 +411,14 @@ fn with_part(state: Parameters, parameter: UParameter) -> Parameters
     }
 }
 
-// One parameter more: the first of its letter counts, and a second one is noted.
-fn with_parameter(state: Parameters, parameter: UParameter) -> Parameters
-    ensures { λ r. ⌜ r ≡ withParameter state parameter ⌝ }
+// One parameter more, which begins at this column: the first of its letter counts, and a second one is noted.
+fn with_parameter(state: Parameters, parameter: UParameter, column: usize) -> Parameters
+    ensures { λ r. ⌜ r ≡ withParameter state parameter column ⌝ }
 {
     let at = letter(parameter);
     let mut same = state;
     if same.seen[at] {
-        same.twice = true;
+        same.twice = first_of(same.twice, column);
         return same;
     }
     let mut next = with_part(state, parameter);
@@ -391,30 +426,80 @@ fn with_parameter(state: Parameters, parameter: UParameter) -> Parameters
     next
 }
 
-// What the parameters of a U card say, if all of it could be read.
-struct URead {
-    state: Parameters,
-    read: bool,
+// The column of the first number outside its limits, or 0: where F is not FV, and where it is. F may stand behind A and B.
+struct Outside {
+    plain: usize,
+    variable: usize,
 }
 
-// One or more parameters in any order with commas between.
-fn u_card(operand: &[u8]) -> URead
-    ensures { λ r. ⌜ UListed (uOperand (now (operand .entry))) r ⌝ }
+// The numbers of one parameter more.
+fn with_numbers(before: Outside, parameter: UParameter, second: usize, column: usize) -> Outside
+    requires { ⌜ Reaches column 3 × Reaches column second ⌝ }
+    ensures { λ r. ⌜ r ≡ withNumbers before parameter second column ⌝ }
+{
+    Outside {
+        plain: first_of(
+            before.plain,
+            parameter_outside(Format::FF, parameter, second, column),
+        ),
+        variable: first_of(
+            before.variable,
+            parameter_outside(Format::FV, parameter, second, column),
+        ),
+    }
+}
+
+// What the parameters of a U card say, and the column at which it stopped, or 0 where all of it was read.
+struct URead {
+    state: Parameters,
+    outside: Outside,
+    unread: usize,
+}
+
+// One or more parameters in any order with commas between. The operand begins at this column.
+fn u_card(operand: &[u8], column: usize) -> URead
+    requires { ⌜ (1 ≤ column) × Reaches column (length (now operand) + 3) ⌝ }
+    ensures { λ r. ⌜ UListed column (now (operand .entry)) (listOf "," (worded ruleParameter) (now (operand .entry))) r ⌝ }
 {
     let mut state = no_parameter();
+    let mut outside = Outside {
+        plain: 0,
+        variable: 0,
+    };
     let mut at: usize = 0;
     loop {
         let next = readers::parameter(&operand[at..]);
-        let ParameterRead::IsParameter { parameter, used } = next else {
-            return URead { state, read: false };
-        };
-        state = with_parameter(state, parameter);
-        at += used;
+        match next {
+            ParameterRead::NoParameter { at: stop } => {
+                return URead {
+                    state,
+                    outside,
+                    unread: column + at + stop,
+                };
+            }
+            ParameterRead::IsParameter {
+                parameter,
+                second,
+                used,
+            } => {
+                state = with_parameter(state, parameter, column + at);
+                outside = with_numbers(outside, parameter, second, column + at);
+                at += used;
+            }
+        }
         if at == operand.len() {
-            return URead { state, read: true };
+            return URead {
+                state,
+                outside,
+                unread: 0,
+            };
         }
         if operand[at] != COMMA {
-            return URead { state, read: false };
+            return URead {
+                state,
+                outside,
+                unread: column + at,
+            };
         }
         at += 1;
     }
@@ -470,44 +555,67 @@ fn card_at(deck: &[u8], at: usize) -> CardAt
     }
 }
 
-// What the FS cards say, and the first card that could not be read, or 0.
+// The card of each field from one on to before another.
+fn on_card(cards: [usize; 64], from: usize, to: usize, card: usize) -> [usize; 64]
+    requires { ⌜ (from ≤ to) × (to ≤ 64) ⌝ }
+    ensures { λ r. ⌜ r ≡ onCard cards from to card ⌝ }
+{
+    let mut out = cards;
+    let mut i = from;
+    while i < to {
+        out[i] = card;
+        i += 1;
+    }
+    out
+}
+
+// What the FS cards have said: the row of the fields, the card of each, and what is noted.
+struct Selected {
+    row: [u16; 320],
+    cards: [usize; 64],
+    noted: Noted,
+}
+
+// What the FS cards say, and the first card that could not be read with the column at which it stopped, or 0 and 0.
 struct FsCards {
     state: Selected,
     unread: usize,
+    column: usize,
 }
 
-// The FS cards from the line that begins at `from` on. The first of them is card 2. Each field is stored in place: a function for each card or item
-// would copy the arrays each time.
+// The FS cards from the line that begins at `from` on. The first of them is card 2, and an operand begins at column 7.
 fn fs_cards(deck: &[u8], from: usize) -> FsCards
-    ensures { λ r. ⌜ FsSaid 2 noSelection (itemsFrom 2 (fsFirst (cardsIn (drop from (now (deck .entry)))))) r ⌝ }
+    ensures { λ r. ⌜ FsSaid 2 noSelection (fsFirst (cardsIn (drop from (now (deck .entry))))) r ⌝ }
 {
-    let mut state = no_selection();
+    let mut row = [0u16; 320];
+    let mut cards = [0usize; 64];
+    let mut noted = nothing_noted();
     let mut card: usize = 2;
     let mut at = from;
     loop {
         let found = card_at(deck, at);
         let CardAt::FsAt { start, end, next } = found else {
-            return FsCards { state, unread: 0 };
+            let state = Selected { row, cards, noted };
+            return FsCards {
+                state,
+                unread: 0,
+                column: 0,
+            };
         };
-        if !list(&deck[start..end]) {
+        let before = noted.count;
+        let read = list(&deck[start..end], card, 7, noted, &mut row);
+        let unread = read.unread;
+        if unread != 0 {
+            let state = Selected { row, cards, noted };
             return FsCards {
                 state,
                 unread: card,
+                column: unread,
             };
         }
-        let mut place = start;
-        while place < end {
-            let read = readers::item(&deck[place..end]);
-            let count = state.noted.count;
-            if let ItemRead::IsField { field, used: _ } = read {
-                if count < FIELDS {
-                    state.fields[count] = field;
-                    state.cards[count] = card;
-                }
-            }
-            state.noted = item_noted(state.noted, card, read);
-            place += taken(end - place, read) + 1;
-        }
+        noted = read.noted;
+        let filled = on_card(cards, before, noted.count, card);
+        cards = filled;
         card += 1;
         at = next;
     }
@@ -532,43 +640,42 @@ fn is_complete(parameters: Parameters) -> bool
     seen[3]
 }
 
-// Whether all numbers of the U card are within their limits.
-fn utility_allowed(parameters: Parameters) -> bool
-    ensures { λ r. ⌜ r ≡ utilityLimits (utilityIn parameters) ⌝ }
+// The column of the U card's first number outside its limits, or 0.
+fn u_outside(format: Format, outside: Outside) -> usize
+    ensures { λ r. ⌜ r ≡ uOutside (formatOf format) outside ⌝ }
 {
-    let format = parameters.format;
-    let input = parameters.input;
-    let output = parameters.output;
-    if !size_allowed(format, input) {
-        return false;
+    match format {
+        Format::FF => outside.plain,
+        Format::FV => outside.variable,
+        Format::FU => outside.plain,
     }
-    if !size_allowed(format, output) {
-        return false;
-    }
-    allowed(1, 65536, parameters.first)
 }
 
-// A refusal and its place; number 0 for none.
+// A refusal, its place and its column; number 0 for none.
 struct Verdict {
     number: usize,
     place: usize,
+    column: usize,
 }
 
 // Refusal 6, and then 7, the U card before the FS cards.
-fn limits_on(parameters: Parameters, noted: Noted) -> Verdict
-    ensures { λ r. ⌜ r ≡ limitsOf parameters noted ⌝ }
+fn limits_on(format: Format, outside: Outside, noted: Noted) -> Verdict
+    ensures { λ r. ⌜ r ≡ limitsOf (formatOf format) outside noted ⌝ }
 {
     let sixty_fifth = noted.sixty_fifth;
     if sixty_fifth != 0 {
         return Verdict {
             number: 6,
             place: sixty_fifth,
+            column: 0,
         };
     }
-    if !utility_allowed(parameters) {
+    let column = u_outside(format, outside);
+    if column != 0 {
         return Verdict {
             number: 7,
             place: 1,
+            column,
         };
     }
     let beyond = noted.beyond;
@@ -576,22 +683,26 @@ fn limits_on(parameters: Parameters, noted: Noted) -> Verdict
         return Verdict {
             number: 7,
             place: beyond,
+            column: noted.beyond_column,
         };
     }
     Verdict {
         number: 0,
         place: 0,
+        column: 0,
     }
 }
 
 // Refusal 4, the U card before the FS cards, then 5, and then 6 and 7.
-fn verdict_on(parameters: Parameters, noted: Noted) -> Verdict
-    ensures { λ r. ⌜ r ≡ verdictOf parameters noted ⌝ }
+fn verdict_on(parameters: Parameters, outside: Outside, noted: Noted) -> Verdict
+    ensures { λ r. ⌜ r ≡ verdictOf parameters outside noted ⌝ }
 {
-    if parameters.twice {
+    let twice = parameters.twice;
+    if twice != 0 {
         return Verdict {
             number: 4,
             place: 1,
+            column: twice,
         };
     }
     let second_cv = noted.second_cv;
@@ -599,37 +710,44 @@ fn verdict_on(parameters: Parameters, noted: Noted) -> Verdict
         return Verdict {
             number: 4,
             place: second_cv,
+            column: noted.second_column,
         };
     }
     if !is_complete(parameters) {
         return Verdict {
             number: 5,
             place: 1,
+            column: 0,
         };
     }
-    limits_on(parameters, noted)
+    let format = parameters.format;
+    limits_on(format, outside, noted)
 }
 
 // ---- decks
 
-// What a deck says: a refusal of 1 to 7 with its place, or 0 and what the cards ask for.
+// What a deck says: a refusal of 1 to 7 with its place and column, or 0 and what the cards ask for.
 pub struct DeckRead {
     pub refusal: usize,
     pub place: usize,
+    pub column: usize,
     pub asked: Asked,
 }
 
 // What the cards ask for, where they are not refused.
 fn asked_for(parameters: Parameters, selected: Selected, fs: usize) -> Asked
+    requires { ⌜ selected .noted .count ≤ 64 ⌝ }
     ensures { λ r. ⌜ r ≡ askedFor parameters selected fs ⌝ }
 {
     let mode = parameters.mode;
     let format = parameters.format;
     let input = parameters.input;
     let output = parameters.output;
-    let fields = selected.fields;
+    let row = selected.row;
     let cards = selected.cards;
     let noted = selected.noted;
+    let count = noted.count;
+    let fields = rows::fields(row, count);
     Asked {
         mode,
         format,
@@ -638,7 +756,7 @@ fn asked_for(parameters: Parameters, selected: Selected, fs: usize) -> Asked
         first: parameters.first,
         fields,
         cards,
-        count: noted.count,
+        count,
         fs,
         cv: noted.cv,
     }
@@ -648,17 +766,21 @@ fn asked_for(parameters: Parameters, selected: Selected, fs: usize) -> Asked
 pub fn nothing_asked() -> Asked
     ensures { λ r. ⌜ r ≡ nothingAsked ⌝ }
 {
-    let none = no_selection();
-    let fields = none.fields;
-    let cards = none.cards;
+    let none = Field {
+        kind: Kind::Copy,
+        r: 0,
+        input: 0,
+        output: 0,
+        t: 0,
+    };
     Asked {
         mode: Mode::TC,
         format: Format::FF,
         input: Size::One { g: 0 },
         output: Size::One { g: 0 },
         first: 0,
-        fields,
-        cards,
+        fields: [none; 64],
+        cards: [0; 64],
         count: 0,
         fs: 0,
         cv: 0,
@@ -666,31 +788,34 @@ pub fn nothing_asked() -> Asked
 }
 
 // A refused deck.
-fn refused(number: usize, place: usize) -> DeckRead
-    ensures { λ r. ⌜ r ≡ refusedDeck number place ⌝ }
+fn refused(number: usize, place: usize, column: usize) -> DeckRead
+    ensures { λ r. ⌜ r ≡ refusedDeck number place column ⌝ }
 {
     let asked = nothing_asked();
     DeckRead {
         refusal: number,
         place,
+        column,
         asked,
     }
 }
 
 // The deck whose cards all could be read.
-fn judged(parameters: Parameters, selected: Selected, fs: usize) -> DeckRead
-    ensures { λ r. ⌜ r ≡ judgedAs parameters selected fs ⌝ }
+fn judged(parameters: Parameters, outside: Outside, selected: Selected, fs: usize) -> DeckRead
+    requires { ⌜ selected .noted .count ≤ 64 ⌝ }
+    ensures { λ r. ⌜ r ≡ judgedAs parameters outside selected fs ⌝ }
 {
     let noted = selected.noted;
-    let verdict = verdict_on(parameters, noted);
+    let verdict = verdict_on(parameters, outside, noted);
     let number = verdict.number;
     if number != 0 {
-        return refused(number, verdict.place);
+        return refused(number, verdict.place, verdict.column);
     }
     let asked = asked_for(parameters, selected, fs);
     DeckRead {
         refusal: 0,
         place: 0,
+        column: 0,
         asked,
     }
 }
@@ -703,20 +828,21 @@ fn read_ordered(deck: &[u8], fs: usize) -> DeckRead
     let first = card_at(deck, 0);
     let CardAt::UAt { start, end, next } = first else {
         // The first card of a deck in order is a U card.
-        return refused(2, 1);
+        return refused(2, 1, 0);
     };
-    let u = u_card(&deck[start..end]);
-    if !u.read {
-        return refused(3, 1);
+    let u = u_card(&deck[start..end], start + 1);
+    if u.unread != 0 {
+        return refused(3, 1, u.unread);
     }
     let selected = fs_cards(deck, next);
     let unread = selected.unread;
     if unread != 0 {
-        return refused(3, unread);
+        return refused(3, unread, selected.column);
     }
     let parameters = u.state;
+    let outside = u.outside;
     let selection = selected.state;
-    judged(parameters, selection, fs)
+    judged(parameters, outside, selection, fs)
 }
 
 // Reads a deck. Its refusal is the lowest number that applies, at its first place.
@@ -725,7 +851,7 @@ pub fn read_deck(deck: &[u8]) -> DeckRead
 {
     let order = lines::order(deck);
     match order {
-        OrderRead::Refused { number, place } => refused(number, place),
+        OrderRead::Refused { number, place } => refused(number, place, 0),
         OrderRead::Ordered { cards } => read_ordered(deck, cards - 2),
     }
 }

@@ -1,7 +1,8 @@
 -- `cards::card_on` meets its contract: by what card the line is; the operand stands on the line, so its place is in the deck.
-use mathlib.Core.Path.{sym, subst}
+use mathlib.Core.Path.{_≡_, ap, sym, _∙_, subst}
+use mathlib.Core.Option.{some}
 use mathlib.Core.List.{List}
-use Prim.Native.Nat.{ℕ}
+use Prim.Native.Nat.{ℕ, _+_, _-_}
 use native.Mathlib.Omega.{arith}
 use denote.Ref.{now}
 use lib.Seq.{slice}
@@ -86,7 +87,9 @@ returns : tie.Need-returns
 returns c =
     let a = c .before .before .before .before .before .before .args in
     let e = is-u (c .before) in
-    operand-at (now (a .deck)) (a .at) (a .end) (a .next) (c .before .before .before .before .before .before .pre) uCard (c .before .read .given .0 .0) (c .before .read .given .0 .1 .0) (e .1) (e .2) (e .3)
+    let k : c .before .read .given .0 .0 ≡ a .at + c .before .read .given .0 .0 - a .at = omega arith in
+    operand-at (now (a .deck)) (a .at) (a .end) (a .next) (c .before .before .before .before .before .before .pre) (uCard (a .at + c .before .read .given .0 .0 - a .at)) (c .before .read .given .0 .0) (c .before .read .given .0 .1 .0) (e .1) (e .2)
+    (e .3 ∙ ap (λ (n : ℕ). some (uCard n (slice (c .before .read .given .0 .0) (c .before .read .given .0 .1 .0) (slice (a .at) (a .end) (now (a .deck)))))) k)
 
 returns-2 : tie.Need-returns-2
 returns-2 c =

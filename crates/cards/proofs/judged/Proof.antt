@@ -1,7 +1,7 @@
 -- `cards::judged` meets its contract: by whether a number was given.
 use borrow.Author.Tests.{eq-eqb, ne-eqb}
-use borrow.Author.Needs.{needs}
 use Rattle.cards.specs.Verdict.{judgedAs}
+use borrow.Author.Needs.{needs}
 use Rattle.cards.proofs.judged.Statement.{statement}
 use Rattle.cards.proofs.judged.Tie as tie
 
@@ -13,16 +13,14 @@ refused-requires c κs = search needs
 
 returns : tie.Need-returns
 unfolding judgedAs
-returns c =
-    rw (← c .before .before .verdict-on .ensures, ne-eqb _ 0 (c .before .if1 .taken)) (c .refused .ensures)
+returns c = rw (← c .before .before .verdict-on .ensures, ne-eqb _ 0 (c .before .if1 .taken)) (c .refused .ensures)
 
 asked-for-requires : tie.Need-asked-for-requires
 asked-for-requires c κs = search needs
 
 returns-2 : tie.Need-returns-2
 unfolding judgedAs
-returns-2 c =
-    rw (← c .before .before .verdict-on .ensures, eq-eqb _ 0 (c .before .if1 .left), c .asked-for .ensures)
+returns-2 c = rw (← c .before .before .verdict-on .ensures, eq-eqb _ 0 (c .before .if1 .left), c .asked-for .ensures)
 
 pub judged-spec : {M : Type 1} → statement M
 judged-spec =

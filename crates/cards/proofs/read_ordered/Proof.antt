@@ -2,22 +2,23 @@
 use mathlib.Core.Path.{_≡_, sym, subst}
 use mathlib.Core.Logic.{_⊎_, ⊎-elim}
 use mathlib.Core.List.{List}
-use Prim.Native.Nat.{ℕ}
+use Prim.Native.Nat.{ℕ, _+_, _-_}
 use native.Mathlib.Omega.{arith}
 use denote.Ref.{now}
 use denote.Enum.Declared.{tagOf}
 use lib.Seq.{slice}
-use borrow.Author.Tests.{not-true, not-false}
 use borrow.Author.Needs.{needs}
+use Rattle.rules.specs.Reader.{listOf}
 use Rattle.rules.specs.Deck.{uCard}
-use Rattle.rules.specs.Grammar.{uOperand}
+use Rattle.rules.specs.Grammar.{parameter}
+use Rattle.rules.specs.Words.{worded}
 use Rattle.rules.proofs.LineLaws.{slice-part}
 use Rattle.cards.specs.declared.CardAt.{CardAt}
 use Rattle.cards.specs.declared.CardAt.the-variants.{UAt, FsAt, NoOperand}
 use Rattle.cards.specs.Parameters.{UListed}
 use Rattle.cards.specs.Deck.{OperandAt, CardAtSays}
 use Rattle.cards.specs.Promise.{DeckSays, InOrder}
-use Rattle.cards.proofs.OrderedLaws.{first-u, first-not-fs, unread-u, unread-fs, all-read}
+use Rattle.cards.proofs.OrderedLaws.{first-u, first-not-fs, unread-u, unread-fs, few-kept, all-read}
 use Rattle.cards.proofs.CardAt as card-type
 use Rattle.cards.proofs.read_ordered.Statement.{statement}
 use Rattle.cards.proofs.read_ordered.Tie as tie
@@ -39,18 +40,21 @@ never deck fs o NoOperand h k = first-u deck fs o h
 
 -- the first card is a U card
 is-u : (c : tie.After-first)
-    → OperandAt uCard (now (c .before .before .before .before .args .deck)) 0 (c .first .given .0 .0) (c .first .given .0 .1 .0) (c .first .given .0 .1 .1 .0)
+    → OperandAt (uCard (c .first .given .0 .0 - 0)) (now (c .before .before .before .before .args .deck)) 0 (c .first .given .0 .0) (c .first .given .0 .1 .0) (c .first .given .0 .1 .1 .0)
 is-u c = subst (CardAtSays (now (c .before .before .before .before .args .deck)) 0) (c .first .given .1) (c .before .before .card-at .ensures)
 
 -- and this was read of it
-said : (c : tie.After-u-card) → UListed (uOperand (slice (c .before .before .before .first .given .0 .0) (c .before .before .before .first .given .0 .1 .0) (now (c .before .before .before .before .before .before .before .args .deck)))) (c .u-card .result)
+said : (c : tie.After-u-card)
+    → UListed (c .before .before .before .first .given .0 .0 + 1) (slice (c .before .before .before .first .given .0 .0) (c .before .before .before .first .given .0 .1 .0) (now (c .before .before .before .before .before .before .before .args .deck)))
+    (listOf "," (worded parameter) (slice (c .before .before .before .first .given .0 .0) (c .before .before .before .first .given .0 .1 .0) (now (c .before .before .before .before .before .before .before .args .deck)))) (c .u-card .result)
 said c =
-    let g = c .before .before .before .first .given .0 in
-    subst (λ (o : List ℕ). UListed (uOperand o) (c .u-card .result)) (sym (slice-part (g .0) (g .1 .0) (now (c .before .before .before .before .before .before .before .args .deck)) (is-u (c .before .before .before) .from))) (c .u-card .ensures)
+    let f = c .before .before .before in
+    let g = f .first .given .0 in
+    subst (λ (o : List ℕ). UListed (g .0 + 1) o (listOf "," (worded parameter) o) (c .u-card .result))
+    (sym (slice-part (g .0) (g .1 .0) (now (f .before .before .before .before .args .deck)) (is-u f .from))) (c .u-card .ensures)
 
 returns : tie.Need-returns
-returns c =
-    absurd (never (now (c .before .before .before .before .args .deck)) (c .before .before .before .before .args .fs) (c .before .before .before .before .pre) (c .before .before .card-at .result) (c .before .before .card-at .ensures) (c .before .match .keys2))
+returns c = absurd (never (now (c .before .before .before .before .args .deck)) (c .before .before .before .before .args .fs) (c .before .before .before .before .pre) (c .before .before .card-at .result) (c .before .before .card-at .ensures) (c .before .match .keys2))
 
 sub-u-card : tie.Need-sub-u-card
 sub-u-card c = is-u (c .before) .from
@@ -61,18 +65,23 @@ part-u-card-start c = is-u (c .before) .from
 part-u-card-end : tie.Need-part-u-card-end
 part-u-card-end c = is-u (c .before) .upto
 
+add-u-card : tie.Need-add-u-card
+add-u-card c = let h = is-u (c .before .before) in omega (arith, h .from, h .upto)
+
 u-card-requires : tie.Need-u-card-requires
-u-card-requires c κs = search needs
+u-card-requires c κs = let h = is-u (c .before .before) in (omega arith, omega (arith, h .from, h .upto))
 
 refused-requires-2 : tie.Need-refused-requires-2
 refused-requires-2 c κs = search needs
 
 returns-2 : tie.Need-returns-2
 returns-2 c =
-    let a = c .before .before .before .before .before .before .before .before .before .before .args in
-    let g = c .before .before .before .before .before .before .first .given .0 in
-    subst (DeckSays (now (a .deck))) (sym (c .refused2 .ensures))
-    (unread-u (now (a .deck)) (a .fs) (c .before .before .before .before .before .before .before .before .before .before .pre) (g .0) (g .1 .0) (g .1 .1 .0) (is-u (c .before .before .before .before .before .before)) (c .before .before .before .u-card .result) (said (c .before .before .before)) (not-true _ (c .before .if1 .taken)))
+    let u = c .before .before .before in
+    let f = u .before .before .before in
+    let s = f .before .before .before .before in
+    let g = f .first .given .0 in
+    subst (DeckSays (now (s .args .deck))) (sym (c .refused2 .ensures))
+    (unread-u (now (s .args .deck)) (s .args .fs) (s .pre) (g .0) (g .1 .0) (g .1 .1 .0) (is-u f) (u .u-card .result) (said u) (c .before .if1 .taken))
 
 fs-cards-requires : tie.Need-fs-cards-requires
 fs-cards-requires c κs = search needs
@@ -82,22 +91,35 @@ refused-requires-3 c κs = search needs
 
 returns-3 : tie.Need-returns-3
 returns-3 c =
-    let a = c .before .before .before .before .before .before .before .before .before .before .before .before .args in
-    let g = c .before .before .before .before .before .before .before .before .first .given .0 in
-    subst (DeckSays (now (a .deck))) (sym (c .refused3 .ensures))
-    (unread-fs (now (a .deck)) (a .fs) (c .before .before .before .before .before .before .before .before .before .before .before .before .pre) (g .0) (g .1 .0) (g .1 .1 .0) (is-u (c .before .before .before .before .before .before .before .before)) (c .before .before .before .before .before .u-card .result) (said (c .before .before .before .before .before)) (not-false _ (c .before .before .before .if1 .left))
+    let e = c .before .before .before in
+    let u = e .before .before in
+    let f = u .before .before .before in
+    let s = f .before .before .before .before in
+    let g = f .first .given .0 in
+    subst (DeckSays (now (s .args .deck))) (sym (c .refused3 .ensures))
+    (unread-fs (now (s .args .deck)) (s .args .fs) (s .pre) (g .0) (g .1 .0) (g .1 .1 .0) (is-u f) (u .u-card .result) (said u) (e .if1 .left)
     (c .before .before .fs-cards .result) (c .before .before .fs-cards .ensures) (c .before .if2 .taken))
 
 judged-requires : tie.Need-judged-requires
-judged-requires c κs = search needs
+judged-requires c κs =
+    let k = c .before .before .before .before in
+    let e = k .before in
+    let u = e .before .before in
+    let f = u .before .before .before in
+    let s = f .before .before .before .before in
+    let g = f .first .given .0 in
+    few-kept (now (s .args .deck)) (s .args .fs) (s .pre) (g .0) (g .1 .0) (g .1 .1 .0) (is-u f) (u .u-card .result) (said u) (e .if1 .left) (k .fs-cards .result) (k .fs-cards .ensures) (c .before .before .before .if2 .left)
 
 returns-4 : tie.Need-returns-4
 returns-4 c =
-    let a = c .before .before .before .before .before .before .before .before .before .before .before .before .before .before .args in
-    let g = c .before .before .before .before .before .before .before .before .before .before .first .given .0 in
-    subst (DeckSays (now (a .deck))) (sym (c .judged .ensures))
-    (all-read (now (a .deck)) (a .fs) (c .before .before .before .before .before .before .before .before .before .before .before .before .before .before .pre) (g .0) (g .1 .0) (g .1 .1 .0) (is-u (c .before .before .before .before .before .before .before .before .before .before)) (c .before .before .before .before .before .before .before .u-card .result) (said (c .before .before .before .before .before .before .before)) (not-false _ (c .before .before .before .before .before .if1 .left))
-    (c .before .before .before .before .fs-cards .result) (c .before .before .before .before .fs-cards .ensures) (c .before .before .before .if2 .left))
+    let k = c .before .before .before .before .before in
+    let e = k .before in
+    let u = e .before .before in
+    let f = u .before .before .before in
+    let s = f .before .before .before .before in
+    let g = f .first .given .0 in
+    subst (DeckSays (now (s .args .deck))) (sym (c .judged .ensures))
+    (all-read (now (s .args .deck)) (s .args .fs) (s .pre) (g .0) (g .1 .0) (g .1 .1 .0) (is-u f) (u .u-card .result) (said u) (e .if1 .left) (k .fs-cards .result) (k .fs-cards .ensures) (c .before .before .before .before .if2 .left))
 
 pub read-ordered-spec : {M : Type 1} → statement M
 read-ordered-spec =
@@ -110,6 +132,7 @@ read-ordered-spec =
     sub-u-card
     part-u-card-start
     part-u-card-end
+    add-u-card
     u-card-requires
     refused-requires-2
     returns-2

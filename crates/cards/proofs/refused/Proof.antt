@@ -1,6 +1,6 @@
--- `cards::refused` meets its contract: it puts together just that.
-use borrow.Author.Needs.{needs}
+-- `cards::refused` meets its contract: nothing is asked beside a refusal.
 use Rattle.cards.specs.Promise.{refusedDeck}
+use borrow.Author.Needs.{needs}
 use Rattle.cards.proofs.refused.Statement.{statement}
 use Rattle.cards.proofs.refused.Tie as tie
 

@@ -1,43 +1,32 @@
 -- `cards::verdict_on` meets its contract: each return has passed the tests before it, in the order of the numbers.
 use mathlib.Core.Path.{sym, _∙_}
 use borrow.Author.Tests.{eq-eqb, ne-eqb, not-true, not-false}
+use Rattle.cards.specs.Verdict.{verdictOf}
 use borrow.Author.Needs.{needs}
-use Rattle.cards.specs.Verdict.{utilityIn, limitsOf, verdictOf}
 use Rattle.cards.proofs.verdict_on.Statement.{statement}
 use Rattle.cards.proofs.verdict_on.Tie as tie
 
 returns : tie.Need-returns
 unfolding verdictOf
-returns c = rw (c .if1 .taken)
+returns c = rw (ne-eqb _ 0 (c .if1 .taken))
 
 returns-2 : tie.Need-returns-2
 unfolding verdictOf
-returns-2 c = rw (c .before .if1 .left, ne-eqb _ 0 (c .if2 .taken))
+returns-2 c = rw (eq-eqb _ 0 (c .before .if1 .left), ne-eqb _ 0 (c .if2 .taken))
 
 is-complete-requires : tie.Need-is-complete-requires
 is-complete-requires c κs = search needs
 
 returns-3 : tie.Need-returns-3
 unfolding verdictOf
-returns-3 c =
-    rw (
-      c .before .before .before .if1 .left,
-      eq-eqb _ 0 (c .before .before .if2 .left),
-      sym (c .before .is-complete .ensures) ∙ not-true _ (c .if3 .taken),
-    )
+returns-3 c = rw (eq-eqb _ 0 (c .before .before .before .if1 .left), eq-eqb _ 0 (c .before .before .if2 .left), sym (c .before .is-complete .ensures) ∙ not-true _ (c .if3 .taken))
 
 limits-on-requires : tie.Need-limits-on-requires
 limits-on-requires c κs = search needs
 
 returns-4 : tie.Need-returns-4
-unfolding verdictOf limitsOf utilityIn
-returns-4 c =
-    rw (
-      c .before .before .before .before .if1 .left,
-      eq-eqb _ 0 (c .before .before .before .if2 .left),
-      sym (c .before .before .is-complete .ensures) ∙ not-false _ (c .before .if3 .left),
-    )
-    (c .limits-on .ensures)
+unfolding verdictOf
+returns-4 c = rw (eq-eqb _ 0 (c .before .before .before .before .if1 .left), eq-eqb _ 0 (c .before .before .before .if2 .left), sym (c .before .before .is-complete .ensures) ∙ not-false _ (c .before .if3 .left)) (c .limits-on .ensures)
 
 pub verdict-on-spec : {M : Type 1} → statement M
 verdict-on-spec =

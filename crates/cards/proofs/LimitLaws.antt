@@ -1,0 +1,104 @@
+-- The column of the first number outside its limits, found by asking each number by itself: the first column that is not 0 is that of the first number that
+-- fails, since no column is 0. By whether each number is within its limits.
+use mathlib.Core.Path.{_≡_, refl, ap, sym, _∙_}
+use mathlib.Core.Bool.{Bool, true, false, cond}
+use mathlib.Core.List.{List, [], _∷_, _++_}
+use Prim.Native.Nat.{ℕ, zero, suc, _+_, _-_, _≤_, _<_}
+use native.Mathlib.Omega.{arith}
+use lib.ListN.{length, take, drop, set, replicate, length-append, length-replicate, replicate-append-replicate, take-append-drop}
+use lib.Seq.{set-at, drop-cons, length-take-le, append-snoc}
+use mathlib.Core.List.{append-assoc}
+use Rattle.rules.specs.Base.{within}
+use Rattle.rules.specs.Grammar.{Format as RuleFormat, field}
+use Rattle.rules.specs.Words.{outsideColumn, firstOf}
+use Rattle.rules.specs.Asked.{sizeNumbers, itemNumbers}
+use Rattle.rules.proofs.WordColumns.{first-some}
+use Rattle.terms.specs.declared.Kind.{Kind}
+use Rattle.terms.specs.declared.Kind.the-variants.{Copy, Pack, Unpack}
+use Rattle.terms.specs.declared.Size.{Size}
+use Rattle.terms.specs.declared.Size.the-variants.{Two, One}
+use Rattle.terms.specs.declared.Field.{Field}
+use Rattle.terms.specs.Meaning.{sizeOf, kindOf, fieldOf}
+use Rattle.readers.specs.declared.Places.{Places}
+use Rattle.readers.specs.declared.UParameter.the-variants.{InputIs, OutputIs}
+use Rattle.readers.specs.Meaning.{OneSize, parameterPlaces, fieldPlaces}
+use Rattle.cards.specs.Limits.{shifted, sizePlaces, mostOf}
+use Rattle.cards.specs.Selected.{onCard}
+
+-- the columns of two and of four numbers, 0 for one that is within its limits
+pub two-first : (a b : Bool) (x y : ℕ) → 1 ≤ x → firstOf (cond a 0 x) (cond b 0 y) ≡ cond a (cond b 0 y) x
+two-first true b x y l = refl
+two-first false b x y l = first-some x (cond b 0 y) l
+
+four-first : (a b d e : Bool) (w x y z : ℕ) → 1 ≤ w → 1 ≤ x → 1 ≤ y
+    → firstOf (firstOf (cond a 0 w) (cond b 0 x)) (firstOf (cond d 0 y) (cond e 0 z)) ≡ cond a (cond b (cond d (cond e 0 z) y) x) w
+four-first false b d e w x y z l m n = ap (λ (k : ℕ). firstOf k (firstOf (cond d 0 y) (cond e 0 z))) (first-some w (cond b 0 x) l) ∙ first-some w _ l
+four-first true false d e w x y z l m n = first-some x _ m
+four-first true true d e w x y z l m n = two-first d e y z n
+
+-- ---- a field
+
+module _ (r t : ℕ) (p : Places) (c : ℕ) (low : 1 ≤ c) where
+  abbrev by-four : ℕ → ℕ → ℕ → ℕ
+  by-four most input output =
+      firstOf (firstOf (cond (within 1 4096 r) 0 c) (cond (within 1 most input) 0 (c + p .input)))
+      (firstOf (cond (within 1 most output) 0 (c + p .output)) (cond (within 1 4096 t) 0 (c + p .t)))
+
+  kind-first : (k : Kind) (input output : ℕ) → OneSize k input output
+      → by-four (mostOf k) input output ≡ outsideColumn (shifted c (fieldPlaces k p)) (itemNumbers (field (record { r = r; kind = kindOf k input output; t = t })))
+  kind-first Copy input output e =
+      let z : c ≡ c + 0 = omega arith in
+      ap (by-four 4096 input) e
+      ∙ four-first (within 1 4096 r) (within 1 4096 input) (within 1 4096 input) (within 1 4096 t) c (c + p .input) (c + p .output) (c + p .t) low (omega arith) (omega arith)
+      ∙ ap (cond (within 1 4096 r) (cond (within 1 4096 input) (cond (within 1 4096 input) (cond (within 1 4096 t) 0 (c + p .t)) (c + p .output)) (c + p .input))) z
+      ∙ ap (λ (k : ℕ). cond (within 1 4096 r) k (c + 0)) (once (within 1 4096 input))
+    where
+      once : (b : Bool) → cond b (cond b (cond (within 1 4096 t) 0 (c + p .t)) (c + p .output)) (c + p .input) ≡ cond b (cond (within 1 4096 t) 0 (c + p .t)) (c + p .input)
+      once true = refl
+      once false = refl
+  kind-first Pack input output e =
+      let z : c ≡ c + 0 = omega arith in
+      four-first (within 1 4096 r) (within 1 16 input) (within 1 16 output) (within 1 4096 t) c (c + p .input) (c + p .output) (c + p .t) low (omega arith) (omega arith)
+      ∙ ap (cond (within 1 4096 r) (cond (within 1 16 input) (cond (within 1 16 output) (cond (within 1 4096 t) 0 (c + p .t)) (c + p .output)) (c + p .input))) z
+  kind-first Unpack input output e =
+      let z : c ≡ c + 0 = omega arith in
+      four-first (within 1 4096 r) (within 1 16 input) (within 1 16 output) (within 1 4096 t) c (c + p .input) (c + p .output) (c + p .t) low (omega arith) (omega arith)
+      ∙ ap (cond (within 1 4096 r) (cond (within 1 16 input) (cond (within 1 16 output) (cond (within 1 4096 t) 0 (c + p .t)) (c + p .output)) (c + p .input))) z
+
+pub field-first : (f : Field) (p : Places) (c : ℕ) → OneSize (f .kind) (f .input) (f .output) → 1 ≤ c
+    → firstOf (firstOf (cond (within 1 4096 (f .r)) 0 c) (cond (within 1 (mostOf (f .kind)) (f .input)) 0 (c + p .input)))
+    (firstOf (cond (within 1 (mostOf (f .kind)) (f .output)) 0 (c + p .output)) (cond (within 1 4096 (f .t)) 0 (c + p .t)))
+    ≡ outsideColumn (shifted c (fieldPlaces (f .kind) p)) (itemNumbers (field (fieldOf f)))
+unfolding fieldOf
+field-first f p c e l = kind-first (f .r) (f .t) p c l (f .kind) (f .input) (f .output) e
+
+-- ---- A and B
+
+pub input-places : (z : Size) (second : ℕ) → parameterPlaces (InputIs z) second ≡ sizePlaces z second
+input-places (Two n m) second = refl
+input-places (One g) second = refl
+
+pub output-places : (z : Size) (second : ℕ) → parameterPlaces (OutputIs z) second ≡ sizePlaces z second
+output-places (Two n m) second = refl
+output-places (One g) second = refl
+
+-- ---- the card of each field
+
+pub on-card-none : (cs : List ℕ) (from card : ℕ) → cs ≡ onCard cs from from card
+unfolding onCard
+on-card-none cs from card = let z : from - from ≡ 0 = omega arith in rw z (sym (take-append-drop from cs))
+
+pub on-card-more : (cs : List ℕ) (from i card : ℕ) → from ≤ i → i < length cs → set (onCard cs from i card) i card ≡ onCard cs from (i + 1) card
+unfolding onCard
+on-card-more cs from i card l h =
+    let front = take from cs ++ replicate (i - from) card in
+    let long : length front ≡ i = omega (arith, length-append (take from cs) (replicate (i - from) card), length-replicate (i - from) card, length-take-le from cs (omega arith)) in
+    let n : (i - from) + 1 ≡ (i + 1) - from = omega arith in
+    let k : suc i ≡ i + 1 = omega arith in
+    ap (λ (r : List ℕ). set (take from cs ++ (replicate (i - from) card ++ r)) i card) (drop-cons cs i 0 h)
+    ∙ ap (λ (r : List ℕ). set r i card) (sym (append-assoc (take from cs) (replicate (i - from) card) _))
+    ∙ set-at front _ (drop (suc i) cs) card i long
+    ∙ append-assoc (take from cs) (replicate (i - from) card) (card ∷ drop (suc i) cs)
+    ∙ ap (λ (r : List ℕ). take from cs ++ r) (sym (append-snoc (replicate (i - from) card) card (drop (suc i) cs)))
+    ∙ ap (λ (r : List ℕ). take from cs ++ (r ++ drop (suc i) cs)) (replicate-append-replicate (i - from) 1 card)
+    ∙ (λ t. take from cs ++ (replicate (n t) card ++ drop (k t) cs))
