@@ -44,7 +44,7 @@ only-one-run deck reel before r r′ after after′ w w′ = (w .answer ∙ sym 
 
 -- ---- demands 1, 2 and 3, in words (rules/specs/Said)
 
--- of bhx_plan: refusal and place by the table, given exactly if; refused, the other three are 0; else there is the plan that the deck asks for, and keeping and
+-- of bhx_plan: refusal, place and column by the table, given exactly if; refused, the other three are 0; else there is the plan that the deck asks for, and keeping and
 -- lost place are right for all pairs of records
 pub plan-demands : (deck : List ℕ) (r : Planned) → PlanOf deck r → PlanSays (Row zoneF deck) deck (numbersOf r)
 plan-demands deck r w = subst (λ (z : Planned). PlanSays (Row zoneF deck) deck (numbersOf z)) (sym w) (plan-says deck)
@@ -60,7 +60,7 @@ into-demands deck before r after w =
     (subst (TableSays deck (map entryMeans before) (planAnswer (x (length before)))) (sym table)
     (subst (λ (k : ℕ). TableSays deck (map entryMeans before) (planAnswer (x k)) (tableAfter (map entryMeans before) (x k))) many (table-says deck (map entryMeans before))))
 
--- of bhx_run: refusal and place by the table; refused, the other three are 0 and no lent byte changes; else the reel of the output blocks that the deck asks for
+-- of bhx_run: refusal, place and column by the table; refused, the other three are 0 and no lent byte changes; else the reel of the output blocks that the deck asks for
 -- stands at the front of the output, its length, records and blocks are told, and the bytes past it stay. What is lent as a reel are bytes
 pub run-demands : (deck reel before : List ℕ) (r : Ran) (after : List ℕ) → All Byte reel → RanInto deck reel before r after → RunSays deck reel before (runNumbers r) after
 run-demands deck reel before r after a w =

@@ -18,7 +18,7 @@ use Rattle.bhexodana.specs.declared.Planned.{Planned}
 abbrev pub fillingFrom : Filled → Filling
 fillingFrom p =
     record {
-      answer = record { refusal = p .refusal; place = p .place; keeping = p .keeping; lost = p .lost; fields = p .fields };
+      answer = record { refusal = p .refusal; place = p .place; column = p .column; keeping = p .keeping; lost = p .lost; fields = p .fields };
       entries = p .entries;
       store = p .store;
     }

@@ -14,22 +14,22 @@ use Rattle.bhexodana.specs.declared.Ran.{Ran}
 
 -- ---- numbers
 
--- the five numbers of a plan
+-- the six numbers of a plan
 abbrev pub plannedOf : PlanAnswer → Planned
-plannedOf n = record { refusal = n .refusal; place = n .place; keeping = n .keeping; lost = n .lost; fields = n .fields }
+plannedOf n = record { refusal = n .refusal; place = n .place; column = n .column; keeping = n .keeping; lost = n .lost; fields = n .fields }
 
 abbrev pub numbersOf : Planned → PlanAnswer
-numbersOf r = record { refusal = r .refusal; place = r .place; keeping = r .keeping; lost = r .lost; fields = r .fields }
+numbersOf r = record { refusal = r .refusal; place = r .place; column = r .column; keeping = r .keeping; lost = r .lost; fields = r .fields }
 
 -- and of a run
 abbrev pub ranOf : RunAnswer → Ran
-ranOf x = record { refusal = x .refusal; place = x .place; length = x .reelLength; records = x .records; blocks = x .blocks }
+ranOf x = record { refusal = x .refusal; place = x .place; column = x .column; length = x .reelLength; records = x .records; blocks = x .blocks }
 
 abbrev pub runNumbers : Ran → RunAnswer
-runNumbers r = record { refusal = r .refusal; place = r .place; reelLength = r .length; records = r .records; blocks = r .blocks }
+runNumbers r = record { refusal = r .refusal; place = r .place; column = r .column; reelLength = r .length; records = r .records; blocks = r .blocks }
 
-abbrev pub refusedRun : ℕ → ℕ → Ran
-refusedRun number place = record { refusal = number; place = place; length = 0; records = 0; blocks = 0 }
+abbrev pub refusedRun : ℕ → ℕ → ℕ → Ran
+refusedRun number place column = record { refusal = number; place = place; column = column; length = 0; records = 0; blocks = 0 }
 
 -- ---- the promises
 

@@ -7,11 +7,12 @@ ghost use Prim.Native.Nat.{_≤_};
 ghost use lib.ListN.{length, take, drop};
 ghost use Rattle.bhexodana.specs.Promise.{refusedRun, PlanOf, PlannedInto, RanInto, fillingOf};
 
-// What a plan answers: refusal, place, 1 for keeping or 0, lost place or 0, field count.
+// What a plan answers: refusal, place, column, 1 for keeping or 0, lost place or 0, field count.
 #[repr(C)]
 pub struct Planned {
     pub refusal: usize,
     pub place: usize,
+    pub column: usize,
     pub keeping: usize,
     pub lost: usize,
     pub fields: usize,
@@ -34,6 +35,7 @@ fn fill(deck: &[u8], room: usize) -> Filling
         answer: Planned {
             refusal: p.refusal,
             place: p.place,
+            column: p.column,
             keeping: p.keeping,
             lost: p.lost,
             fields: p.fields,
@@ -64,6 +66,7 @@ pub extern "C" fn bhx_plan(deck: &[u8]) -> Planned
     Planned {
         refusal: p.refusal,
         place: p.place,
+        column: p.column,
         keeping: p.keeping,
         lost: p.lost,
         fields: p.fields,
@@ -81,42 +84,46 @@ pub extern "C" fn bhx_plan_into(deck: &[u8], table: &mut [Entry]) -> Planned
     p.answer
 }
 
-// What a run answers: refusal, place, and the length, the records and the blocks of the reel that was written.
+// What a run answers: refusal, place, column, and the length, the records and the blocks of the reel that was written.
 #[repr(C)]
 pub struct Ran {
     pub refusal: usize,
     pub place: usize,
+    pub column: usize,
     pub length: usize,
     pub records: usize,
     pub blocks: usize,
 }
 
-fn refused(number: usize, place: usize) -> Ran
-    ensures { λ r. ⌜ r ≡ refusedRun number place ⌝ }
+fn refused(number: usize, place: usize, column: usize) -> Ran
+    ensures { λ r. ⌜ r ≡ refusedRun number place column ⌝ }
 {
     Ran {
         refusal: number,
         place,
+        column,
         length: 0,
         records: 0,
         blocks: 0,
     }
 }
 
-// The run of a deck over a reel, into an output that the caller lends. A refusal changes no byte.
+// The run of a deck over a reel, into an output that the caller lends. A refusal changes no byte. For 11 to 15 no byte of a card is at fault, so these
+// have no column.
 #[no_mangle]
 pub extern "C" fn bhx_run(deck: &[u8], reel: &[u8], out: &mut [u8]) -> Ran
     ensures { λ r. ⌜ RanInto (now (deck .entry)) (now (reel .entry)) (now (out .entry)) r (now (out .exit)) ⌝ }
 {
     let p = plans::plan_deck(deck);
     if p.refusal != 0 {
-        return refused(p.refusal, p.place);
+        return refused(p.refusal, p.place, p.column);
     }
     let asked = p.asked;
     let r = runs::run_plan(asked, reel, out);
     Ran {
         refusal: r.refusal,
         place: r.place,
+        column: 0,
         length: r.length,
         records: r.records,
         blocks: r.blocks,

@@ -22,7 +22,7 @@ use Rattle.plans.specs.declared.Planned.{Planned}
 
 -- ---- a deck that is refused by 1 to 7
 
-pub refused-deck : (deck : List ℕ) (q : Refusal) → askedOf deck ≡ refuse q → Plans deck (refusedWith (q .number) (q .place))
+pub refused-deck : (deck : List ℕ) (q : Refusal) → askedOf deck ≡ refuse q → Plans deck (refusedWith (q .number) (q .place) (q .column))
 unfolding plan
 refused-deck deck q e =
     let r = deck-refused zoneF deck q e in

@@ -1,5 +1,5 @@
 -- What the numbers of a plan say of the rules' answer, and so what is filled into a table; and what the lent table then holds.
-use mathlib.Core.Path.{_≡_, refl, ap, ap₂, sym, subst, _∙_}
+use mathlib.Core.Path.{_≡_, refl, ap, sym, subst, _∙_}
 use mathlib.Core.List.{List, [], _∷_, _++_, map}
 use Prim.Native.Nat.{ℕ, zero, suc, _≤_, _<_}
 use native.Mathlib.Omega.{arith}
@@ -26,12 +26,16 @@ use Rattle.plans.specs.declared.Filled.{Filled}
 -- ---- what the numbers say
 
 module _ (deck : List ℕ) (r : Planned) (w : Plans deck r) where
-  -- refused, with the number and the place
-  pub refused-plan : (r .refusal ≡ 0 → ⊥) → (q : Refusal) × (plan deck ≡ refuse q) × (r .refusal ≡ q .number) × (r .place ≡ q .place)
+  -- refused, with the number, the place and the column
+  pub refused-plan : (r .refusal ≡ 0 → ⊥)
+      → (q : Refusal) × (plan deck ≡ refuse q) × (r .refusal ≡ q .number) × (r .place ≡ q .place) × (r .column ≡ q .column)
   refused-plan h = go (plan deck) refl
     where
-      go : (x : Answer Plan) → plan deck ≡ x → (q : Refusal) × (plan deck ≡ refuse q) × (r .refusal ≡ q .number) × (r .place ≡ q .place)
-      go (refuse q) e = (q, e, ap (λ (n : PlanAnswer). n .refusal) (w .numbers ∙ ap planAnswer e), ap (λ (n : PlanAnswer). n .place) (w .numbers ∙ ap planAnswer e))
+      go : (x : Answer Plan) → plan deck ≡ x
+          → (q : Refusal) × (plan deck ≡ refuse q) × (r .refusal ≡ q .number) × (r .place ≡ q .place) × (r .column ≡ q .column)
+      go (refuse q) e =
+          let n = w .numbers ∙ ap planAnswer e in
+          (q, e, ap (λ (n : PlanAnswer). n .refusal) n, ap (λ (n : PlanAnswer). n .place) n, ap (λ (n : PlanAnswer). n .column) n)
       go (fine p) e = absurd (h (ap (λ (n : PlanAnswer). n .refusal) (w .numbers ∙ ap planAnswer e)))
 
   -- accepted, with the plan's own numbers
@@ -67,19 +71,19 @@ module _ (deck : List ℕ) (p : Plan) (x : Asked) (h : Holds deck p x) where
 -- ---- what is filled in
 
 module _ (room : ℕ) (deck : List ℕ) (r : Planned) (w : Plans deck r) where
-  pub filled-refused : (r .refusal ≡ 0 → ⊥) → notFilled (r .refusal) (r .place) ≡ filledFor (planInto room deck)
+  pub filled-refused : (r .refusal ≡ 0 → ⊥) → notFilled (r .refusal) (r .place) (r .column) ≡ filledFor (planInto room deck)
   filled-refused h =
       let s = refused-plan deck r w h in
-      ap₂ notFilled (s .2) (s .3) ∙ ap filledFor (sym (into-refused room deck (s .0) (s .1)))
+      (λ i. notFilled (s .2 i) (s .3 i) (s .4 i)) ∙ ap filledFor (sym (into-refused room deck (s .0) (s .1)))
 
   module _ (z : r .refusal ≡ 0) where
     many : let p = accepted-plan deck r w z .0 in r .fields ≡ length (p .fields)
     many = ap (λ (n : PlanAnswer). n .fields) (accepted-plan deck r w z .2)
 
-    pub filled-full : room < r .fields → notFilled 15 (r .fields) ≡ filledFor (planInto room deck)
+    pub filled-full : room < r .fields → notFilled 15 (r .fields) 0 ≡ filledFor (planInto room deck)
     filled-full l =
         let s = accepted-plan deck r w z in
-        ap (notFilled 15) many ∙ ap filledFor (sym (into-full room deck (s .0) (s .1) (omega (arith, many))))
+        ap (λ (n : ℕ). notFilled 15 n 0) many ∙ ap filledFor (sym (into-full room deck (s .0) (s .1) (omega (arith, many))))
 
     pub fields-fair : FieldsFair (r .asked .fields) (r .fields)
     fields-fair =
@@ -95,13 +99,13 @@ module _ (room : ℕ) (deck : List ℕ) (r : Planned) (w : Plans deck r) where
 
     pub filled-whole : r .fields ≤ room → (table : List Entry) → table ≡ tableOf (map fieldOf (take (r .fields) (r .asked .fields)))
         → _≡_ {A = Filled}
-        (record { refusal = 0; place = 0; keeping = r .keeping; lost = r .lost; fields = r .fields; entries = table; store = r .fields })
+        (record { refusal = 0; place = 0; column = 0; keeping = r .keeping; lost = r .lost; fields = r .fields; entries = table; store = r .fields })
         (filledFor (planInto room deck))
     filled-whole l table t =
         let s = accepted-plan deck r w z in
         let n = s .2 in
         let e : table ≡ tableOf (s .0 .fields) = t ∙ table-is in
-        (λ i. record { refusal = 0; place = 0; keeping = n i .keeping; lost = n i .lost; fields = n i .fields; entries = e i; store = n i .fields })
+        (λ i. record { refusal = 0; place = 0; column = 0; keeping = n i .keeping; lost = n i .lost; fields = n i .fields; entries = e i; store = n i .fields })
         ∙ ap filledFor (sym (into-fits room deck (s .0) (s .1) (omega (arith, many))))
 
 -- ---- the lent table

@@ -21,15 +21,16 @@ use Rattle.plans.proofs.FilledLaws.{fields-are, count-is}
 -- ---- of a plan
 
 module _ (deck : List ℕ) (p : Plan) (e : plan deck ≡ fine p) where
-  held-read : (x : Asked) → Holds deck p x → DeckSays deck (record { refusal = 0; place = 0; asked = x })
+  held-read : (x : Asked) → Holds deck p x → DeckSays deck (record { refusal = 0; place = 0; column = 0; asked = x })
   unfolding plan planOf
   held-read x h =
       let s = bind-fine _ _ p e in
       let m = h .means (s .0) (s .1) in
-      subst (λ (z : Answer RuleAsked). Said z (record { refusal = 0; place = 0; asked = x })) (sym (s .1))
+      subst (λ (z : Answer RuleAsked). Said z (record { refusal = 0; place = 0; column = 0; asked = x })) (sym (s .1))
       (record {
         refusal = refl;
         place = refl;
+        column = refl;
         means = m;
         count = count-is deck p x h ∙ ap length (sym (fields-are deck p x h) ∙ m .fields);
         sizes = sizes-read (h .fair .one-size);
@@ -42,7 +43,7 @@ pub only-one : (deck : List ℕ) (r s : Planned) → Plans deck r → Plans deck
 only-one deck r s w v =
     let n = w .numbers ∙ sym (v .numbers) in
     let a = go (plan deck) refl (w .held) (v .held) in
-    λ i. record { refusal = n i .refusal; place = n i .place; keeping = n i .keeping; lost = n i .lost; fields = n i .fields; asked = a i }
+    λ i. record { refusal = n i .refusal; place = n i .place; column = n i .column; keeping = n i .keeping; lost = n i .lost; fields = n i .fields; asked = a i }
   where
     go : (x : Answer Plan) → plan deck ≡ x → HoldsFor deck x (r .asked) → HoldsFor deck x (s .asked) → r .asked ≡ s .asked
     go (fine p) e h k = held-once deck p e (r .asked) (s .asked) h k

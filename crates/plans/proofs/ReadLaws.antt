@@ -1,4 +1,4 @@
--- From what is read of a deck to its plan: the deck is refused with the number and the place that were read, or it asks for what was read.
+-- From what is read of a deck to its plan: the deck is refused with the number, the place and the column that were read, or it asks for what was read.
 use mathlib.Core.Path.{_≡_, ap, sym, _∙_}
 use mathlib.Core.List.{List}
 use Prim.Native.Nat.{ℕ, _+_, _-_}
@@ -19,8 +19,8 @@ use Rattle.plans.specs.declared.Planned.{Planned}
 use Rattle.plans.proofs.DeckLaws.{refused-deck, judgeable, asked-deck}
 
 module _ (deck : List ℕ) (d : DeckRead) (says : DeckSays deck d) where
-  pub refused-read : (d .refusal ≡ 0 → ⊥) → Plans deck (refusedWith (d .refusal) (d .place))
-  refused-read h = refused-deck deck (record { number = d .refusal; place = d .place }) (refused-as deck d says h)
+  pub refused-read : (d .refusal ≡ 0 → ⊥) → Plans deck (refusedWith (d .refusal) (d .place) (d .column))
+  refused-read h = refused-deck deck (record { number = d .refusal; place = d .place; column = d .column }) (refused-as deck d says h)
 
   pub judgeable-read : d .refusal ≡ 0 → Asks (d .asked)
   judgeable-read z =

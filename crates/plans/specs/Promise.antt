@@ -19,23 +19,23 @@ use Rattle.plans.specs.declared.Filled.{Filled}
 
 -- ---- the plan of a deck
 
-abbrev pub refusedWith : ℕ → ℕ → Planned
-refusedWith number place = record { refusal = number; place = place; keeping = 0; lost = 0; fields = 0; asked = nothingAsked }
+abbrev pub refusedWith : ℕ → ℕ → ℕ → Planned
+refusedWith number place column = record { refusal = number; place = place; column = column; keeping = 0; lost = 0; fields = 0; asked = nothingAsked }
 
 abbrev pub keptAs : Asked → ℕ → ℕ → Planned
-keptAs x keeping lost = record { refusal = 0; place = 0; keeping = keeping; lost = lost; fields = x .count; asked = x }
+keptAs x keeping lost = record { refusal = 0; place = 0; column = 0; keeping = keeping; lost = lost; fields = x .count; asked = x }
 
 -- the verdict on what a deck asks for, with the plan: its refusal, or the mark of keeping and the lost place
 abbrev pub plannedBy : Asked → Answer (ℕ × ℕ) → Planned
 plannedBy x (fine n) = keptAs x (n .0) (n .1)
-plannedBy x (refuse r) = refusedWith (r .number) (r .place)
+plannedBy x (refuse r) = refusedWith (r .number) (r .place) (r .column)
 
 unfoldable pub Verdicts : Asked → Planned → Type 0
 Verdicts x r = (a : RuleAsked) → Means x a → r ≡ plannedBy x (judgedOf (planned zoneF a))
 
--- the five numbers
+-- the six numbers
 abbrev pub numbersIn : Planned → PlanAnswer
-numbersIn r = record { refusal = r .refusal; place = r .place; keeping = r .keeping; lost = r .lost; fields = r .fields }
+numbersIn r = record { refusal = r .refusal; place = r .place; column = r .column; keeping = r .keeping; lost = r .lost; fields = r .fields }
 
 -- the struct holds the plan p of the deck: it says just what the deck asks for
 pub record Holds (deck : List ℕ) (p : Plan) (x : Asked) : Type 0 where
@@ -69,6 +69,7 @@ filledWith n fs =
     record {
       refusal = n .refusal;
       place = n .place;
+      column = n .column;
       keeping = n .keeping;
       lost = n .lost;
       fields = n .fields;
@@ -76,8 +77,8 @@ filledWith n fs =
       store = length fs;
     }
 
-abbrev pub notFilled : ℕ → ℕ → Filled
-notFilled number place = filledWith (record { refusal = number; place = place; keeping = 0; lost = 0; fields = 0 }) []
+abbrev pub notFilled : ℕ → ℕ → ℕ → Filled
+notFilled number place column = filledWith (record { refusal = number; place = place; column = column; keeping = 0; lost = 0; fields = 0 }) []
 
 -- the fields that are stored
 abbrev pub stored : Answer Plan → List RuleField

@@ -20,6 +20,7 @@ ghost use Rattle.plans.specs.Promise.{refusedWith, keptAs, Verdicts, Pla
 pub struct Planned {
     pub refusal: usize,
     pub place: usize,
+    pub column: usize,
     pub keeping: usize,
     pub lost: usize,
     pub fields: usize,
@@ -27,13 +28,14 @@ pub struct Planned {
 }
 
 // Refused, the others are 0.
-fn refused(number: usize, place: usize) -> Planned
-    ensures { λ r. ⌜ r ≡ refusedWith number place ⌝ }
+fn refused(number: usize, place: usize, column: usize) -> Planned
+    ensures { λ r. ⌜ r ≡ refusedWith number place column ⌝ }
 {
     let asked = cards::nothing_asked();
     Planned {
         refusal: number,
         place,
+        column,
         keeping: 0,
         lost: 0,
         fields: 0,
@@ -47,6 +49,7 @@ fn accepted(asked: Asked, keeping: usize, lost: usize) -> Planned
     Planned {
         refusal: 0,
         place: 0,
+        column: 0,
         keeping,
         lost,
         fields: asked.count,
@@ -54,14 +57,14 @@ fn accepted(asked: Asked, keeping: usize, lost: usize) -> Planned
     }
 }
 
-// What the cards ask for, judged.
+// What the cards ask for, judged. No byte of a card is at fault for 8 to 10, so these have no column.
 fn judged(asked: Asked) -> Planned
     requires { ⌜ Asks asked ⌝ }
     ensures { λ r. ⌜ Verdicts asked r ⌝ }
 {
     let verdict = judges::judge(asked);
     match verdict {
-        Verdict::Refused { number, place } => refused(number, place),
+        Verdict::Refused { number, place } => refused(number, place, 0),
         Verdict::Keeping => accepted(asked, 1, 0),
         Verdict::Losing { half } => accepted(asked, 0, half),
     }
@@ -73,7 +76,7 @@ pub fn plan_deck(deck: &[u8]) -> Planned
 {
     let read = cards::read_deck(deck);
     if read.refusal != 0 {
-        return refused(read.refusal, read.place);
+        return refused(read.refusal, read.place, read.column);
     }
     let asked = read.asked;
     judged(asked)
@@ -140,6 +143,7 @@ fn entries(fields: [Field; 64], count: usize) -> [Entry; 64]
 pub struct Filled {
     pub refusal: usize,
     pub place: usize,
+    pub column: usize,
     pub keeping: usize,
     pub lost: usize,
     pub fields: usize,
@@ -147,13 +151,14 @@ pub struct Filled {
     pub store: usize,
 }
 
-fn not_filled(number: usize, place: usize) -> Filled
-    ensures { λ r. ⌜ r ≡ notFilled number place ⌝ }
+fn not_filled(number: usize, place: usize, column: usize) -> Filled
+    ensures { λ r. ⌜ r ≡ notFilled number place column ⌝ }
 {
     let entries = no_entries();
     Filled {
         refusal: number,
         place,
+        column,
         keeping: 0,
         lost: 0,
         fields: 0,
@@ -168,11 +173,11 @@ fn filled_by(planned: Planned, room: usize) -> Filled
     ensures { λ r. ⌜ ((deck : List ℕ) → Plans deck planned → r ≡ filledFor (planInto room deck)) ⌝ }
 {
     if planned.refusal != 0 {
-        return not_filled(planned.refusal, planned.place);
+        return not_filled(planned.refusal, planned.place, planned.column);
     }
     let count = planned.fields;
     if room < count {
-        return not_filled(15, count);
+        return not_filled(15, count, 0);
     }
     let asked = planned.asked;
     let fields = asked.fields;
@@ -180,6 +185,7 @@ fn filled_by(planned: Planned, room: usize) -> Filled
     Filled {
         refusal: 0,
         place: 0,
+        column: 0,
         keeping: planned.keeping,
         lost: planned.lost,
         fields: count,

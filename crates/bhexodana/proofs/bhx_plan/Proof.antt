@@ -1,4 +1,4 @@
--- The five numbers of the plan are those that the rules answer.
+-- The six numbers of the plan are those that the rules answer.
 use mathlib.Core.Path.{ap}
 use Rattle.bhexodana.specs.Promise.{plannedOf}
 use borrow.Author.Needs.{needs}

@@ -4,9 +4,10 @@ use denote.Ref.{now}
 use lib.ListN.{length}
 use Rattle.rules.specs.Answer.{Answer}
 use Rattle.rules.specs.Run.{Ran as RuleRan}
-use Rattle.rules.specs.Lent.{runAnswer, outputAfter}
+use Rattle.rules.specs.Lent.{zoneF, runAnswer, outputAfter}
+use Rattle.terms.specs.Meaning.{planIn}
 use Rattle.bhexodana.specs.Promise.{ranOf}
-use Rattle.bhexodana.proofs.RunLaws.{ranFrom, run-refused, run-accepted, runnable}
+use Rattle.bhexodana.proofs.RunLaws.{ranFrom, ran-same, run-refused, run-accepted, runnable}
 use borrow.Author.Needs.{needs}
 use Rattle.bhexodana.proofs.bhx_run.Statement.{statement}
 use Rattle.bhexodana.proofs.bhx_run.Tie as tie
@@ -43,7 +44,10 @@ returns-2 c =
     let p = c .before .before .before .before .before .before .before .plan-deck in
     let r = c .before .before .run-plan in
     let e = run-accepted (now (a .deck)) (p .result) (p .ensures) (c .before .before .before .before .before .if1 .left) (length (now (a .out))) (now (a .reel)) in
-    record { answer = ap ranFrom (r .ensures .0) ∙ ap (λ (x : Answer RuleRan). ranOf (runAnswer x)) (sym e); output = r .ensures .1 ∙ ap (outputAfter (now (a .out))) (sym e) }
+    record {
+      answer = ap ranFrom (r .ensures .0) ∙ ran-same (length (now (a .out))) (planIn zoneF (p .result .asked)) (now (a .reel)) ∙ ap (λ (x : Answer RuleRan). ranOf (runAnswer x)) (sym e);
+      output = r .ensures .1 ∙ ap (outputAfter (now (a .out))) (sym e);
+    }
 
 pub bhx-run-spec : {M : Type 1} → statement M
 bhx-run-spec =

@@ -1,4 +1,4 @@
--- The number and the place, with no entry.
+-- The number, the place and the column, with no entry.
 use borrow.Author.Needs.{needs}
 use Rattle.plans.proofs.not_filled.Statement.{statement}
 use Rattle.plans.proofs.not_filled.Tie as tie

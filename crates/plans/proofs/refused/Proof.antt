@@ -1,4 +1,4 @@
--- The number and the place, with nothing asked for.
+-- The number, the place and the column, with nothing asked for.
 use borrow.Author.Needs.{needs}
 use Rattle.plans.proofs.refused.Statement.{statement}
 use Rattle.plans.proofs.refused.Tie as tie
