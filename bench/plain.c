@@ -1,6 +1,6 @@
 /*
  * A plain converter in C, to measure beside: what document 01 asks, as one would write it without proofs. It reads the deck, plans, checks the
- * whole reel and then writes. No part of it is taken from the proved crates.
+ * whole reel and then writes. No part of it is taken from the proved crates. Only what is accepted is measured, so it seeks no column of a refusal.
  */
 #include "plain.h"
 
@@ -699,7 +699,7 @@ static void write_reel(const struct plan *p, const uint8_t *reel, size_t blocks,
 
 static bhx_planned planned(const struct plan *p)
 {
-    return (bhx_planned){0, 0, p->keeping, p->lost, p->count};
+    return (bhx_planned){0, 0, 0, p->keeping, p->lost, p->count};
 }
 
 bhx_planned plain_plan(const uint8_t *deck, size_t deck_len)
@@ -707,7 +707,7 @@ bhx_planned plain_plan(const uint8_t *deck, size_t deck_len)
     struct plan p;
     struct refusal r = make_plan(deck, deck_len, &p);
     if (r.number)
-        return (bhx_planned){r.number, r.place, 0, 0, 0};
+        return (bhx_planned){r.number, r.place, 0, 0, 0, 0};
     return planned(&p);
 }
 
@@ -716,9 +716,9 @@ bhx_planned plain_plan_into(const uint8_t *deck, size_t deck_len, bhx_field *tab
     struct plan p;
     struct refusal r = make_plan(deck, deck_len, &p);
     if (r.number)
-        return (bhx_planned){r.number, r.place, 0, 0, 0};
+        return (bhx_planned){r.number, r.place, 0, 0, 0, 0};
     if (entries < p.count)
-        return (bhx_planned){15, p.count, 0, 0, 0};
+        return (bhx_planned){15, p.count, 0, 0, 0, 0};
     for (size_t i = 0; i < p.count; i++) {
         const struct field *f = &p.fields[i];
         table[i] = (bhx_field){f->kind, (uint16_t)f->r, (uint16_t)f->input, (uint16_t)f->output, (uint16_t)f->t};
@@ -732,27 +732,27 @@ bhx_ran plain_run(const uint8_t *deck, size_t deck_len, const uint8_t *reel, siz
     struct measure m;
     struct refusal r = make_plan(deck, deck_len, &p);
     if (r.number)
-        return (bhx_ran){r.number, r.place, 0, 0, 0};
+        return (bhx_ran){r.number, r.place, 0, 0, 0, 0};
     long blocks = read_header(reel, reel_len);
     if (blocks < 0)
-        return (bhx_ran){11, 0, 0, 0, 0};
+        return (bhx_ran){11, 0, 0, 0, 0, 0};
     size_t records, bad = bad_block(&p, reel, (size_t)blocks, &records);
     if (bad)
-        return (bhx_ran){12, bad, 0, 0, 0};
+        return (bhx_ran){12, bad, 0, 0, 0, 0};
     size_t length = reel_len;
     if (p.mode == TC) {
         m = (struct measure){(size_t)blocks, records, 0};
     } else {
         r = check_records(&p, reel, (size_t)blocks, &m);
         if (r.number)
-            return (bhx_ran){r.number, r.place, 0, 0, 0};
+            return (bhx_ran){r.number, r.place, 0, 0, 0, 0};
         length = 4 * m.blocks + 8 + m.bytes;
     }
     if (length > room || length > 65536)
-        return (bhx_ran){15, length, 0, 0, 0};
+        return (bhx_ran){15, length, 0, 0, 0, 0};
     if (p.mode == TC)
         memcpy(out, reel, reel_len);
     else
         write_reel(&p, reel, (size_t)blocks, m.blocks, out);
-    return (bhx_ran){0, 0, length, m.records, m.blocks};
+    return (bhx_ran){0, 0, 0, length, m.records, m.blocks};
 }

@@ -1,6 +1,6 @@
 ! Bhexodana for Fortran: converts reels of blocked records as the cards of a deck ask.
 !
-! Link with libbhexodana.a, which `rt staticlib bhexodana` writes for x86-64 Linux. include/bhexodana.h lists the refusals and their places.
+! Link with libbhexodana.a, which `rt staticlib bhexodana` writes for x86-64 Linux. include/bhexodana.h lists the refusals, their places and columns.
 !
 ! A deck may be given in three ways:
 !   cards     an array of card images, character(len=80) or shorter; what is right of the text counts as comment
@@ -8,8 +8,8 @@
 !   bytes     an array of integer(int8)
 ! A reel, and the output, are arrays of integer(int8). What is given in one call must not overlap. The library keeps nothing between calls.
 !
-! Every answer begins with refusal and place. Refusal 0: the call finished. Otherwise the other parts of the answer are 0, and the output or the
-! table is as it was.
+! Every answer begins with refusal, place and column. Refusal 0: the call finished. Otherwise the other parts of the answer are 0, and the output or
+! the table is as it was. The column is, for 3, 4 and 7, that of a byte of the card which the place names, from 1; for all other refusals it is 0.
 module bhexodana
     use, intrinsic :: iso_c_binding, only: c_int8_t, c_int16_t, c_int64_t, c_size_t, c_ptr, c_loc
     use, intrinsic :: iso_fortran_env, only: int8, int64
@@ -20,7 +20,7 @@ module bhexodana
     public :: bhx_field, bhx_planned, bhx_ran
 
     ! The version of this interface. It rises when an answer or an entry gets another shape.
-    integer, parameter, public :: bhexodana_version = 1
+    integer, parameter, public :: bhexodana_version = 2
 
     ! What a field does: bhx_field%kind.
     integer, parameter, public :: bhx_copy = 0, bhx_pack = 1, bhx_unpack = 2
@@ -42,6 +42,7 @@ module bhexodana
     type :: bhx_planned
         integer(int64) :: refusal = 0
         integer(int64) :: place = 0
+        integer(int64) :: column = 0
         logical :: keeping = .false.
         integer(int64) :: lost = 0
         integer(int64) :: fields = 0
@@ -51,6 +52,7 @@ module bhexodana
     type, bind(c) :: bhx_ran
         integer(c_int64_t) :: refusal = 0
         integer(c_int64_t) :: place = 0
+        integer(c_int64_t) :: column = 0
         integer(c_int64_t) :: length = 0
         integer(c_int64_t) :: records = 0
         integer(c_int64_t) :: blocks = 0
@@ -75,6 +77,7 @@ module bhexodana
     type, bind(c) :: raw_planned
         integer(c_int64_t) :: refusal
         integer(c_int64_t) :: place
+        integer(c_int64_t) :: column
         integer(c_int64_t) :: keeping
         integer(c_int64_t) :: lost
         integer(c_int64_t) :: fields
@@ -187,7 +190,7 @@ contains
     function planned(raw) result(answer)
         type(raw_planned), intent(in) :: raw
         type(bhx_planned) :: answer
-        answer = bhx_planned(raw%refusal, raw%place, raw%keeping == 1, raw%lost, raw%fields)
+        answer = bhx_planned(raw%refusal, raw%place, raw%column, raw%keeping == 1, raw%lost, raw%fields)
     end function planned
 
     function bytes_of(text) result(bytes)

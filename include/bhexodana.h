@@ -14,8 +14,9 @@
  *   leaves the bytes of the output past the length as they were, and a finished plan the entries past the field count.
  *
  * Refusals
- *   Every answer begins with a refusal and a place. Refusal 0 says that the call finished; its place is 0, and the other numbers are what was
- *   asked for. Where it is 1 to 15 the other numbers are 0. The lowest number that applies is given, at its first place:
+ *   Every answer begins with a refusal, a place and a column. Refusal 0 says that the call finished; its place and column are 0, and the other numbers
+ *   are what was asked for. Where it is 1 to 15 the other numbers are 0. The lowest number that applies is given, at its first place, and there at its
+ *   lowest column:
  *
  *    1  a line is no card                                            card, from 1
  *    2  no card, wrong order, no END card, or over 64 cards          the first card at fault, or one past the last
@@ -35,6 +36,12 @@
  *       plan: the table has fewer entries than the plan has fields            the field count
  *
  *   A plan answers 1 to 10, and 15 where a table is lent; a run answers 1 to 15.
+ *
+ *   The column is that of a byte of the card which the place names, from 1:
+ *    3  the first column at which no continuation of the operand could be right; one past its end where the operand stops short
+ *    4  the first byte of the second occurrence
+ *    7  the number's first digit
+ *   For all other refusals it is 0.
  */
 #ifndef BHEXODANA_H
 #define BHEXODANA_H
@@ -43,7 +50,7 @@
 #include <stdint.h>
 
 /* The version of this interface. It rises when an answer or an entry gets another shape. */
-#define BHEXODANA_VERSION 1
+#define BHEXODANA_VERSION 2
 
 /* What a field does: bhx_field.kind. */
 #define BHX_COPY 0
@@ -73,6 +80,7 @@ typedef struct {
 typedef struct {
     uint64_t refusal; /* 0, or the number of the refusal */
     uint64_t place;   /* where it was refused */
+    uint64_t column;  /* for 3, 4 and 7 the byte of the card, from 1; otherwise 0 */
     uint64_t keeping; /* 1 if no two different records that the plan converts have the same output, 0 if some have */
     uint64_t lost;    /* where keeping is 0: the lowest half byte that is lost, from 0, or two times A's n for the data past A's n */
     uint64_t fields;  /* how many fields the plan has */
@@ -82,6 +90,7 @@ typedef struct {
 typedef struct {
     uint64_t refusal; /* 0, or the number of the refusal */
     uint64_t place;   /* where it was refused */
+    uint64_t column;  /* for 3, 4 and 7 the byte of the card, from 1; otherwise 0 */
     uint64_t length;  /* how many bytes of the output are the reel that was written */
     uint64_t records; /* how many records it has */
     uint64_t blocks;  /* how many blocks it has */

@@ -9,25 +9,27 @@
 
 /* The build fails where a layout is another one. */
 #define HOLDS(name, test) typedef char name[(test) ? 1 : -1]
-HOLDS(version, BHEXODANA_VERSION == 1);
+HOLDS(version, BHEXODANA_VERSION == 2);
 HOLDS(field_size, sizeof(bhx_field) == 10);
 HOLDS(field_kind, offsetof(bhx_field, kind) == 0);
 HOLDS(field_r, offsetof(bhx_field, r) == 2);
 HOLDS(field_input, offsetof(bhx_field, input) == 4);
 HOLDS(field_output, offsetof(bhx_field, output) == 6);
 HOLDS(field_t, offsetof(bhx_field, t) == 8);
-HOLDS(planned_size, sizeof(bhx_planned) == 40);
+HOLDS(planned_size, sizeof(bhx_planned) == 48);
 HOLDS(planned_refusal, offsetof(bhx_planned, refusal) == 0);
 HOLDS(planned_place, offsetof(bhx_planned, place) == 8);
-HOLDS(planned_keeping, offsetof(bhx_planned, keeping) == 16);
-HOLDS(planned_lost, offsetof(bhx_planned, lost) == 24);
-HOLDS(planned_fields, offsetof(bhx_planned, fields) == 32);
-HOLDS(ran_size, sizeof(bhx_ran) == 40);
+HOLDS(planned_column, offsetof(bhx_planned, column) == 16);
+HOLDS(planned_keeping, offsetof(bhx_planned, keeping) == 24);
+HOLDS(planned_lost, offsetof(bhx_planned, lost) == 32);
+HOLDS(planned_fields, offsetof(bhx_planned, fields) == 40);
+HOLDS(ran_size, sizeof(bhx_ran) == 48);
 HOLDS(ran_refusal, offsetof(bhx_ran, refusal) == 0);
 HOLDS(ran_place, offsetof(bhx_ran, place) == 8);
-HOLDS(ran_length, offsetof(bhx_ran, length) == 16);
-HOLDS(ran_records, offsetof(bhx_ran, records) == 24);
-HOLDS(ran_blocks, offsetof(bhx_ran, blocks) == 32);
+HOLDS(ran_column, offsetof(bhx_ran, column) == 16);
+HOLDS(ran_length, offsetof(bhx_ran, length) == 24);
+HOLDS(ran_records, offsetof(bhx_ran, records) == 32);
+HOLDS(ran_blocks, offsetof(bhx_ran, blocks) == 40);
 HOLDS(length_size, sizeof(size_t) == 8);
 
 enum { GUARD = 64, ROOM = BHX_MOST_REEL + 16, ENTRIES = 70 };
@@ -36,6 +38,9 @@ static const char deck[] = "// UTT TRF,FF,A=(8,16),B=(7,7)\n// FS 1,4,1/5,(P,4,3
 static const char twins[] = "// UTT TRF,FF,A=(8,16),B=(6,6)\n// FS 1,4,1/5,(P,4,2),5\n// END\n";
 static const char copies[] = "// U TC,FU,A=(9),B=(9)\n// END";
 static const char barren[] = "// U TRF,FF,A=(2,2),B=(3,3)\n// FS 1,(P,2,2),1/1,(U,1,1),3\n// END\n";
+static const char cut[] = "// U TC,FU,A=(5),B=(5\n// END\n";
+static const char twice[] = "// UTT TC,FU,TC,A=(5),B=(5)\n// END\n";
+static const char small[] = "// U TF,FF,A=(8,8),B=(8,8)\n// FS 1,8,1/1,0,1\n// END\n";
 
 static const uint8_t empty_reel[8] = {0, 0, 0, 0, 0, 0, 0, 8};
 static const uint8_t reel[28] = {
@@ -83,11 +88,12 @@ static int stays(const uint8_t *lent, const uint8_t *before, size_t size, const 
 
 /* ---- what is expected, by the header's names */
 
-static bhx_planned planned(uint64_t refusal, uint64_t place, uint64_t keeping, uint64_t lost, uint64_t fields)
+static bhx_planned planned(uint64_t refusal, uint64_t place, uint64_t column, uint64_t keeping, uint64_t lost, uint64_t fields)
 {
     bhx_planned p;
     p.refusal = refusal;
     p.place = place;
+    p.column = column;
     p.keeping = keeping;
     p.lost = lost;
     p.fields = fields;
@@ -107,27 +113,34 @@ static bhx_field field(uint8_t kind, uint16_t r, uint16_t input, uint16_t output
 
 static void same_plan(const char *what, bhx_planned p, bhx_planned want)
 {
-    check(p.refusal == want.refusal && p.place == want.place, what);
+    check(p.refusal == want.refusal && p.place == want.place && p.column == want.column, what);
     check(p.keeping == want.keeping && p.lost == want.lost && p.fields == want.fields, what);
 }
 
 /* ---- runs and plans with their answers */
 
-static void runs(const char *what, const char *cards, const uint8_t *s, size_t s_len, size_t room, uint64_t refusal, uint64_t place,
-                 const uint8_t *now, uint64_t length, uint64_t records, uint64_t blocks)
+static void ran(const char *what, const char *cards, const uint8_t *s, size_t s_len, size_t room, uint64_t refusal, uint64_t place, uint64_t column,
+                const uint8_t *now, uint64_t length, uint64_t records, uint64_t blocks)
 {
     bhx_ran r;
     calls++;
     fill(lent_out, before_out, sizeof lent_out);
     r = bhx_run((const uint8_t *)cards, strlen(cards), s, s_len, lent_out + GUARD, room);
-    check(r.refusal == refusal && r.place == place, what);
+    check(r.refusal == refusal && r.place == place && r.column == column, what);
     check(r.length == length && r.records == records && r.blocks == blocks, what);
     check(stays(lent_out, before_out, sizeof lent_out, now, (size_t)length), what);
 }
 
-static void refuses_run(const char *what, const char *cards, const uint8_t *s, size_t s_len, size_t room, uint64_t refusal, uint64_t place)
+static void runs(const char *what, const char *cards, const uint8_t *s, size_t s_len, size_t room, const uint8_t *now, uint64_t length,
+                 uint64_t records, uint64_t blocks)
 {
-    runs(what, cards, s, s_len, room, refusal, place, s, 0, 0, 0);
+    ran(what, cards, s, s_len, room, 0, 0, 0, now, length, records, blocks);
+}
+
+static void refuses_run(const char *what, const char *cards, const uint8_t *s, size_t s_len, size_t room, uint64_t refusal, uint64_t place,
+                        uint64_t column)
+{
+    ran(what, cards, s, s_len, room, refusal, place, column, s, 0, 0, 0);
 }
 
 static void plans(const char *what, const char *cards, size_t entries, bhx_planned want, const bhx_field *fields)
@@ -152,30 +165,31 @@ static void test_counts(void)
 {
     static const uint8_t s[21] = {0, 0, 0, 2, 0, 0, 0, 16, 0, 0, 0, 20, 0, 0, 0, 21, 1, 2, 3, 4, 5};
     static const uint8_t now[25] = {0, 0, 0, 3, 0, 0, 0, 20, 0, 0, 0, 22, 0, 0, 0, 24, 0, 0, 0, 25, 1, 2, 3, 4, 5};
-    runs("five records in three blocks", "// U TR,FF,A=(1,4),B=(1,2)\n// END", s, sizeof s, ROOM, 0, 0, now, 25, 5, 3);
+    runs("five records in three blocks", "// U TR,FF,A=(1,4),B=(1,2)\n// END", s, sizeof s, ROOM, now, 25, 5, 3);
 }
 
 static void test_runs(void)
 {
     static const uint8_t no_reel[13] = {0, 0, 0, 1, 0, 0, 0, 12, 0, 0, 0, 14, 0x40};
     uint8_t bad[sizeof reel], undefined[14] = {0, 0, 0, 1, 0, 0, 0, 12, 0, 0, 0, 14, 1, 2};
-    runs("the paper's run", deck, reel, sizeof reel, ROOM, 0, 0, result, 30, 2, 2);
-    runs("room for just the reel", deck, reel, sizeof reel, 30, 0, 0, result, 30, 2, 2);
-    refuses_run("a byte too little", deck, reel, sizeof reel, 29, 15, 30);
-    refuses_run("no room", deck, reel, sizeof reel, 0, 15, 30);
-    runs("an empty reel", deck, empty_reel, 8, 8, 0, 0, empty_reel, 8, 0, 0);
-    refuses_run("an empty reel and room 7", deck, empty_reel, 8, 7, 15, 8);
-    refuses_run("no byte of a reel", deck, reel, 0, ROOM, 11, 0);
-    refuses_run("no byte of a reel and no room", deck, reel, 0, 0, 11, 0);
-    refuses_run("not a reel", deck, no_reel, sizeof no_reel, ROOM, 11, 0);
-    refuses_run("no deck", "", reel, sizeof reel, ROOM, 2, 1);
-    refuses_run("nothing at all", "", reel, 0, 0, 2, 1);
-    refuses_run("a refused plan", barren, reel, sizeof reel, ROOM, 10, 0);
-    refuses_run("a block too long", "// U TC,FU,A=(9),B=(9)\n// END", reel, sizeof reel, ROOM, 12, 1);
-    runs("copied", copies, undefined, sizeof undefined, ROOM, 0, 0, undefined, sizeof undefined, 1, 1);
+    runs("the paper's run", deck, reel, sizeof reel, ROOM, result, 30, 2, 2);
+    runs("room for just the reel", deck, reel, sizeof reel, 30, result, 30, 2, 2);
+    refuses_run("a byte too little", deck, reel, sizeof reel, 29, 15, 30, 0);
+    refuses_run("no room", deck, reel, sizeof reel, 0, 15, 30, 0);
+    runs("an empty reel", deck, empty_reel, 8, 8, empty_reel, 8, 0, 0);
+    refuses_run("an empty reel and room 7", deck, empty_reel, 8, 7, 15, 8, 0);
+    refuses_run("no byte of a reel", deck, reel, 0, ROOM, 11, 0, 0);
+    refuses_run("no byte of a reel and no room", deck, reel, 0, 0, 11, 0, 0);
+    refuses_run("not a reel", deck, no_reel, sizeof no_reel, ROOM, 11, 0, 0);
+    refuses_run("no deck", "", reel, sizeof reel, ROOM, 2, 1, 0);
+    refuses_run("nothing at all", "", reel, 0, 0, 2, 1, 0);
+    refuses_run("a refused plan", barren, reel, sizeof reel, ROOM, 10, 0, 0);
+    refuses_run("a parameter that stands twice", twice, reel, sizeof reel, ROOM, 4, 1, 14);
+    refuses_run("a block too long", "// U TC,FU,A=(9),B=(9)\n// END", reel, sizeof reel, ROOM, 12, 1, 0);
+    runs("copied", copies, undefined, sizeof undefined, ROOM, undefined, sizeof undefined, 1, 1);
     memcpy(bad, reel, sizeof bad);
     bad[24] = 0xFA;
-    refuses_run("a half that is not permitted, in the last record", deck, bad, sizeof bad, ROOM, 13, 2);
+    refuses_run("a half that is not permitted, in the last record", deck, bad, sizeof bad, ROOM, 13, 2, 0);
 }
 
 /* The plan of a deck without a table. */
@@ -187,8 +201,8 @@ static void plain(const char *what, const char *cards, bhx_planned want)
 
 static void test_plans(void)
 {
-    bhx_planned keeps = planned(0, 0, 1, 0, 2), loses = planned(0, 0, 0, 9, 2), short_table = planned(15, 2, 0, 0, 0);
-    bhx_planned none = planned(2, 1, 0, 0, 0), no_half = planned(10, 0, 0, 0, 0), no_field = planned(0, 0, 1, 0, 0);
+    bhx_planned keeps = planned(0, 0, 0, 1, 0, 2), loses = planned(0, 0, 0, 0, 9, 2), short_table = planned(15, 2, 0, 0, 0, 0);
+    bhx_planned none = planned(2, 1, 0, 0, 0, 0), no_half = planned(10, 0, 0, 0, 0, 0), no_field = planned(0, 0, 0, 1, 0, 0);
     bhx_field two[2], lossy[2], turned[3];
     two[0] = lossy[0] = field(BHX_COPY, 1, 4, 4, 1);
     two[1] = field(BHX_PACK, 5, 4, 3, 5);
@@ -199,13 +213,17 @@ static void test_plans(void)
     plain("the plan without a table", twins, loses);
     plain("the plan that keeps, without a table", deck, keeps);
     plain("the plan of no deck, without a table", "", none);
+    plain("an operand that stops short, one past its end", cut, planned(3, 1, 22, 0, 0, 0));
+    plain("a parameter that stands twice, behind seven bytes", twice, planned(4, 1, 14, 0, 0, 0));
+    plain("a number outside its limits, in a second field", small, planned(7, 2, 15, 0, 0, 0));
+    plans("a number outside its limits, with a table", small, 64, planned(7, 2, 15, 0, 0, 0), NULL);
     plans("a table of 0", deck, 0, short_table, NULL);
     plans("a table of 1", deck, 1, short_table, NULL);
     plans("a table of 2", deck, 2, keeps, two);
     plans("a table of 64", deck, 64, keeps, two);
     plans("a table of 70", deck, ENTRIES, keeps, two);
     plans("the plan that loses", twins, 64, loses, lossy);
-    plans("each kind, five numbers that differ", "// U TRF,FF,A=(12,12),B=(11,11)\n// FS 2,(P,5,3),7/8,(U,1,4),3/9,2,10\n// END", 3, planned(0, 0, 0, 0, 3), turned);
+    plans("each kind, five numbers that differ", "// U TRF,FF,A=(12,12),B=(11,11)\n// FS 2,(P,5,3),7/8,(U,1,4),3/9,2,10\n// END", 3, planned(0, 0, 0, 0, 0, 3), turned);
     plans("no field, a table of 0", copies, 0, no_field, NULL);
     plans("no field, a table of 70", copies, ENTRIES, no_field, NULL);
     plans("no deck", "", 64, none, NULL);
@@ -218,7 +236,7 @@ static void test_many_fields(void)
 {
     char cards[4096];
     bhx_field fields[BHX_MOST_FIELDS];
-    bhx_planned full = planned(0, 0, 1, 0, 64), short_table = planned(15, 64, 0, 0, 0), over = planned(6, 10, 0, 0, 0);
+    bhx_planned full = planned(0, 0, 0, 1, 0, 64), short_table = planned(15, 64, 0, 0, 0, 0), over = planned(6, 10, 0, 0, 0, 0);
     size_t i, end = (size_t)sprintf(cards, "// U TF,FF,A=(64,64),B=(64,64)\n");
     for (i = 0; i < 64; i++) {
         fields[i] = field(BHX_COPY, (uint16_t)(i + 1), 1, 1, (uint16_t)(64 - i));

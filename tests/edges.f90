@@ -7,6 +7,7 @@ program edges
 
     character(len=*), parameter :: cards(3) = [character(len=40) :: &
         "// UTT TRF,FF,A=(8,16),B=(7,7)", "// FS 1,4,1/5,(P,4,3),5", "// END"]
+    character(len=*), parameter :: twice(2) = [character(len=40) :: "// UTT TC,FU,TC,A=(5),B=(5)", "// END"]
     integer(int8), parameter :: reel(28) = int([0, 0, 0, 1, 0, 0, 0, 12, 0, 0, 0, 28, &
         -63, -62, -61, -60, -15, -14, -13, -60, -63, -62, -61, -60, -7, -14, -13, -60], int8)
     integer(int8), parameter :: result(30) = int([0, 0, 0, 2, 0, 0, 0, 16, 0, 0, 0, 23, 0, 0, 0, 30, &
@@ -32,30 +33,31 @@ contains
         print "(2a)", "wrong: ", what
     end subroutine check
 
-    logical function same_plan(p, refusal, place, keeping, lost, fields)
+    logical function same_plan(p, refusal, place, column, keeping, lost, fields)
         type(bhx_planned), intent(in) :: p
-        integer, intent(in) :: refusal, place, lost, fields
+        integer, intent(in) :: refusal, place, column, lost, fields
         logical, intent(in) :: keeping
-        same_plan = p%refusal == refusal .and. p%place == place .and. (p%keeping .eqv. keeping) &
+        same_plan = p%refusal == refusal .and. p%place == place .and. p%column == column .and. (p%keeping .eqv. keeping) &
             .and. p%lost == lost .and. p%fields == fields
     end function same_plan
 
-    logical function same_run(r, refusal, place, length, records, blocks)
+    logical function same_run(r, refusal, place, column, length, records, blocks)
         type(bhx_ran), intent(in) :: r
-        integer, intent(in) :: refusal, place, length, records, blocks
-        same_run = r%refusal == refusal .and. r%place == place .and. r%length == length &
+        integer, intent(in) :: refusal, place, column, length, records, blocks
+        same_run = r%refusal == refusal .and. r%place == place .and. r%column == column .and. r%length == length &
             .and. r%records == records .and. r%blocks == blocks
     end function same_run
 
     subroutine test_plans()
-        call check(same_plan(plan_deck(cards), 0, 0, .true., 0, 2), "the plan of cards")
-        call check(same_plan(plan_deck(text), 0, 0, .true., 0, 2), "the plan of a text")
-        call check(same_plan(plan_deck(transfer(text, none)), 0, 0, .true., 0, 2), "the plan of bytes")
-        call check(same_plan(plan_deck(cards(1:2)), 2, 3, .false., 0, 0), "no END card")
-        call check(same_plan(plan_deck(cards(3:1:-1)), 2, 1, .false., 0, 0), "cards in the wrong order")
-        call check(same_plan(plan_deck(""), 2, 1, .false., 0, 0), "no text")
-        call check(same_plan(plan_deck(none), 2, 1, .false., 0, 0), "no bytes")
-        call check(same_plan(plan_deck(cards(1:0)), 2, 1, .false., 0, 0), "no cards")
+        call check(same_plan(plan_deck(cards), 0, 0, 0, .true., 0, 2), "the plan of cards")
+        call check(same_plan(plan_deck(text), 0, 0, 0, .true., 0, 2), "the plan of a text")
+        call check(same_plan(plan_deck(transfer(text, none)), 0, 0, 0, .true., 0, 2), "the plan of bytes")
+        call check(same_plan(plan_deck(cards(1:2)), 2, 3, 0, .false., 0, 0), "no END card")
+        call check(same_plan(plan_deck(cards(3:1:-1)), 2, 1, 0, .false., 0, 0), "cards in the wrong order")
+        call check(same_plan(plan_deck(""), 2, 1, 0, .false., 0, 0), "no text")
+        call check(same_plan(plan_deck(none), 2, 1, 0, .false., 0, 0), "no bytes")
+        call check(same_plan(plan_deck(cards(1:0)), 2, 1, 0, .false., 0, 0), "no cards")
+        call check(same_plan(plan_deck(twice), 4, 1, 14, .false., 0, 0), "a parameter that stands twice")
     end subroutine test_plans
 
     subroutine test_tables()
@@ -63,11 +65,11 @@ contains
         type(bhx_planned) :: p
         table = bhx_field(9, 9, 9, 9, 9)
         call plan_into(cards, table(1:0), p)
-        call check(same_plan(p, 15, 2, .false., 0, 0) .and. all(table%kind == 9), "a table of 0")
+        call check(same_plan(p, 15, 2, 0, .false., 0, 0) .and. all(table%kind == 9), "a table of 0")
         call plan_into(text, table(1:1), p)
-        call check(same_plan(p, 15, 2, .false., 0, 0) .and. all(table%kind == 9), "a table of 1")
+        call check(same_plan(p, 15, 2, 0, .false., 0, 0) .and. all(table%kind == 9), "a table of 1")
         call plan_into(cards, table, p)
-        call check(same_plan(p, 0, 0, .true., 0, 2) .and. all(table(3:)%kind == 9), "a table of 70")
+        call check(same_plan(p, 0, 0, 0, .true., 0, 2) .and. all(table(3:)%kind == 9), "a table of 70")
         call check(table(1)%kind == bhx_copy .and. table(1)%r == 1 .and. table(1)%input == 4 .and. table(1)%t == 1, &
             "the first entry")
         call check(table(2)%kind == bhx_pack .and. table(2)%input == 4 .and. table(2)%output == 3 .and. table(2)%t == 5, &
@@ -83,20 +85,22 @@ contains
         type(bhx_ran) :: r
         output = 77
         call run_deck(cards, reel, output(1:29), r)
-        call check(same_run(r, 15, 30, 0, 0, 0) .and. all(output == 77), "a byte too little")
+        call check(same_run(r, 15, 30, 0, 0, 0, 0) .and. all(output == 77), "a byte too little")
         call run_deck(cards, reel, output(1:0), r)
-        call check(same_run(r, 15, 30, 0, 0, 0), "no room")
+        call check(same_run(r, 15, 30, 0, 0, 0, 0), "no room")
         call run_deck(text, none, output, r)
-        call check(same_run(r, 11, 0, 0, 0, 0) .and. all(output == 77), "no byte of a reel")
+        call check(same_run(r, 11, 0, 0, 0, 0, 0) .and. all(output == 77), "no byte of a reel")
         call run_deck("", none, output(1:0), r)
-        call check(same_run(r, 2, 1, 0, 0, 0), "nothing at all")
+        call check(same_run(r, 2, 1, 0, 0, 0, 0), "nothing at all")
+        call run_deck(twice, reel, output, r)
+        call check(same_run(r, 4, 1, 14, 0, 0, 0) .and. all(output == 77), "a run with a parameter that stands twice")
         call run_deck(cards, reel, output, r)
-        call check(same_run(r, 0, 0, 30, 2, 2) .and. all(output(1:30) == result) .and. all(output(31:) == 77), "the paper's run")
+        call check(same_run(r, 0, 0, 0, 30, 2, 2) .and. all(output(1:30) == result) .and. all(output(31:) == 77), "the paper's run")
         wide = 55
         wide(1:56:2) = reel
         output = 77
         call run_deck(transfer(text, none), wide(1:56:2), output(1:60:2), r)
-        call check(same_run(r, 0, 0, 30, 2, 2) .and. all(output(1:60:2) == result) .and. all(output(2:60:2) == 77), &
+        call check(same_run(r, 0, 0, 0, 30, 2, 2) .and. all(output(1:60:2) == result) .and. all(output(2:60:2) == 77), &
             "arrays with gaps")
     end subroutine test_runs
 
