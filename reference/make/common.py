@@ -37,6 +37,11 @@ def shown(data):
     return out if out else '(nothing)'
 
 
+def with_column(number, place):
+    """A refusal and its place with the column behind: 0, or `?` where 3, 4 or 7 has one that is not worked by hand here."""
+    return '%s %s %s' % (number, place, '?' if str(number) in ('3', '4', '7') else '0')
+
+
 class File:
     def __init__(self, name, head):
         self.name, self.lines, self.hand, self.names = name, ['# ' + h for h in head], [], set()
@@ -48,18 +53,25 @@ class File:
     def case(self, name, rest, expected, why=None):
         assert name not in self.names and ' ' not in name, name
         self.names.add(name)
+        words = expected.split() if expected else []
+        refused = len(words) in (2, 3) and words[0] != '0'
         if why:
-            words = expected.split() if expected else []
-            if len(words) == 2 and words[0] not in ('0', '-') and words[0].isdigit():
-                why += ': %s at %s' % tuple(words)
+            if refused:
+                why += ': %s at %s' % tuple(words[:2])
+                why += ', column %s' % words[2] if words[2:] not in ([], ['0']) else ''
             self.note(why)
+        if refused and len(words) == 2:
+            expected = with_column(*words)
         self.lines.append(name + ' ' + rest)
         self.hand.append((name, expected))
 
     def agrees(self, expected, answer):
-        """Whether the answer is what was worked by hand; two dots at its end stand for any rest, and `0 0` for any answer that is no refusal."""
+        """Whether the answer is what was worked by hand; two dots at its end stand for any rest, `?` for any column from 1, and `0 0` for any answer that is no refusal."""
         if expected == '0 0':
-            return answer.startswith('0 0 ')
+            return answer.startswith('0 0 0 ')
+        if '?' in expected:
+            column = answer.split()[2]
+            return column != '0' and self.agrees(expected.replace('?', column), answer)
         if expected.endswith(' ..'):
             return answer.startswith(expected[:-2])
         return answer == expected

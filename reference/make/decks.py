@@ -4,10 +4,10 @@ from common import *
 FIRST = '// UTT TRF,FF,A=(8,16),B=(7,7)\n// FS 1,4,1/5,(P,4,3),5\n// END\n'
 U = '// U TC,FU,A=(5),B=(5)'
 TC = U + '\n// END\n'
-SAMPLE = '0 0 TRF FF A=8,16 B=7,7 R=1 fs=1 cv=0 2 C:1,4,4,1@2 P:5,4,3,5@2'
-READ = '0 0 TC FU A=5 B=5 R=1 fs=0 cv=0 0'
+SAMPLE = '0 0 0 TRF FF A=8,16 B=7,7 R=1 fs=1 cv=0 2 C:1,4,4,1@2 P:5,4,3,5@2'
+READ = '0 0 0 TC FU A=5 B=5 R=1 fs=0 cv=0 0'
 HEAD = [
-    'Decks (document 01, "The deck"): NAME deck BYTES. The line is NAME, refusal and place where one of the refusals 1 to 7 is given; else 0 0 and what',
+    'Decks (document 01, "The deck"): NAME deck BYTES. The line is NAME, refusal, place and column where one of the refusals 1 to 7 is given; else 0 0 0 and what',
     'the cards ask for: mode, format, A, B, R, how many FS cards, the card of CV or 0, how many fields, and each field as letter:r,input,output,t@card',
     '(C copy, P pack, U unpack). Refusals 8 to 10 are not asked here. In comments a bar stands for hex 0A and <HH> for another byte outside 20 to 7E.',
 ]
@@ -18,7 +18,7 @@ def lines():
     d = lambda name, deck, expected, why: deck_case(f, name, deck, expected, why)
     d('sample-deck', FIRST, SAMPLE, 'the sample deck of document 01')
     d('sample-of-6', FIRST.replace('B=(7,7)', 'B=(6,6)').replace('(P,4,3)', '(P,4,2)'),
-      '0 0 TRF FF A=8,16 B=6,6 R=1 fs=1 cv=0 2 C:1,4,4,1@2 P:5,4,2,5@2', 'its second form, which loses')
+      '0 0 0 TRF FF A=8,16 B=6,6 R=1 fs=1 cv=0 2 C:1,4,4,1@2 P:5,4,2,5@2', 'its second form, which loses')
     d('no-final-newline', FIRST[:-1], SAMPLE, '"the last may lack it"')
     d('empty-deck', '', '2 1', 'zero bytes are zero lines: "no card" is 2, at one past the last of none')
     d('one-newline', '\n', '1 1', 'a 0A ends a line, here an empty one; a card has 1 byte or more')
@@ -46,7 +46,7 @@ def lines():
     d('card-of-80-bytes', U + ' ' + '*' * (80 - len(U) - 1) + '\n// END\n', READ, '80 bytes')
     d('card-of-81-bytes', U + ' ' + '*' * (81 - len(U) - 1) + '\n// END\n', '1 1', '81 bytes')
     op = '1,1,1/' * 12
-    d('fs-of-80-bytes', FIRST.split('\n')[0] + '\n// FS ' + op + 'CV\n// END\n', '0 0 TRF FF A=8,16 B=7,7 R=1 fs=1 cv=2 12 ..',
+    d('fs-of-80-bytes', FIRST.split('\n')[0] + '\n// FS ' + op + 'CV\n// END\n', '0 0 0 TRF FF A=8,16 B=7,7 R=1 fs=1 cv=2 12 ..',
       'an operand of 74 bytes fills its card')
     d('fs-of-81-bytes', FIRST.split('\n')[0] + '\n// FS ' + op + 'CV \n// END\n', '1 2', 'and a blank more is the 81st byte')
     d('end-of-80-bytes', U + '\n// END ' + '-' * 73, READ, 'END and its comment, 80 bytes, no final 0A')
@@ -80,7 +80,7 @@ def lines():
     d('end-and-comment', U + '\n// END OF ALL, R9 /CV\n', READ, 'END has no operand: the rest is comment')
     d('end-and-end', U + '\n// END // END\n', READ, 'likewise')
     d('u-and-comment', U + ' R2,R3 // END\n// END\n', READ, 'behind the first blank all is comment')
-    d('fs-and-comment', U + '\n// FS 1,1,1 /2,2,2\n// END\n', '0 0 TC FU A=5 B=5 R=1 fs=1 cv=0 1 C:1,1,1,1@2', 'likewise (an FS card in TC is 8, not asked here)')
+    d('fs-and-comment', U + '\n// FS 1,1,1 /2,2,2\n// END\n', '0 0 0 TC FU A=5 B=5 R=1 fs=1 cv=0 1 C:1,1,1,1@2', 'likewise (an FS card in TC is 8, not asked here)')
     d('utt-of-u', '// UTT' + U[4:] + '\n// END\n', READ, '`// UTT ` is the same card as `// U `')
     return f
 
@@ -110,8 +110,8 @@ def order():
     d('order-before-fs-operand', deck(U, '// FS ,', end, end), '2 4', 'likewise')
     f.note('At most 64 cards, U and END among them')
     many = lambda count: [U] + ['// FS 1,1,1'] * count
-    d('cards-63', deck(*many(61), end), '0 0 TC FU A=5 B=5 R=1 fs=61 cv=0 61 ..', '63 cards: U, 61 FS, END; 61 fields')
-    d('cards-64', deck(*many(62), end), '0 0 TC FU A=5 B=5 R=1 fs=62 cv=0 62 ..', '64 cards: U, 62 FS, END')
+    d('cards-63', deck(*many(61), end), '0 0 0 TC FU A=5 B=5 R=1 fs=61 cv=0 61 ..', '63 cards: U, 61 FS, END; 61 fields')
+    d('cards-64', deck(*many(62), end), '0 0 0 TC FU A=5 B=5 R=1 fs=62 cv=0 62 ..', '64 cards: U, 62 FS, END')
     d('cards-65', deck(*many(63), end), '2 65', '65 cards, END the last: the 65th is at fault')
     d('cards-66', deck(*many(64), end), '2 65', '66 cards: the 65th is at fault')
     d('cards-200', deck(*many(198), end), '2 65', '200 cards: the 65th is at fault')
@@ -122,7 +122,7 @@ def order():
     d('fs-behind-64', deck(*many(62), end, fs), '2 65', 'END is card 64; card 65 stands behind END')
     d('end-at-3-of-100', deck(U, fs, end, *([fs] * 97)), '2 4', 'the first card behind END, not the 65th')
     d('u-at-70', deck(*many(68), U, end), '2 65', 'a second U is card 70; the 65th comes before it')
-    d('cards-64-of-80-bytes', deck(*[c + ' ' + '.' * (79 - len(c)) for c in many(62) + [end]]), '0 0 TC FU A=5 B=5 R=1 fs=62 cv=0 62 ..',
+    d('cards-64-of-80-bytes', deck(*[c + ' ' + '.' * (79 - len(c)) for c in many(62) + [end]]), '0 0 0 TC FU A=5 B=5 R=1 fs=62 cv=0 62 ..',
       'the longest right deck: 64 cards of 80 bytes, 5,184 bytes')
     return f
 
@@ -137,9 +137,9 @@ def operands():
     u('all-seven', 'TC,FU,A=(5),B=(5),IN,ON,R1', READ, 'every parameter; I and O are read and ignored')
     u('rewind-r', 'TC,FU,A=(5),B=(5),IR,OR', READ, 'IR and OR')
     u('rewind-u', 'TC,FU,A=(5),B=(5),IU,OU', READ, 'IU and OU')
-    u('mode-tf', 'TF,FV,A=(1,9),B=(1,9)', '0 0 TF FV A=1,9 B=1,9 R=1 fs=0 cv=0 0', 'TF (that it needs an FS card is 8)')
-    u('mode-tr', 'TR,FV,A=(9),B=(10)', '0 0 TR FV A=9 B=10 R=1 fs=0 cv=0 0', 'TR')
-    u('mode-trf', 'TRF,FF,A=(2,4),B=(1,1)', '0 0 TRF FF A=2,4 B=1,1 R=1 fs=0 cv=0 0', 'TRF')
+    u('mode-tf', 'TF,FV,A=(1,9),B=(1,9)', '0 0 0 TF FV A=1,9 B=1,9 R=1 fs=0 cv=0 0', 'TF (that it needs an FS card is 8)')
+    u('mode-tr', 'TR,FV,A=(9),B=(10)', '0 0 0 TR FV A=9 B=10 R=1 fs=0 cv=0 0', 'TR')
+    u('mode-trf', 'TRF,FF,A=(2,4),B=(1,1)', '0 0 0 TRF FF A=2,4 B=1,1 R=1 fs=0 cv=0 0', 'TRF')
     good = 'TC,FU,A=(5),B=(5)'
     for name, operand, why in [
         ('leading-comma', ',' + good, 'an empty parameter'), ('trailing-comma', good + ',', 'an empty parameter'),
@@ -159,7 +159,7 @@ def operands():
     u('blank-in-brackets', 'TC,FU,A=(5 ),B=(5)', '3 1', 'the operand ends inside A')
     f.note('A number is 1 to 5 digits; leading zeros are allowed')
     u('digits-5', 'TC,FU,A=(00005),B=(5),R00001', READ, 'five digits with leading zeros')
-    u('digits-5-of-4', 'TC,FF,A=(04096,04096),B=(4096,4096)', '0 0 TC FF A=4096,4096 B=4096,4096 R=1 fs=0 cv=0 0', 'a leading zero')
+    u('digits-5-of-4', 'TC,FF,A=(04096,04096),B=(4096,4096)', '0 0 0 TC FF A=4096,4096 B=4096,4096 R=1 fs=0 cv=0 0', 'a leading zero')
     u('digits-6', 'TC,FU,A=(000005),B=(5)', '3 1', 'six digits, zeros or not, are no number')
     u('digits-6-second', 'TC,FF,A=(5,000005),B=(5,5)', '3 1', 'six digits')
     u('digits-6-in-r', good + ',R000001', '3 1', 'six digits')
@@ -172,12 +172,12 @@ def operands():
     f.note('The FS operand: items with slashes between')
     def fs(name, operand, expected, why):
         d(name, U + '\n// FS ' + operand + '\n// END\n', expected, why)
-    fs('item-copy', '1,2,3', '0 0 TC FU A=5 B=5 R=1 fs=1 cv=0 1 C:1,2,2,3@2', 'r,s,t: a copy, both sizes s')
-    fs('item-pack', '1,(P,4,3),2', '0 0 TC FU A=5 B=5 R=1 fs=1 cv=0 1 P:1,4,3,2@2', 'r,(P,n,m),t')
-    fs('item-unpack', '1,(U,3,4),2', '0 0 TC FU A=5 B=5 R=1 fs=1 cv=0 1 U:1,3,4,2@2', 'r,(U,n,m),t')
-    fs('item-cv', 'CV', '0 0 TC FU A=5 B=5 R=1 fs=1 cv=2 0', 'CV is an item and no field')
-    fs('items-four', '1,2,3/CV/4,(U,5,6),7/8,(P,9,10),11', '0 0 TC FU A=5 B=5 R=1 fs=1 cv=2 3 C:1,2,2,3@2 U:4,5,6,7@2 P:8,9,10,11@2', 'one of each')
-    fs('item-zeros', '00001,00002,00003/01,(P,004,0003),00005', '0 0 TC FU A=5 B=5 R=1 fs=1 cv=0 2 C:1,2,2,3@2 P:1,4,3,5@2', 'leading zeros')
+    fs('item-copy', '1,2,3', '0 0 0 TC FU A=5 B=5 R=1 fs=1 cv=0 1 C:1,2,2,3@2', 'r,s,t: a copy, both sizes s')
+    fs('item-pack', '1,(P,4,3),2', '0 0 0 TC FU A=5 B=5 R=1 fs=1 cv=0 1 P:1,4,3,2@2', 'r,(P,n,m),t')
+    fs('item-unpack', '1,(U,3,4),2', '0 0 0 TC FU A=5 B=5 R=1 fs=1 cv=0 1 U:1,3,4,2@2', 'r,(U,n,m),t')
+    fs('item-cv', 'CV', '0 0 0 TC FU A=5 B=5 R=1 fs=1 cv=2 0', 'CV is an item and no field')
+    fs('items-four', '1,2,3/CV/4,(U,5,6),7/8,(P,9,10),11', '0 0 0 TC FU A=5 B=5 R=1 fs=1 cv=2 3 C:1,2,2,3@2 U:4,5,6,7@2 P:8,9,10,11@2', 'one of each')
+    fs('item-zeros', '00001,00002,00003/01,(P,004,0003),00005', '0 0 0 TC FU A=5 B=5 R=1 fs=1 cv=0 2 C:1,2,2,3@2 P:1,4,3,5@2', 'leading zeros')
     bad = ['/', '/1,1,1', '1,1,1/', '1,1,1//1,1,1', 'CV/', '/CV', 'CV//CV', ',', '1', '1,', '1,1', '1,1,', '1,1,1,', '1,1,1,1', ',1,1', '1,,1', ',1,1,1', '1,1,,1', '1;1;1', '1,1,X', 'X,1,1',
            '1,X,1', '1,1,1X', '1,1,-1', '+1,1,1', 'C', 'V', 'cv', 'Cv', 'CVV', 'CV1', 'CV,1', '1CV', '1,1,1CV', '1,1,1,CV', 'VC', 'CV,CV', '1,1,1-1,1,1',
            '000001,1,1', '1,000001,1', '1,1,000001', '123456,1,1', '1,(P,2,2)', '1,(P,2,2),', '(P,2,2),1', '1,(P,2),1', '1,(P,2,),1', '1,(P,,2),1', '1,(P,,),1', '1,(P,2,2,2),1', '1,(P),1', '1,(),1',
@@ -186,7 +186,7 @@ def operands():
            '(K,1),1,1', '1,1,(K,1)', '1,(U,2,2),(K,1)', 'A=(5)', 'TC', '1,(U,3,5)1']
     for i, text in enumerate(bad):
         fs('no-item-%d' % (i + 1), text, '3 2', 'an operand that is not items with slashes between')
-    fs('item-and-blank', '1,1,1 /', '0 0 TC FU A=5 B=5 R=1 fs=1 cv=0 1 C:1,1,1,1@2', 'the slash is comment')
+    fs('item-and-blank', '1,1,1 /', '0 0 0 TC FU A=5 B=5 R=1 fs=1 cv=0 1 C:1,1,1,1@2', 'the slash is comment')
     fs('item-blank-inside', '1,1, 1', '3 2', 'the operand is 1,1 and a comma')
     f.note('The first card whose operand is not of its grammar; refusal 3 looks at all cards before 4 is asked')
     d('bad-fs-2-and-4', U + '\n// FS X\n// FS CV\n// FS Y\n// END\n', '3 2', 'the first')
@@ -213,7 +213,7 @@ def limits():
     u('twice-and-missing', 'TC,TC', '4 1', '4 before 5')
     u('twice-and-limit', good + ',R0,R1', '4 1', '4 before 7')
     cards = lambda *fs: '// U TF,FV,A=(8,99),B=(8,99)\n' + ''.join('// FS %s\n' % x for x in fs) + '// END\n'
-    d('cv-once', cards('CV'), '0 0 TF FV A=8,99 B=8,99 R=1 fs=1 cv=2 0', 'once')
+    d('cv-once', cards('CV'), '0 0 0 TF FV A=8,99 B=8,99 R=1 fs=1 cv=2 0', 'once')
     d('cv-twice-on-one', cards('CV/CV'), '4 2', 'the second on card 2')
     d('cv-twice-on-one-apart', cards('1,1,1', 'CV/1,1,1/CV'), '4 3', 'both on card 3')
     d('cv-twice-on-two', cards('CV', '1,1,1/CV'), '4 3', 'the second on card 3')
@@ -224,9 +224,9 @@ def limits():
     d('cv-and-u-twice', cards('CV', 'CV').replace('TF,', 'TF,TF,'), '4 1', 'the U card is first')
     d('cv-twice-and-limit', cards('0,0,0', 'CV', 'CV'), '4 4', '4 on card 4 before 7 on card 2')
     d('cv-twice-and-missing', cards('CV', 'CV').replace('TF,', ''), '4 3', '4 before 5')
-    d('cv-first', cards('CV/1,2,3', '4,5,6'), '0 0 TF FV A=8,99 B=8,99 R=1 fs=2 cv=2 2 C:1,2,2,3@2 C:4,5,5,6@3', 'CV before the fields')
-    d('cv-between', cards('1,2,3/CV/4,5,6'), '0 0 TF FV A=8,99 B=8,99 R=1 fs=1 cv=2 2 C:1,2,2,3@2 C:4,5,5,6@2', 'between')
-    d('cv-last', cards('1,2,3', '4,5,6', 'CV'), '0 0 TF FV A=8,99 B=8,99 R=1 fs=3 cv=4 2 C:1,2,2,3@2 C:4,5,5,6@3', 'after')
+    d('cv-first', cards('CV/1,2,3', '4,5,6'), '0 0 0 TF FV A=8,99 B=8,99 R=1 fs=2 cv=2 2 C:1,2,2,3@2 C:4,5,5,6@3', 'CV before the fields')
+    d('cv-between', cards('1,2,3/CV/4,5,6'), '0 0 0 TF FV A=8,99 B=8,99 R=1 fs=1 cv=2 2 C:1,2,2,3@2 C:4,5,5,6@2', 'between')
+    d('cv-last', cards('1,2,3', '4,5,6', 'CV'), '0 0 0 TF FV A=8,99 B=8,99 R=1 fs=3 cv=4 2 C:1,2,2,3@2 C:4,5,5,6@3', 'after')
     f.note('Refusal 5: T, F, A or B missing, place 1')
     u('no-t', 'FU,A=(5),B=(5)', '5 1', 'T is missing')
     u('no-f', 'TC,A=(5),B=(5)', '5 1', 'F is missing')
@@ -238,9 +238,9 @@ def limits():
     d('missing-and-fields', '// U TC\n' + '// FS 1,1,1\n' * 3 + '// END\n', '5 1', 'F, A and B are missing')
     f.note('Refusal 6: a 65th field, at its card; CV is no field')
     eight, twelve = '/'.join(['1,1,1'] * 8), '/'.join(['1,1,1'] * 12)
-    d('fields-64', cards(*[eight] * 8), '0 0 TF FV A=8,99 B=8,99 R=1 fs=8 cv=0 64 ..', '64 fields on 8 cards')
-    d('fields-64-and-cv', cards(*[eight] * 8 + ['CV']), '0 0 TF FV A=8,99 B=8,99 R=1 fs=9 cv=10 64 ..', '64 fields and CV')
-    d('fields-64-around-cv', cards(*[eight] * 4 + ['CV'] + [eight] * 4), '0 0 TF FV A=8,99 B=8,99 R=1 fs=9 cv=6 64 ..', 'CV among them')
+    d('fields-64', cards(*[eight] * 8), '0 0 0 TF FV A=8,99 B=8,99 R=1 fs=8 cv=0 64 ..', '64 fields on 8 cards')
+    d('fields-64-and-cv', cards(*[eight] * 8 + ['CV']), '0 0 0 TF FV A=8,99 B=8,99 R=1 fs=9 cv=10 64 ..', '64 fields and CV')
+    d('fields-64-around-cv', cards(*[eight] * 4 + ['CV'] + [eight] * 4), '0 0 0 TF FV A=8,99 B=8,99 R=1 fs=9 cv=6 64 ..', 'CV among them')
     d('fields-65', cards(*[eight] * 8 + ['1,1,1']), '6 10', 'the 65th on card 10')
     d('fields-65-on-a-full-card', cards(*[twelve] * 5 + [eight]), '6 7', '60 fields on cards 2 to 6; the 65th is the fifth on card 7')
     d('fields-65-behind-cv', cards(*[eight] * 8 + ['CV', '1,1,1']), '6 11', 'CV on card 10; the 65th field on card 11')
@@ -252,7 +252,7 @@ def limits():
     f.note('Refusal 7: the first of two in A or B is 1 to 4,096')
     two = lambda a, b: 'TC,FF,A=(%s),B=(%s)' % (a, b)
     def fits(mode, fmt, a, b, r=1):
-        return '0 0 %s %s A=%s B=%s R=%s fs=0 cv=0 0' % (mode, fmt, a, b, r)
+        return '0 0 0 %s %s A=%s B=%s R=%s fs=0 cv=0 0' % (mode, fmt, a, b, r)
     u('n-0', two('0,5', '5,5'), '7 1', 'n of 0')
     u('n-1', two('1,5', '1,5'), fits('TC', 'FF', '1,5', '1,5'), 'n of 1')
     u('n-4096', two('4096,4096', '4096,4096'), fits('TC', 'FF', '4096,4096', '4096,4096'), 'n of 4,096')
@@ -290,7 +290,7 @@ def limits():
     u('r-65537', good + ',R65537', '7 1', 'R65537')
     f.note('r, s and t are 1 to 4,096; pack and unpack sizes 1 to 16')
     def fs(name, operand, expected, why):
-        d(name, U + '\n// FS ' + operand + '\n// END\n', '0 0 TC FU A=5 B=5 R=1 fs=1 cv=0 1 ' + expected if expected[0] in 'CPU' else expected, why)
+        d(name, U + '\n// FS ' + operand + '\n// END\n', '0 0 0 TC FU A=5 B=5 R=1 fs=1 cv=0 1 ' + expected if expected[0] in 'CPU' else expected, why)
     fs('rst-1', '1,1,1', 'C:1,1,1,1@2', 'all of 1')
     fs('rst-4096', '4096,4096,4096', 'C:4096,4096,4096,4096@2', 'all of 4,096')
     for i, which in enumerate('rst'):
@@ -313,5 +313,5 @@ def limits():
     d('limit-cards-3-and-4', U + '\n// FS 1,1,1\n// FS 1,1,1/1,0,1\n// FS 0,1,1\n// END\n', '7 3', 'cards 3 and 4')
     d('limit-behind-cv', U + '\n// FS CV\n// FS 1,1,1\n// FS 1,1,1/1,(P,1,17),1\n// END\n', '7 4', 'the second field of card 4')
     d('limit-of-field-64', cards(*[eight] * 7 + [eight[:-1] + '0']), '7 9', 'the 64th field has t of 0')
-    d('fields-outside', cards('9,9,9/8,8,8'), '0 0 TF FV A=8,99 B=8,99 R=1 fs=1 cv=0 2 C:9,9,9,9@2 C:8,8,8,8@2', 'a field outside its records is 9, not asked here')
+    d('fields-outside', cards('9,9,9/8,8,8'), '0 0 0 TF FV A=8,99 B=8,99 R=1 fs=1 cv=0 2 C:9,9,9,9@2 C:8,8,8,8@2', 'a field outside its records is 9, not asked here')
     return f

@@ -13,7 +13,7 @@ def drawn(seed, count, kind, wanted):
     for line in out:
         words = line.split()
         answer = words[words_asked:]
-        sort = 'empty' if kind == 'run' and answer[:3] == ['0', '0', '8'] else answer[0]
+        sort = 'empty' if kind == 'run' and answer[:4] == ['0', '0', '0', '8'] else answer[0]
         if counts.get(sort, 0) < wanted[sort] and len(line) <= LONGEST:
             counts[sort] = counts.get(sort, 0) + 1
             chosen.append(' '.join([kind] + words[:words_asked]))

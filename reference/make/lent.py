@@ -36,14 +36,14 @@ def told(answer):
     words = answer.split()
     if words[0] != '0':
         return '%s at %s' % (words[0], words[1])
-    return 'keeps' if words[2] == '1' else 'loses, place %s' % words[3]
+    return 'keeps' if words[3] == '1' else 'loses, place %s' % words[4]
 
 
 class Plans(File):
     def plan(self, name, text, answer, why, entries=None, fields=()):
-        """A case of a plan; `answer` is refusal and place, or the five numbers."""
+        """A case of a plan; `answer` is refusal and place, or the six numbers."""
         if len(answer.split()) == 2:
-            answer += ' 0 0 0'
+            answer = with_column(*answer.split()) + ' 0 0 0'
         why += ': ' + told(answer)
         if len(text) <= 260:
             why = shown(text.encode('latin-1')) + '\n' + why
@@ -55,19 +55,19 @@ class Runs(File):
     said = ''  # the deck of the case before, shown once where several in a row have it
 
     def agrees(self, expected, answer):
-        # a whole line has seven words, the last of them two dots where the reel is long
-        if len(expected.split()) == 7:
+        # a whole line has eight words, the last of them two dots where the reel is long
+        if len(expected.split()) == 8 and '?' not in expected:
             return answer == expected
         return super().agrees(expected, answer)
 
     def done(self, name, text, reel, out, records, blocks, why, room=None):
         """A run that writes the reel `out`; the room is exact where none is given."""
         shown_reel = out.hex().upper() if len(out) <= 64 else '..'
-        answer = '0 0 %d %d %d %d %s' % (len(out), records, blocks, digest(out + BYTES[len(out):]), shown_reel)
+        answer = '0 0 0 %d %d %d %d %s' % (len(out), records, blocks, digest(out + BYTES[len(out):]), shown_reel)
         self.run(name, text, reel, len(out) if room is None else room, answer, why)
 
     def refused(self, name, text, reel, number, place, why, room=70000):
-        answer = '%d %d 0 0 0 %d -' % (number, place, NOTHING_WRITTEN)
+        answer = '%s 0 0 0 %d -' % (with_column(number, place), NOTHING_WRITTEN)
         self.run(name, text, reel, room, answer, why + ': %d at %d' % (number, place))
 
     def run(self, name, text, reel, room, answer, why):

@@ -1,5 +1,5 @@
 """All case files of `crates/answers`, their names in `args` and the lines that are expected in `stdout`."""
-import decks, drawn, halves, manual, plans, reels, runs, os
+import columns, decks, drawn, halves, manual, plans, reels, runs, os
 from common import ROOT
 
 
@@ -11,7 +11,7 @@ def tally(subject, files, lines):
 
 
 of_manual = manual.make()
-files = [halves.make(), decks.lines(), decks.order(), decks.operands(), decks.limits(), of_manual, manual.drawn(), reels.edges(), reels.blocks(), reels.drawn(),
+files = [halves.make(), decks.lines(), decks.order(), decks.operands(), decks.limits(), columns.make(), of_manual, manual.drawn(), reels.edges(), reels.blocks(), reels.drawn(),
          plans.make(of_manual.decks), runs.make()] + drawn.make()
 names = set()
 stdout = []

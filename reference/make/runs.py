@@ -7,7 +7,7 @@ from reels import block, data, length_word, record, reel, word
 
 HEAD = [
     'Runs (document 01, "Blocks and records", "Refusal numbers"): NAME run DECK REEL ROOM. An output of 70,000 bytes is filled with a pattern, byte i being i mod 251, and',
-    'its first ROOM bytes are lent. The line is NAME, refusal, place, length, records, blocks, a digest of all 70,000 bytes after the call, and the reel that was written in hex',
+    'its first ROOM bytes are lent. The line is NAME, refusal, place, column, length, records, blocks, a digest of all 70,000 bytes after the call, and the reel that was written in hex',
     'where it is at most 64 bytes; .. where it is longer; - where the run was refused. A digest of numbers x: d = 0; d = (257 d + x + 1) mod 2147483647 for each.',
     'In comments a bar stands for hex 0A.',
 ]

@@ -13,6 +13,8 @@ pub enum Shape {
 pub struct Card<'a> {
     pub shape: Shape,
     pub operand: &'a [u8],
+    /// The column at which the operand begins.
+    pub column: usize,
 }
 
 /// Lines end with hex 0A; the last may lack it. A 0A ends a line and opens none.
@@ -36,13 +38,13 @@ pub fn card(line: &[u8]) -> Option<Card<'_>> {
         return None;
     }
     if line == b"// END" || line.starts_with(b"// END ") {
-        return Some(Card { shape: Shape::END, operand: &[] });
+        return Some(Card { shape: Shape::END, operand: &[], column: 0 });
     }
     let names: [(&[u8], Shape); 3] =
         [(b"// U ", Shape::U), (b"// UTT ", Shape::U), (b"// FS ", Shape::FS)];
     names.iter().find_map(|(name, shape)| {
         let rest = line.strip_prefix(*name)?;
-        Some(Card { shape: *shape, operand: operand(rest) })
+        Some(Card { shape: *shape, operand: operand(rest), column: name.len() + 1 })
     })
 }
 

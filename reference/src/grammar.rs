@@ -1,7 +1,7 @@
 //! The grammar of the operands of U and FS cards (refusal 3).
 
 use crate::deck::{Card, Shape};
-use crate::{refuse_at, Refused};
+use crate::{columns, refuse_on, Refused};
 
 #[derive(Clone, Copy, Debug, PartialEq, Eq)]
 pub enum Mode {
@@ -134,12 +134,26 @@ fn item(text: &[u8]) -> Option<Item> {
     Some(Item::Field(Field { step, r, input, output, t }))
 }
 
-/// An FS operand: items with slashes between.
-pub fn fs_operand(operand: &[u8]) -> Option<Vec<Item>> {
-    operand.split(|byte| *byte == b'/').map(item).collect()
+/// The texts between the slashes.
+fn between_slashes(operand: &[u8]) -> Vec<&[u8]> {
+    operand.split(|byte| *byte == b'/').collect()
 }
 
-/// The operands of cards that stand in order, or refusal 3 at the first bad card.
+/// An FS operand: items with slashes between.
+pub fn fs_operand(operand: &[u8]) -> Option<Vec<Item>> {
+    between_slashes(operand).into_iter().map(item).collect()
+}
+
+/// The texts of the parameters or items of a card.
+pub fn parts<'a>(card: &Card<'a>) -> Vec<&'a [u8]> {
+    match card.shape {
+        Shape::U => between_commas(card.operand),
+        Shape::FS => between_slashes(card.operand),
+        Shape::END => Vec::new(),
+    }
+}
+
+/// The operands of cards that stand in order, or refusal 3 at the first bad card and the column where it stops being right.
 pub fn read(cards: &[Card]) -> Result<Operands, Refused> {
     let mut operands = Operands { u: Vec::new(), fs: Vec::new() };
     for (number, card) in (1..).zip(cards) {
@@ -148,7 +162,7 @@ pub fn read(cards: &[Card]) -> Result<Operands, Refused> {
             Shape::FS => fs_operand(card.operand).map(|items| operands.fs.push(items)).is_none(),
             Shape::END => false,
         };
-        refuse_at(3, bad.then_some(number))?;
+        refuse_on(3, bad.then(|| (number, columns::of_stop(card))))?;
     }
     Ok(operands)
 }

@@ -1,8 +1,9 @@
-//! A second writing of document 01 ("the paper"), to compare other definitions with.
+//! A second writing of document 01 ("the paper") and order 1 of document 02, to compare other definitions with.
 //!
 //! One module for each part of the paper. Nothing here is made to be fast.
 
 pub mod blocks;
+pub mod columns;
 pub mod combinations;
 pub mod deck;
 pub mod grammar;
@@ -17,20 +18,32 @@ pub use halves::{pack, unpack};
 pub use plan::{plan, plan_into, Entry, Planned};
 pub use run::{run, Ran};
 
-/// A refusal number of the paper's table, and its place.
+/// A refusal number of the paper's table, its place, and for 3, 4 and 7 the column on that card; 0 for all others.
 #[derive(Clone, Copy, Debug, PartialEq, Eq)]
 pub struct Refused {
     pub number: usize,
     pub place: usize,
+    pub column: usize,
+}
+
+impl Refused {
+    /// A refusal that has no column.
+    pub fn at(number: usize, place: usize) -> Refused {
+        Refused { number, place, column: 0 }
+    }
 }
 
 /// Go on if there is no place at which `number` applies, else refuse at it.
 pub fn refuse_at(number: usize, place: Option<usize>) -> Result<(), Refused> {
-    match place {
-        None => Ok(()),
-        Some(place) => Err(Refused { number, place }),
-    }
+    place.map_or(Ok(()), |place| Err(Refused::at(number, place)))
 }
 
+/// Go on if there is no card and column at which `number` applies, else refuse there.
+pub fn refuse_on(number: usize, card_and_column: Option<(usize, usize)>) -> Result<(), Refused> {
+    card_and_column.map_or(Ok(()), |(place, column)| Err(Refused { number, place, column }))
+}
+
+#[cfg(test)]
+mod continuations;
 #[cfg(test)]
 mod tests;

@@ -3,8 +3,9 @@
 use std::mem::discriminant;
 use std::ops::RangeInclusive;
 
-use crate::grammar::{Field, Format, Item, Mode, Operands, Parameter, Sizes, Step};
-use crate::{refuse_at, Refused};
+use crate::deck::Card;
+use crate::grammar::{Format, Item, Mode, Operands, Parameter, Sizes, Step};
+use crate::{columns, refuse_at, refuse_on, Refused};
 
 /// What the cards ask for, each parameter once.
 #[derive(Clone, Debug)]
@@ -24,22 +25,27 @@ pub fn items(fs: &[Vec<Item>]) -> impl Iterator<Item = (usize, Item)> + '_ {
     (2..).zip(fs).flat_map(|(card, items)| items.iter().map(move |item| (card, *item)))
 }
 
-/// The card of the second of two parameters of a kind, or of the second CV.
-fn doubled(operands: &Operands) -> Option<usize> {
-    let u = &operands.u;
-    let twice = |i: usize| u[..i].iter().any(|p| discriminant(p) == discriminant(&u[i]));
-    if (0..u.len()).any(twice) {
-        return Some(1);
+/// The column of the first parameter of the U card that has one of its kind before it.
+fn doubled_parameter(u_card: &Card, u: &[Parameter]) -> Option<usize> {
+    let twice = |i: &usize| u[..*i].iter().any(|p| discriminant(p) == discriminant(&u[*i]));
+    (0..u.len()).find(twice).map(|i| columns::of_parts(u_card)[i])
+}
+
+/// The card and column of the second of two parameters of a kind, or of the second CV.
+fn doubled(cards: &[Card], operands: &Operands) -> Option<(usize, usize)> {
+    if let Some(column) = doubled_parameter(&cards[0], &operands.u) {
+        return Some((1, column));
     }
-    let mut cvs = items(&operands.fs).filter(|(_, item)| *item == Item::CV);
-    cvs.nth(1).map(|(card, _)| card)
+    let columns = cards[1..].iter().flat_map(columns::of_parts);
+    let mut cvs = items(&operands.fs).zip(columns).filter(|((_, item), _)| *item == Item::CV);
+    cvs.nth(1).map(|((card, _), column)| (card, column))
 }
 
 /// The parameters by name; nothing where T, F, A or B is missing.
-fn by_name(operands: Operands) -> Option<Asked> {
+fn by_name(operands: &Operands) -> Option<Asked> {
     let (mut t, mut f, mut a, mut b, mut first) = (None, None, None, None, 1);
-    for parameter in operands.u {
-        match parameter {
+    for parameter in &operands.u {
+        match *parameter {
             Parameter::T(mode) => t = Some(mode),
             Parameter::F(format) => f = Some(format),
             Parameter::A(sizes) => a = Some(sizes),
@@ -48,7 +54,7 @@ fn by_name(operands: Operands) -> Option<Asked> {
             Parameter::I | Parameter::O => {}
         }
     }
-    Some(Asked { mode: t?, format: f?, a: a?, b: b?, first, fs: operands.fs })
+    Some(Asked { mode: t?, format: f?, a: a?, b: b?, first, fs: operands.fs.clone() })
 }
 
 /// The card of the 65th field.
@@ -57,42 +63,55 @@ fn field_65(asked: &Asked) -> Option<usize> {
     fields.nth(64).map(|(card, _)| card)
 }
 
-const SHORT: RangeInclusive<usize> = 1..=4_096;
-const LONG: RangeInclusive<usize> = 1..=32_760;
-const DIGITS: RangeInclusive<usize> = 1..=16;
+type Limit = RangeInclusive<usize>;
 
-fn sizes_in_limits(format: Format, sizes: Sizes) -> bool {
-    match sizes {
-        Sizes::One(g) => LONG.contains(&g) && (format != Format::FV || g >= 9),
-        Sizes::Two(n, m) => SHORT.contains(&n) && LONG.contains(&m),
+const SHORT: Limit = 1..=4_096;
+const LONG: Limit = 1..=32_760;
+const DIGITS: Limit = 1..=16;
+
+/// The limits of the numbers of a parameter, in the order in which they stand.
+fn of_parameter(parameter: &Parameter, format: Format) -> Vec<Limit> {
+    let single = if format == Format::FV { 9..=32_760 } else { LONG };
+    match parameter {
+        Parameter::A(Sizes::One(_)) | Parameter::B(Sizes::One(_)) => vec![single],
+        Parameter::A(Sizes::Two(..)) | Parameter::B(Sizes::Two(..)) => vec![SHORT, LONG],
+        Parameter::R(_) => vec![1..=65_536],
+        Parameter::T(_) | Parameter::F(_) | Parameter::I | Parameter::O => vec![],
     }
 }
 
-fn field_in_limits(field: Field) -> bool {
-    let sizes = if field.step == Step::Copy { SHORT } else { DIGITS };
-    SHORT.contains(&field.r)
-        && SHORT.contains(&field.t)
-        && sizes.contains(&field.input)
-        && sizes.contains(&field.output)
-}
-
-/// The first card with a number outside its limits.
-fn outside_limits(asked: &Asked) -> Option<usize> {
-    let u_right = sizes_in_limits(asked.format, asked.a)
-        && sizes_in_limits(asked.format, asked.b)
-        && (1..=65_536).contains(&asked.first);
-    if !u_right {
-        return Some(1);
+/// The limits of the numbers of an item, in the order in which they stand.
+fn of_item(item: &Item) -> Vec<Limit> {
+    match item {
+        Item::CV => vec![],
+        Item::Field(field) if field.step == Step::Copy => vec![SHORT, SHORT, SHORT],
+        Item::Field(_) => vec![SHORT, DIGITS, DIGITS, SHORT],
     }
-    let bad = |item: Item| matches!(item, Item::Field(field) if !field_in_limits(field));
-    items(&asked.fs).find(|(_, item)| bad(*item)).map(|(card, _)| card)
 }
 
-/// What the operands ask for, or refusal 4, 5, 6 or 7.
-pub fn read(operands: Operands) -> Result<Asked, Refused> {
-    refuse_at(4, doubled(&operands))?;
-    let asked = by_name(operands).ok_or(Refused { number: 5, place: 1 })?;
+/// The column of a card's first number outside its limits.
+fn column_outside(card: &Card, limits: &[Limit]) -> Option<usize> {
+    let numbers = columns::of_numbers(card);
+    assert_eq!(numbers.len(), limits.len());
+    let outside = |((_, number), limit): &(&(usize, usize), &Limit)| !limit.contains(number);
+    numbers.iter().zip(limits).find(outside).map(|((column, _), _)| *column)
+}
+
+/// The first card with a number outside its limits, and the column of its first such number.
+fn outside_limits(cards: &[Card], operands: &Operands, format: Format) -> Option<(usize, usize)> {
+    let u: Vec<Limit> = operands.u.iter().flat_map(|parameter| of_parameter(parameter, format)).collect();
+    let fs = operands.fs.iter().map(|items| items.iter().flat_map(of_item).collect());
+    let limits: Vec<Vec<Limit>> = [u].into_iter().chain(fs).collect();
+    (1..).zip(cards.iter().zip(&limits)).find_map(|(number, (card, limits))| {
+        column_outside(card, limits).map(|column| (number, column))
+    })
+}
+
+/// What the operands of the cards ask for, or refusal 4, 5, 6 or 7.
+pub fn read(cards: &[Card], operands: &Operands) -> Result<Asked, Refused> {
+    refuse_on(4, doubled(cards, operands))?;
+    let asked = by_name(operands).ok_or(Refused::at(5, 1))?;
     refuse_at(6, field_65(&asked))?;
-    refuse_at(7, outside_limits(&asked))?;
+    refuse_on(7, outside_limits(cards, operands, asked.format))?;
     Ok(asked)
 }

@@ -68,7 +68,7 @@ fn judge(asked: &Asked) -> Result<Plan, Refused> {
 /// The plan of a deck, or one of the refusals 1 to 10.
 pub fn accepted(deck: &[u8]) -> Result<Plan, Refused> {
     let cards = deck::read(deck)?;
-    let asked = limits::read(grammar::read(&cards)?)?;
+    let asked = limits::read(&cards, &grammar::read(&cards)?)?;
     combinations::check(&asked)?;
     judge(&asked)
 }
@@ -95,6 +95,7 @@ pub fn lost(plan: &Plan) -> Option<usize> {
 pub struct Planned {
     pub refusal: usize,
     pub place: usize,
+    pub column: usize,
     pub keeping: usize,
     pub lost: usize,
     pub fields: usize,
@@ -102,8 +103,8 @@ pub struct Planned {
 
 impl Planned {
     fn refused(refused: Refused) -> Planned {
-        let Refused { number, place } = refused;
-        Planned { refusal: number, place, keeping: 0, lost: 0, fields: 0 }
+        let Refused { number, place, column } = refused;
+        Planned { refusal: number, place, column, keeping: 0, lost: 0, fields: 0 }
     }
 
     fn of(plan: &Plan) -> Planned {
@@ -111,6 +112,7 @@ impl Planned {
         Planned {
             refusal: 0,
             place: 0,
+            column: 0,
             keeping: usize::from(lost.is_none()),
             lost: lost.unwrap_or(0),
             fields: plan.fields.len(),
@@ -153,7 +155,7 @@ pub fn plan_into(deck: &[u8], table: &mut [Entry]) -> Planned {
     };
     let count = plan.fields.len();
     if table.len() < count {
-        return Planned::refused(Refused { number: 15, place: count });
+        return Planned::refused(Refused::at(15, count));
     }
     for (place, field) in table.iter_mut().zip(&plan.fields) {
         *place = entry(field);

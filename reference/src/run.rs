@@ -10,6 +10,7 @@ use crate::{blocks, halves, reel, refuse_at, Refused};
 pub struct Ran {
     pub refusal: usize,
     pub place: usize,
+    pub column: usize,
     pub length: usize,
     pub records: usize,
     pub blocks: usize,
@@ -30,7 +31,7 @@ fn taken<'a>(plan: &Plan, blocks: &[&'a [u8]]) -> Result<Vec<Record<'a>>, Refuse
     for (block, bytes) in (1..).zip(blocks) {
         let last = block == blocks.len();
         let records = blocks::records(plan, bytes, last);
-        for data in records.ok_or(Refused { number: 12, place: block })? {
+        for data in records.ok_or(Refused::at(12, block))? {
             all.push(Record { number: all.len() + 1, block, data });
         }
     }
@@ -138,7 +139,7 @@ fn written(plan: &Plan, output: &[Vec<Record>]) -> Vec<u8> {
 /// The finished run, or its refusal.
 fn finish(deck: &[u8], input: &[u8], room: usize) -> Result<Ran, Refused> {
     let plan = accepted(deck)?;
-    let blocks = reel::read(input).ok_or(Refused { number: 11, place: 0 })?;
+    let blocks = reel::read(input).ok_or(Refused::at(11, 0))?;
     let taken = taken(&plan, &blocks)?;
     refuse_at(13, not_permitted(&plan, &taken))?;
     refuse_at(14, overfills(&plan, &taken))?;
@@ -147,13 +148,13 @@ fn finish(deck: &[u8], input: &[u8], room: usize) -> Result<Ran, Refused> {
     refuse_at(15, (length > room.min(reel::LONGEST)).then_some(length))?;
     let reel = written(&plan, &output);
     assert_eq!(reel.len(), length);
-    Ok(Ran { refusal: 0, place: 0, length, records: taken.len(), blocks: output.len(), reel })
+    Ok(Ran { length, records: taken.len(), blocks: output.len(), reel, ..Ran::default() })
 }
 
 /// Run a deck over a reel, with `room` bytes lent for the output.
 pub fn run(deck: &[u8], reel: &[u8], room: usize) -> Ran {
     match finish(deck, reel, room) {
         Ok(ran) => ran,
-        Err(Refused { number, place }) => Ran { refusal: number, place, ..Ran::default() },
+        Err(Refused { number, place, column }) => Ran { refusal: number, place, column, ..Ran::default() },
     }
 }

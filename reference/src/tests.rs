@@ -23,10 +23,19 @@ fn refusal(deck: &str) -> (usize, usize) {
     (p.refusal, p.place)
 }
 
+/// The refusal, place and column of a deck of these cards and END.
+fn column(cards: &str) -> (usize, usize, usize) {
+    let deck = format!("{cards}\n// END\n");
+    let p = plan(deck.as_bytes());
+    let ran = run(deck.as_bytes(), &[], 0);
+    assert_eq!((ran.refusal, ran.place, ran.column), (p.refusal, p.place, p.column));
+    (p.refusal, p.place, p.column)
+}
+
 fn finished(deck: &str, reel: &str, records: usize, blocks: usize, result: &str) {
     let reel_out = hex(result);
     let length = reel_out.len();
-    let expected = Ran { refusal: 0, place: 0, length, records, blocks, reel: reel_out };
+    let expected = Ran { length, records, blocks, reel: reel_out, ..Ran::default() };
     assert_eq!(run(deck.as_bytes(), &hex(reel), length), expected);
     let short = run(deck.as_bytes(), &hex(reel), length - 1);
     assert_eq!(short, Ran { refusal: 15, place: length, ..Ran::default() });
@@ -114,6 +123,41 @@ fn operands() {
     assert_eq!(u("TC,FU,A=(5000,1),B=(1)"), (7, 1));
     assert_eq!(u("TC,FU,A=(32760),B=(32760)"), (0, 0));
     assert_eq!(u("TC,FU,A=(32761),B=(32760)"), (7, 1));
+}
+
+#[test]
+fn columns_of_3() {
+    assert_eq!(column("// U R99999x"), (3, 1, 12));
+    assert_eq!(column("// U TC,TC,x"), (3, 1, 12));
+    assert_eq!(column("// U TRFF"), (3, 1, 9));
+    assert_eq!(column("// U A=(1,2,3)"), (3, 1, 12));
+    assert_eq!(column("// U R123456"), (3, 1, 12));
+    assert_eq!(column("// U IX"), (3, 1, 7));
+    assert_eq!(column("// U "), (3, 1, 6));
+    assert_eq!(column("// UTT "), (3, 1, 8));
+    assert_eq!(column("// U TC\n// FS "), (3, 2, 7));
+    assert_eq!(column("// U  TC"), (3, 1, 6));
+    assert_eq!(column("// U TC, FU"), (3, 1, 9));
+    assert_eq!(column("// U A=(K=1,D=2)"), (3, 1, 9));
+    assert_eq!(column("// U FS"), (3, 1, 7));
+    assert_eq!(column("// U TC\n// FS 1,1,(K,1)"), (3, 2, 11));
+    assert_eq!(column("// U TC,TC\n// FS 1,2,3/\n// FS x"), (3, 2, 13));
+    assert_eq!(column(&format!("// U {}", "IR,".repeat(25))), (3, 1, 81));
+}
+
+#[test]
+fn columns_of_4_and_7() {
+    assert_eq!(column("// U TC,FF,FF,TR,A=(1,1),B=(1,1)"), (4, 1, 12));
+    assert_eq!(column("// U TC,R1,A=(0,0),R1,R1"), (4, 1, 20));
+    assert_eq!(column("// U TC\n// FS CV\n// FS 1,1,1/CV/CV"), (4, 3, 13));
+    assert_eq!(column("// U TC,A=(1,2),TC\n// FS CV/CV"), (4, 1, 17));
+    assert_eq!(column("// U TC,FF,A=(00000,1),B=(0,1)"), (7, 1, 15));
+    assert_eq!(column("// U B=(0,1),A=(0,1),TC,FF"), (7, 1, 9));
+    assert_eq!(column("// U A=(8),B=(9),TC,FV,R0"), (7, 1, 9));
+    assert_eq!(column("// U A=(8),B=(8),TC,FU,R0"), (7, 1, 25));
+    assert_eq!(column("// U TC,FU,A=(5),B=(5)\n// FS 1,1,1/1,(P,16,17),0\n// FS 0,1,1"), (7, 2, 21));
+    assert_eq!(column("// U TC,FU,A=(5),B=(6)"), (8, 1, 0));
+    assert_eq!(column("// U TC,A=(0),B=(0)"), (5, 1, 0));
 }
 
 #[test]

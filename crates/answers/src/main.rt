@@ -2,12 +2,12 @@
 //
 // The arguments name the files. A case is one line of words with one blank between; a line that begins with `#` is a comment.
 //   NAME half pack|unpack SOURCE M    what M bytes of hex 5A hold once SOURCE was packed or unpacked into them
-//   NAME deck DECK                    the refusal, 1 to 7, and its place; or 0 0 and what the cards ask for
-//   NAME reel DECK REEL               the refusal, 1 to 7, 11 or 12, and its place; or 0 0, the blocks, the records and the length of each
-//   NAME plan DECK ENTRIES            refusal, place, keeping, lost place and field count; and the digest of a table of 70 entries of which the
-//                                     first ENTRIES were lent. ENTRIES `-`: no table, and `-` for the digest
-//   NAME run DECK REEL ROOM           refusal, place, length, records and blocks; the digest of an output of 70,000 bytes of which the first ROOM
-//                                     were lent; and the reel written, `..` where it has over 64 bytes, `-` where the run was refused
+//   NAME deck DECK                    the refusal, 1 to 7, its place and its column; or 0 0 0 and what the cards ask for
+//   NAME reel DECK REEL               the refusal, 1 to 7, 11 or 12, its place and its column; or 0 0 0, the blocks, the records and the length of each
+//   NAME plan DECK ENTRIES            refusal, place, column, keeping, lost place and field count; and the digest of a table of 70 entries of which
+//                                     the first ENTRIES were lent. ENTRIES `-`: no table, and `-` for the digest
+//   NAME run DECK REEL ROOM           refusal, place, column, length, records and blocks; the digest of an output of 70,000 bytes of which the first
+//                                     ROOM were lent; and the reel written, `..` where it has over 64 bytes, `-` where the run was refused
 // Bytes are hex digits, or xCOUNT:HH for COUNT bytes HH, in parts joined by `+`; `-` is no byte.
 mod asked;
 mod digest;
@@ -64,7 +64,7 @@ fn deck(words: &[u8]) {
     let mut bytes = room();
     let n = text::decode(words, &mut bytes);
     let read = cards::read_deck(&bytes[..n]);
-    say::refusal(read.refusal, read.place);
+    say::refusal(read.refusal, read.place, read.column);
     if read.refusal == 0 {
         asked::tell(read.asked);
     }
@@ -75,7 +75,7 @@ fn deck_and_reel(words: &[u8]) {
     let n = text::decode(text::before(words, b' '), &mut bytes);
     let read = cards::read_deck(&bytes[..n]);
     if read.refusal != 0 {
-        say::refusal(read.refusal, read.place);
+        say::refusal(read.refusal, read.place, read.column);
         return;
     }
     let m = text::decode(text::after(words, b' '), &mut bytes);

@@ -76,7 +76,7 @@ fn digest_of(table: [Entry; 70]) -> usize {
 }
 
 fn tell_answer(answer: Planned) {
-    say::refusal(answer.refusal, answer.place);
+    say::refusal(answer.refusal, answer.place, answer.column);
     say::labelled(b" ", answer.keeping);
     say::labelled(b" ", answer.lost);
     say::labelled(b" ", answer.fields);

@@ -72,7 +72,7 @@ pub(crate) fn tell(form: Form, reel: &[u8]) {
     let read = reels::read_reel(form, reel);
     match read {
         ReelRead::Read { blocks, records } => {
-            say::refusal(0, 0);
+            say::refusal(0, 0, 0);
             say::labelled(b" ", blocks);
             say::labelled(b" ", records);
             say::words(b" ");
@@ -81,7 +81,7 @@ pub(crate) fn tell(form: Form, reel: &[u8]) {
             }
             lengths(form, reel, blocks);
         }
-        ReelRead::NotReel => say::refusal(11, 0),
-        ReelRead::BadBlock { block } => say::refusal(12, block),
+        ReelRead::NotReel => say::refusal(11, 0, 0),
+        ReelRead::BadBlock { block } => say::refusal(12, block, 0),
     }
 }

@@ -15,7 +15,7 @@ pub(crate) fn mark(out: &mut [u8]) {
 }
 
 fn tell_answer(answer: Ran) {
-    say::refusal(answer.refusal, answer.place);
+    say::refusal(answer.refusal, answer.place, answer.column);
     say::labelled(b" ", answer.length);
     say::labelled(b" ", answer.records);
     say::labelled(b" ", answer.blocks);

@@ -15,9 +15,10 @@ pub(crate) fn labelled(label: &[u8], n: usize) {
     number(n);
 }
 
-pub(crate) fn refusal(number_of: usize, place: usize) {
+pub(crate) fn refusal(number_of: usize, place: usize, column: usize) {
     number(number_of);
     labelled(b" ", place);
+    labelled(b" ", column);
 }
 
 // A hex digit.

@@ -6,6 +6,8 @@
 mod aim;
 #[path = "../cases/chance.rs"]
 mod chance;
+#[path = "../cases/columns.rs"]
+mod columns;
 #[path = "../cases/draft.rs"]
 mod draft;
 #[path = "../cases/faults.rs"]
@@ -21,7 +23,7 @@ use std::collections::BTreeMap;
 use std::io::Write;
 
 use chance::Chance;
-use reference::{pack, plan, plan_into, run, unpack, Entry};
+use reference::{pack, plan, plan_into, run, unpack, Entry, Refused};
 
 /// What is asked, what is answered, the refusal number in it, and what it shows.
 struct Case {
@@ -67,9 +69,9 @@ fn plan_case(chance: &mut Chance, aim: usize, large: bool) -> Case {
         Some(count) => plan_into(&deck, &mut vec![Entry::default(); count]),
     };
     let lent = entries.map_or("-".to_string(), |count| count.to_string());
-    let reference::Planned { refusal, place, keeping, lost, fields } = planned;
+    let reference::Planned { refusal, place, column, keeping, lost, fields } = planned;
     let asked = format!("{} {lent}", hex(&deck));
-    let answered = format!("{refusal} {place} {keeping} {lost} {fields}");
+    let answered = format!("{refusal} {place} {column} {keeping} {lost} {fields}");
     let mut marks = aim::marks(&deck);
     marks.extend((refusal == 0).then_some(if keeping == 1 { "keeps" } else { "loses" }));
     marks.extend(aim::heavy(&deck).then_some("heavy"));
@@ -90,7 +92,7 @@ fn run_case(chance: &mut Chance, aim: usize, large: bool) -> Case {
     let (deck, reel) = if large { large::case(chance) } else { deck_and_reel(chance, aim) };
     let room = aim::room(chance, &deck, &reel, aim).min(MOST_ROOM);
     let ran = run(&deck, &reel, room);
-    let answers = [ran.refusal, ran.place, ran.length, ran.records, ran.blocks];
+    let answers = [ran.refusal, ran.place, ran.column, ran.length, ran.records, ran.blocks];
     let numbers: Vec<String> = answers.iter().map(usize::to_string).collect();
     let asked = format!("{} {} {room}", hex(&deck), hex(&reel));
     let answered = format!("{} {}", numbers.join(" "), hex(&ran.reel));
@@ -99,6 +101,16 @@ fn run_case(chance: &mut Chance, aim: usize, large: bool) -> Case {
     marks.extend((ran.refusal == 0 && ran.records > 1).then_some("two records or more"));
     marks.extend((aim::heavy(&deck) || reel.len() > 400).then_some("heavy"));
     Case { asked, answered, refusal: ran.refusal, marks }
+}
+
+/// A deck of which only the cards are asked, refusals 1 to 7.
+fn deck_case(chance: &mut Chance, aim: usize, _large: bool) -> Case {
+    let deck = columns::deck(chance, aim);
+    let refused = columns::refused(&deck);
+    let Refused { number, place, column } = refused.unwrap_or(Refused::at(0, 0));
+    let answered = format!("{number} {place} {column}");
+    let marks = refused.map_or(vec![], columns::marks);
+    Case { asked: hex(&deck), answered, refusal: number, marks }
 }
 
 fn half_case(chance: &mut Chance) -> Case {
@@ -123,6 +135,9 @@ fn any_aim(chance: &mut Chance, kind: &str) -> usize {
     if kind == "plan" {
         return chance.pick(&[0, 0, 0, 0, 0, 0, 1, 2, 3, 4, 5, 6, 7, 7, 8, 8, 9, 10, 15, 16]);
     }
+    if kind == "deck" {
+        return chance.pick(&[3, 3, 3, 4, 4, 7, 7]);
+    }
     if chance.below(100) < 42 {
         return 0;
     }
@@ -137,7 +152,11 @@ fn case(chance: &mut Chance, kind: &str, large: bool) -> Case {
         return half_case(chance);
     }
     let aim = any_aim(chance, kind);
-    let draw = if kind == "plan" { plan_case } else { run_case };
+    let draw = match kind {
+        "plan" => plan_case,
+        "run" => run_case,
+        _ => deck_case,
+    };
     if large && chance.one_in(10) {
         return draw(chance, aim, true);
     }
@@ -174,8 +193,8 @@ fn main() {
         std::env::args().skip(1).partition(|argument| argument.starts_with("--"));
     let numbers = (plain.first().and_then(|s| s.parse().ok()), plain.get(1).and_then(|s| s.parse().ok()));
     let kind = plain.get(2).map_or("", String::as_str);
-    let ((Some(seed), Some(count)), "plan" | "run" | "half") = (numbers, kind) else {
-        eprintln!("cases SEED COUNT plan|run|half [--tally] [--large] [--ask]");
+    let ((Some(seed), Some(count)), "plan" | "run" | "deck" | "half") = (numbers, kind) else {
+        eprintln!("cases SEED COUNT plan|run|deck|half [--tally] [--large] [--ask]");
         std::process::exit(2);
     };
     let count: usize = count;

@@ -31,23 +31,23 @@ fn half(step: &str, src: &[u8], m: usize) -> String {
 }
 
 fn refused(refused: Refused) -> String {
-    format!("{} {}", refused.number, refused.place)
+    format!("{} {} {}", refused.number, refused.place, refused.column)
 }
 
 /// The blocks and records of a reel, with the length of each record's data, or refusal 11 or 12.
 fn reading(text: &[u8], input: &[u8]) -> Result<String, Refused> {
     asked(text)?;
     let plan = accepted(text).unwrap_or_else(|refused| panic!("a deck refused by {refused:?}"));
-    let blocks = reel::read(input).ok_or(Refused { number: 11, place: 0 })?;
+    let blocks = reel::read(input).ok_or(Refused::at(11, 0))?;
     let mut lengths: Vec<String> = Vec::new();
     for (number, block) in (1..).zip(&blocks) {
         let records = blocks::records(&plan, block, number == blocks.len());
-        let records = records.ok_or(Refused { number: 12, place: number })?;
+        let records = records.ok_or(Refused::at(12, number))?;
         lengths.extend(records.iter().map(|data| data.len().to_string()));
     }
     let (blocks, records) = (blocks.len(), lengths.len());
     let lengths = if lengths.is_empty() { "-".to_string() } else { lengths.join(",") };
-    Ok(format!("0 0 {blocks} {records} {lengths}"))
+    Ok(format!("0 0 0 {blocks} {records} {lengths}"))
 }
 
 /// The expected line of a case.

@@ -151,7 +151,7 @@ pub fn room(chance: &mut Chance, deck: &[u8], reel: &[u8], aim: usize) -> usize 
 /// What a deck asks for, where refusals 1 to 7 do not stop it.
 fn asked(text: &[u8]) -> Option<Asked> {
     let cards = deck::read(text).ok()?;
-    limits::read(grammar::read(&cards).ok()?).ok()
+    limits::read(&cards, &grammar::read(&cards).ok()?).ok()
 }
 
 /// Whether a judge would have to walk over very many halves for this deck.

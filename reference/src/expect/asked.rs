@@ -7,7 +7,7 @@ use reference::{deck, grammar, limits, Refused};
 /// What a deck asks for, or one of the refusals 1 to 7.
 pub fn asked(text: &[u8]) -> Result<Asked, Refused> {
     let cards = deck::read(text)?;
-    limits::read(grammar::read(&cards)?)
+    limits::read(&cards, &grammar::read(&cards)?)
 }
 
 fn sizes(name: &str, sizes: Sizes) -> String {
@@ -49,5 +49,5 @@ pub fn said(asked: &Asked) -> String {
         .collect();
     let (a, b) = (sizes("A", asked.a), sizes("B", asked.b));
     let (first, fs, count) = (asked.first, asked.fs.len(), fields.len());
-    format!("0 0 {mode} {format} {a} {b} R={first} fs={fs} cv={cv} {count}{}", fields.concat())
+    format!("0 0 0 {mode} {format} {a} {b} R={first} fs={fs} cv={cv} {count}{}", fields.concat())
 }

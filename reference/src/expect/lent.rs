@@ -1,6 +1,6 @@
 //! Plans and runs that are lent memory: it holds a pattern before the call, and a digest of all of it is told after.
 
-use reference::{plan, plan_into, run, Entry, Planned};
+use reference::{plan, plan_into, run, Entry, Planned, Ran};
 
 use crate::text::hex;
 
@@ -34,8 +34,8 @@ fn numbers(entry: &Entry) -> [usize; 5] {
 }
 
 fn planned(answer: Planned, digest: &str) -> String {
-    let Planned { refusal, place, keeping, lost, fields } = answer;
-    format!("{refusal} {place} {keeping} {lost} {fields} {digest}")
+    let Planned { refusal, place, column, keeping, lost, fields } = answer;
+    format!("{refusal} {place} {column} {keeping} {lost} {fields} {digest}")
 }
 
 /// The answer to a deck alone, or with so many entries of the table lent to it.
@@ -66,7 +66,8 @@ pub fn run_line(deck: &[u8], reel: &[u8], room: usize) -> String {
     output[..ran.reel.len()].copy_from_slice(&ran.reel);
     let digest = digest(output.into_iter().map(usize::from));
     let shown = shown(ran.refusal, &ran.reel);
-    format!("{} {} {} {} {} {digest} {shown}", ran.refusal, ran.place, ran.length, ran.records, ran.blocks)
+    let Ran { refusal, place, column, length, records, blocks, .. } = ran;
+    format!("{refusal} {place} {column} {length} {records} {blocks} {digest} {shown}")
 }
 
 #[cfg(test)]
@@ -99,22 +100,24 @@ mod tests {
     /// The digests in the next two tests were worked out apart from this file.
     #[test]
     fn plans_with_and_without_a_table() {
-        assert_eq!(plan_line(FIRST, "-"), "0 0 1 0 2 -");
-        assert_eq!(plan_line(FIRST, "1"), "15 2 0 0 0 1389193452");
-        assert_eq!(plan_line(b"", "70"), "2 1 0 0 0 1389193452");
+        assert_eq!(plan_line(FIRST, "-"), "0 0 0 1 0 2 -");
+        assert_eq!(plan_line(FIRST, "1"), "15 2 0 0 0 0 1389193452");
+        assert_eq!(plan_line(b"// U TC,x\n// END", "70"), "3 1 9 0 0 0 1389193452");
+        assert_eq!(plan_line(b"", "70"), "2 1 0 0 0 0 1389193452");
         let others: Vec<[usize; 5]> = table()[2..].iter().map(numbers).collect();
         let after = [&[[0, 1, 4, 4, 1], [1, 5, 4, 3, 5]][..], &others].concat();
         let digest = digest(after.into_iter().flatten());
-        assert_eq!(plan_line(FIRST, "2"), format!("0 0 1 0 2 {digest}"));
+        assert_eq!(plan_line(FIRST, "2"), format!("0 0 0 1 0 2 {digest}"));
         assert_eq!(plan_line(FIRST, "2"), plan_line(FIRST, "70"));
     }
 
     #[test]
     fn runs_and_their_rooms() {
-        assert_eq!(run_line(FIRST, EMPTY, 7), "15 8 0 0 0 293385196 -");
-        assert_eq!(run_line(FIRST, EMPTY, 8), "0 0 8 0 0 194523768 0000000000000008");
+        assert_eq!(run_line(FIRST, EMPTY, 7), "15 8 0 0 0 0 293385196 -");
+        assert_eq!(run_line(FIRST, EMPTY, 8), "0 0 0 8 0 0 194523768 0000000000000008");
         assert_eq!(run_line(FIRST, EMPTY, 70_000), run_line(FIRST, EMPTY, 8));
-        assert_eq!(run_line(FIRST, b"", 70_000), "11 0 0 0 0 293385196 -");
+        assert_eq!(run_line(b"// U TC,x\n// END", EMPTY, 8), "3 1 9 0 0 0 293385196 -");
+        assert_eq!(run_line(FIRST, b"", 70_000), "11 0 0 0 0 0 293385196 -");
     }
 
     #[test]
