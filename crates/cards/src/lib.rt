@@ -432,6 +432,15 @@ struct Outside {
     variable: usize,
 }
 
+fn none_outside() -> Outside
+    ensures { λ r. ⌜ r ≡ noneOutside ⌝ }
+{
+    Outside {
+        plain: 0,
+        variable: 0,
+    }
+}
+
 // The numbers of one parameter more.
 fn with_numbers(before: Outside, parameter: UParameter, second: usize, column: usize) -> Outside
     requires { ⌜ Reaches column 3 × Reaches column second ⌝ }
@@ -462,10 +471,7 @@ fn u_card(operand: &[u8], column: usize) -> URead
     ensures { λ r. ⌜ UListed column (now (operand .entry)) (listOf "," (worded ruleParameter) (now (operand .entry))) r ⌝ }
 {
     let mut state = no_parameter();
-    let mut outside = Outside {
-        plain: 0,
-        variable: 0,
-    };
+    let mut outside = none_outside();
     let mut at: usize = 0;
     loop {
         let next = readers::parameter(&operand[at..]);

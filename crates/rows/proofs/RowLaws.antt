@@ -117,3 +117,17 @@ flat-one fs gs e =
     let none : RuleField = record { r = 0; kind = copy 0; t = 0 } in
     ext-getD none fs gs many (λ i l.
     sym (field-back none fs i l) ∙ ap (λ (xs : List ℕ). fieldOf (fieldAt xs i)) e ∙ field-back none gs i (omega arith))
+
+-- ---- what the functions promise leaves one outcome
+
+pub size-only-one : (f : Field) {x y : ℕ} → x ≡ outputSize (fieldOf f .kind) → y ≡ outputSize (fieldOf f .kind) → x ≡ y
+size-only-one f e g = e ∙ sym g
+
+pub put-only-one : (at : ℕ) (f : Field) (row : List ℕ) {x y : List ℕ} → x ≡ over at (flatOf (fieldOf f ∷ [])) row → y ≡ over at (flatOf (fieldOf f ∷ [])) row → x ≡ y
+put-only-one at f row e g = e ∙ sym g
+
+pub field-only-one : (row : List ℕ) (i : ℕ) {x y : Field} → x ≡ fieldAt row i → y ≡ fieldAt row i → x ≡ y
+field-only-one row i e g = e ∙ sym g
+
+pub fields-only-one : (row : List ℕ) (count : ℕ) {x y : List Field} → x ≡ rowFields row count → y ≡ rowFields row count → x ≡ y
+fields-only-one row count e g = e ∙ sym g

@@ -29,10 +29,14 @@ abbrev μ-loop : tie.MeasureT-loop
 no-parameter-requires : tie.Need-no-parameter-requires Inv-loop μ-loop
 no-parameter-requires c κs = tt
 
+none-outside-requires : tie.Need-none-outside-requires Inv-loop μ-loop
+none-outside-requires c κs = tt
+
 loop-holds : tie.Need-loop-holds Inv-loop μ-loop
 loop-holds c =
-    let a = c .before .before .args in
-    subst (λ (x : Parameters). Going (a .column) (now (a .operand)) x noneOutside 0) (sym (c .no-parameter .ensures)) (going-start (a .column) (now (a .operand)))
+    let a = c .before .before .before .args in
+    subst (λ (o : Outside). Going (a .column) (now (a .operand)) (c .before .no-parameter .result) o 0) (sym (c .none-outside .ensures))
+    (subst (λ (x : Parameters). Going (a .column) (now (a .operand)) x noneOutside 0) (sym (c .before .no-parameter .ensures)) (going-start (a .column) (now (a .operand))))
 
 sub-parameter : tie.Need-sub-parameter Inv-loop μ-loop
 sub-parameter c = c .loop .inv .inside
@@ -50,27 +54,27 @@ enum-known-next : tie.Need-enum-known-next Inv-loop μ-loop
 enum-known-next c = search needs
 
 -- what `parameter` read from here on
-said : (c : tie.After-parameter Inv-loop μ-loop) → ParameterSays (drop (c .before .before .loop .at) (now (c .before .before .before .before .before .args .operand))) (c .parameter .result)
+said : (c : tie.After-parameter Inv-loop μ-loop) → ParameterSays (drop (c .before .before .loop .at) (now (c .before .before .before .before .before .before .args .operand))) (c .parameter .result)
 said c =
-    subst (λ (l : List ℕ). ParameterSays l (c .parameter .result)) (part-to-end (now (c .before .before .before .before .before .args .operand)) (c .before .before .loop .at)) (c .parameter .ensures)
+    subst (λ (l : List ℕ). ParameterSays l (c .parameter .result)) (part-to-end (now (c .before .before .before .before .before .before .args .operand)) (c .before .before .loop .at)) (c .parameter .ensures)
 
 is-none : (c : tie.After-next Inv-loop μ-loop)
-    → ParameterSays (drop (c .before .before .before .before .loop .at) (now (c .before .before .before .before .before .before .before .args .operand))) (NoParameter (c .next .given .0 .0))
+    → ParameterSays (drop (c .before .before .before .before .loop .at) (now (c .before .before .before .before .before .before .before .before .args .operand))) (NoParameter (c .next .given .0 .0))
 is-none c =
-    subst (ParameterSays (drop (c .before .before .before .before .loop .at) (now (c .before .before .before .before .before .before .before .args .operand)))) (c .next .given .1) (said (c .before .before))
+    subst (ParameterSays (drop (c .before .before .before .before .loop .at) (now (c .before .before .before .before .before .before .before .before .args .operand)))) (c .next .given .1) (said (c .before .before))
 
 is-parameter : (c : tie.After-next2 Inv-loop μ-loop)
-    → ParameterSays (drop (c .before .before .before .before .loop .at) (now (c .before .before .before .before .before .before .before .args .operand))) (IsParameter (c .next2 .given .0 .0) (c .next2 .given .0 .1 .0) (c .next2 .given .0 .1 .1 .0))
+    → ParameterSays (drop (c .before .before .before .before .loop .at) (now (c .before .before .before .before .before .before .before .before .args .operand))) (IsParameter (c .next2 .given .0 .0) (c .next2 .given .0 .1 .0) (c .next2 .given .0 .1 .1 .0))
 is-parameter c =
-    subst (ParameterSays (drop (c .before .before .before .before .loop .at) (now (c .before .before .before .before .before .before .before .args .operand)))) (c .next2 .given .1) (said (c .before .before))
+    subst (ParameterSays (drop (c .before .before .before .before .loop .at) (now (c .before .before .before .before .before .before .before .before .args .operand)))) (c .next2 .given .1) (said (c .before .before))
 
 -- it stands inside the operand, and so does its second number
 inside : (c : tie.After-next2 Inv-loop μ-loop)
-    → (c .before .before .before .before .loop .at + c .next2 .given .0 .1 .1 .0 ≤ length (now (c .before .before .before .before .before .before .before .args .operand)))
+    → (c .before .before .before .before .loop .at + c .next2 .given .0 .1 .1 .0 ≤ length (now (c .before .before .before .before .before .before .before .before .args .operand)))
     × (c .next2 .given .0 .1 .0 ≤ c .next2 .given .0 .1 .1 .0)
 inside c =
     let l = c .before .before .before .before .loop in
-    let s = c .before .before .before .before .before .before .before in
+    let s = c .before .before .before .before .before .before .before .before in
     let g = c .next2 .given .0 in (
       parameter-inside (s .args .column) (s .pre .0) (now (s .args .operand)) (l .state) (l .outside) (l .at) (l .inv) (g .0) (g .1 .0) (g .1 .1 .0) (is-parameter c),
       second-low (s .args .column) (s .pre .0) (now (s .args .operand)) (l .state) (l .outside) (l .at) (l .inv) (g .0) (g .1 .0) (g .1 .1 .0) (is-parameter c),
@@ -80,13 +84,13 @@ add-t15 : tie.Need-add-t15 Inv-loop μ-loop
 add-t15 c = let k = c .before .before .before .before .before .loop .inv .inside in omega arith
 
 add-t16 : tie.Need-add-t16 Inv-loop μ-loop
-add-t16 c = let l = c .before .before .before .before .before .loop in let k = l .inv .inside in let m = is-none (c .before) .0 in omega (arith, length-drop (l .at) (now (c .before .before .before .before .before .before .before .before .args .operand)))
+add-t16 c = let l = c .before .before .before .before .before .loop in let k = l .inv .inside in let m = is-none (c .before) .0 in omega (arith, length-drop (l .at) (now (c .before .before .before .before .before .before .before .before .before .args .operand)))
 
 returns : tie.Need-returns Inv-loop μ-loop
 returns c =
     let n = c .before in
     let l = n .before .before .before .before .loop in
-    let s = n .before .before .before .before .before .before .before in
+    let s = n .before .before .before .before .before .before .before .before in
     going-stop (s .args .column) (s .pre .0) (now (s .args .operand)) (l .state) (l .outside) (l .at) (l .inv) _ (n .next .given .0 .0) (is-none n) refl
 
 enum-known-next-2 : tie.Need-enum-known-next-2 Inv-loop μ-loop
@@ -111,7 +115,7 @@ returns-2 : tie.Need-returns-2 Inv-loop μ-loop
 returns-2 c =
     let n = c .before .before .before .before in
     let l = n .before .before .before .before .loop in
-    let s = n .before .before .before .before .before .before .before in
+    let s = n .before .before .before .before .before .before .before .before in
     let g = n .next2 .given .0 in
     subst (λ (x : Parameters). UListed (s .args .column) (now (s .args .operand)) (listOf "," (worded parameter) (now (s .args .operand))) (record { state = x; outside = c .before .with-numbers .result; unread = 0 })) (sym (c .before .before .with-parameter .ensures))
     (subst (λ (x : Outside). UListed (s .args .column) (now (s .args .operand)) (listOf "," (worded parameter) (now (s .args .operand))) (record { state = withParameter (l .state) (g .0) (s .args .column + l .at); outside = x; unread = 0 })) (sym (c .before .with-numbers .ensures))
@@ -127,7 +131,7 @@ returns-3 : tie.Need-returns-3 Inv-loop μ-loop
 returns-3 c =
     let n = c .before .before .before .before .before .before in
     let l = n .before .before .before .before .loop in
-    let s = n .before .before .before .before .before .before .before in
+    let s = n .before .before .before .before .before .before .before .before in
     let g = n .next2 .given .0 in
     let h = inside n in
     let k = c .before .before .if1 .left in
@@ -143,7 +147,7 @@ loop-again : tie.Need-loop-again Inv-loop μ-loop
 loop-again c =
     let n = c .before .before .before .before .before .before in
     let l = n .before .before .before .before .loop in
-    let s = n .before .before .before .before .before .before .before in
+    let s = n .before .before .before .before .before .before .before .before in
     let g = n .next2 .given .0 in
     let h = inside n in
     let k = c .before .before .if1 .left in
@@ -158,6 +162,7 @@ u-card-spec =
     Inv-loop
     μ-loop
     no-parameter-requires
+    none-outside-requires
     loop-holds
     sub-parameter
     part-parameter-start
