@@ -41,7 +41,7 @@ static int plan(const char *deck)
     bhx_planned p = bhx_plan_into((const uint8_t *)deck, strlen(deck), table, BHX_MOST_FIELDS);
     uint64_t i;
     if (p.refusal != 0) {
-        printf("refused by %u at %u\n", (unsigned)p.refusal, (unsigned)p.place);
+        printf("refused by %u at %u, column %u\n", (unsigned)p.refusal, (unsigned)p.place, (unsigned)p.column);
         return 0;
     }
     for (i = 0; i < p.fields; i++)
@@ -62,7 +62,7 @@ static int run(const char *deck)
     uint64_t i;
     uint32_t at;
     if (r.refusal != 0) {
-        printf("refused by %u at %u\n", (unsigned)r.refusal, (unsigned)r.place);
+        printf("refused by %u at %u, column %u\n", (unsigned)r.refusal, (unsigned)r.place, (unsigned)r.column);
         return 0;
     }
     printf("%u bytes, %u records, %u blocks\n", (unsigned)r.length, (unsigned)r.records, (unsigned)r.blocks);

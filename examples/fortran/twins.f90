@@ -37,7 +37,7 @@ contains
         call plan_into(deck, table, answer)
         planned = answer%refusal == 0
         if (.not. planned) then
-            print "(a, i0, a, i0)", "refused by ", answer%refusal, " at ", answer%place
+            print "(a, i0, a, i0, a, i0)", "refused by ", answer%refusal, " at ", answer%place, ", column ", answer%column
             return
         end if
         do i = 1, int(answer%fields)
@@ -60,7 +60,7 @@ contains
         call run_deck(deck, bytes_in(reel_in_hex), output, answer)
         run = answer%refusal == 0
         if (.not. run) then
-            print "(a, i0, a, i0)", "refused by ", answer%refusal, " at ", answer%place
+            print "(a, i0, a, i0, a, i0)", "refused by ", answer%refusal, " at ", answer%place, ", column ", answer%column
             return
         end if
         print "(3(i0, a))", answer%length, " bytes, ", answer%records, " records, ", answer%blocks, " blocks"
