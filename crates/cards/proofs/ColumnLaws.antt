@@ -4,9 +4,9 @@ use mathlib.Core.Path.{_≡_, refl, ap, sym, _∙_, subst}
 use mathlib.Core.Logic.{_⊎_, inl, inr}
 use mathlib.Core.Bool.{Bool, true, false, cond}
 use mathlib.Core.List.{List, [], _∷_, _++_, map}
-use Prim.Native.Nat.{ℕ, zero, suc, _+_, _≤_, _<_}
+use Prim.Native.Nat.{ℕ, suc, _+_, _≤_}
 use native.Mathlib.Omega.{arith}
-use lib.Dec.{ltb, leb, eqb}
+use lib.Dec.{ltb, eqb}
 use lib.ListN.{length}
 use borrow.Author.Tests.{eqb-true, eqb-false, eq-eqb, ne-eqb, le-leb, lt-leb}
 use Rattle.rules.specs.Base.{joined}
@@ -22,7 +22,7 @@ use Rattle.rules.proofs.NumberColumns.{item-count}
 use Rattle.rules.proofs.WordColumns.{outside-free, outside-parts}
 use Rattle.cards.specs.declared.Noted.{Noted}
 use Rattle.cards.specs.declared.Selected.{Selected}
-use Rattle.cards.specs.Selected.{counted, beyondNoted, fieldNoted, secondNoted, cvNoted, Taken, withItem, withWords, noSelection, withCard, withCards}
+use Rattle.cards.specs.Selected.{counted, fieldNoted, cvNoted, Taken, withItem, withWords, noSelection, withCard, withCards}
 
 -- ---- what an item leaves
 

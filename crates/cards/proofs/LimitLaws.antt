@@ -2,23 +2,23 @@
 -- fails, since no column is 0. By whether each number is within its limits.
 use mathlib.Core.Path.{_≡_, refl, ap, sym, _∙_}
 use mathlib.Core.Bool.{Bool, true, false, cond}
-use mathlib.Core.List.{List, [], _∷_, _++_}
-use Prim.Native.Nat.{ℕ, zero, suc, _+_, _-_, _≤_, _<_}
+use mathlib.Core.List.{List, _∷_, _++_}
+use Prim.Native.Nat.{ℕ, suc, _+_, _-_, _≤_, _<_}
 use native.Mathlib.Omega.{arith}
 use lib.ListN.{length, take, drop, set, replicate, length-append, length-replicate, replicate-append-replicate, take-append-drop}
 use lib.Seq.{set-at, drop-cons, length-take-le, append-snoc}
 use mathlib.Core.List.{append-assoc}
 use Rattle.rules.specs.Base.{within}
-use Rattle.rules.specs.Grammar.{Format as RuleFormat, field}
+use Rattle.rules.specs.Grammar.{field}
 use Rattle.rules.specs.Words.{outsideColumn, firstOf}
-use Rattle.rules.specs.Asked.{sizeNumbers, itemNumbers}
+use Rattle.rules.specs.Asked.{itemNumbers}
 use Rattle.rules.proofs.WordColumns.{first-some}
 use Rattle.terms.specs.declared.Kind.{Kind}
 use Rattle.terms.specs.declared.Kind.the-variants.{Copy, Pack, Unpack}
 use Rattle.terms.specs.declared.Size.{Size}
 use Rattle.terms.specs.declared.Size.the-variants.{Two, One}
 use Rattle.terms.specs.declared.Field.{Field}
-use Rattle.terms.specs.Meaning.{sizeOf, kindOf, fieldOf}
+use Rattle.terms.specs.Meaning.{kindOf, fieldOf}
 use Rattle.readers.specs.declared.Places.{Places}
 use Rattle.readers.specs.declared.UParameter.the-variants.{InputIs, OutputIs}
 use Rattle.readers.specs.Meaning.{OneSize, parameterPlaces, fieldPlaces}

@@ -2,12 +2,12 @@
 use mathlib.Core.Path.{_≡_, refl, ap, sym, _∙_}
 use mathlib.Core.Bool.{Bool, true, false, cond}
 use mathlib.Core.List.{List, [], _∷_, _++_, append-nil, append-assoc}
-use Prim.Native.Nat.{ℕ, zero, suc, _+_, _-_, _≤_, _<_}
+use Prim.Native.Nat.{ℕ, zero, suc, _+_, _-_, _≤_}
 use native.Mathlib.Nat.{add-zero}
 use native.Mathlib.Omega.{arith}
 use lib.Dec.{eqb}
-use lib.ListN.{length, take, set, replicate, length-append, length-replicate, replicate-append-replicate}
-use lib.Seq.{take-all, take-append-le, set-at, append-snoc}
+use lib.ListN.{length, take, replicate, length-append, length-replicate}
+use lib.Seq.{take-all, take-append-le}
 use borrow.Author.Tests.{ne-eqb}
 use Rattle.rules.specs.Base.{joined}
 use Rattle.rules.specs.Grammar.{Item, field, cv}

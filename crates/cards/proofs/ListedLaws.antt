@@ -1,11 +1,10 @@
 -- How a list of items is read, item by item with their columns: an item and its rest, a rest that is nothing, and a rest that is a slash and a list. By the rules'
 -- own steps of a list, for items with their texts.
-use mathlib.Core.Path.{_≡_, refl, ap, ap₂, sym, _∙_, subst}
-use mathlib.Core.Bool.{true, false}
+use mathlib.Core.Path.{_≡_, refl, ap, sym, _∙_, subst}
+use mathlib.Core.Bool.{false}
 use mathlib.Core.List.{List, [], _∷_}
 use Prim.Native.Nat.{ℕ, suc, _+_, _≤_, _<_}
 use native.Mathlib.Omega.{arith}
-use lib.Dec.{eqb}
 use lib.ListN.{length, take, drop, getD, length-drop}
 use lib.Seq.{drop-cons, drop-drop, length-take-le}
 use borrow.Author.Tests.{eq-eqb}
@@ -13,10 +12,9 @@ use Rattle.rules.specs.Places.{All, noMore, also}
 use Rattle.rules.specs.Reader.{Read, read, stopped, pure, onward, listOf, restOf}
 use Rattle.rules.specs.Grammar.{Item, field, cv, item}
 use Rattle.rules.specs.Texts.{ListText, RestText, ItemText, FsText}
-use Rattle.rules.specs.Words.{Worded, worded, fsWords, numberColumns, Limit, meets, outsideColumn, outsideIn}
-use Rattle.rules.specs.Asked.{fieldLimits, itemNumbers}
+use Rattle.rules.specs.Words.{Worded, worded, fsWords, numberColumns, outsideColumn, outsideIn}
+use Rattle.rules.specs.Asked.{itemNumbers}
 use Rattle.rules.specs.ColumnRows.{WordIs}
-use Rattle.rules.specs.Rows.{FieldWithin}
 use Rattle.rules.proofs.ReaderLaws.{Within}
 use Rattle.rules.proofs.ItemLaws.{within-item}
 use Rattle.rules.proofs.ListLaws.{list-item, list-stop, rest-end, rest-mark, rest-other}

@@ -15,7 +15,7 @@ use Rattle.rules.specs.Order.{Operands, operandsOf}
 use Rattle.rules.specs.Grammar.{Parameter, Item, parameter, uOperand, fsOperand}
 use Rattle.rules.specs.Texts.{UText, FsText}
 use Rattle.rules.specs.Words.{Worded, worded, partsOf, uWords, fsWords, valuesOf}
-use Rattle.rules.specs.Asked.{grammatical, itemsFrom, Cards, cardsOf, Asked as RuleAsked, askedOf}
+use Rattle.rules.specs.Asked.{grammatical, itemsFrom, cardsOf, Asked as RuleAsked, askedOf}
 use Rattle.rules.proofs.AnswerLaws.{not-fine, fine-same, refuse-same, bind-fine, fine-bind}
 use Rattle.rules.proofs.Given.{Outcome, found-low}
 use Rattle.rules.proofs.GrammarLaws.{u-exactly, u-left, fs-exactly, fs-left}

@@ -1,17 +1,16 @@
 -- What the selection holds once so many cards are read: what is noted of them, the row of their fields, where none has a number outside its limits and there are at
 -- most 64, and the card of each. It is kept by an item more and by a card more.
 use mathlib.Core.Path.{_≡_, refl, ap, sym, _∙_, subst}
-use mathlib.Core.Logic.{_⊎_, inl, inr}
 use mathlib.Core.Bool.{Bool, true, false, _&&_}
 use mathlib.Core.List.{List, [], _∷_, _++_, append-nil, append-assoc, map}
-use Prim.Native.Nat.{ℕ, zero, suc, _+_, _-_, _*_, _≤_, _<_, min}
+use Prim.Native.Nat.{ℕ, suc, _+_, _-_, _*_, _≤_, _<_, min}
 use native.Mathlib.Omega.{arith}
 use lib.Dec.{ltb, leb, eqb}
 use lib.ListN.{length, take, drop, replicate, length-append, length-replicate, replicate-append-replicate, take-append-drop}
-use lib.Seq.{take-all, take-at, drop-at, take-append-le}
+use lib.Seq.{take-at, drop-at}
 use borrow.Author.Tests.{lt-ltb, ltb-true, leb-true, leb-false}
-use Rattle.rules.specs.Base.{joined, every}
-use Rattle.rules.specs.Places.{All, noMore, also}
+use Rattle.rules.specs.Base.{every}
+use Rattle.rules.specs.Places.{All, also}
 use Rattle.rules.specs.Deck.{beforeFS}
 use Rattle.rules.specs.Grammar.{Item, field, cv}
 use Rattle.rules.specs.Halves.{Field as RuleField, over}
@@ -23,11 +22,10 @@ use Rattle.rules.proofs.NumberLimits.{itemLimits}
 use Rattle.terms.specs.Meaning.{fieldCards}
 use Rattle.rows.specs.Flat.{flatOf}
 use Rattle.rows.proofs.RowLaws.{row-more}
-use Rattle.cards.specs.declared.Noted.{Noted}
 use Rattle.cards.specs.declared.Selected.{Selected}
 use Rattle.cards.specs.Selected.{counted, fieldNoted, cvNoted, keptRow, Taken, withItem, withWords, onCard, noSelection, withCard, withCards}
 use Rattle.cards.proofs.ListSteps.{padded, padded-full, padded-few, cards-last, cards-length}
-use Rattle.cards.proofs.NotedLaws.{allFields, Tells, tells-none, no-items, tells-card, with-last, with-more, more-fields, same-fields, tells-field, tells-cv}
+use Rattle.cards.proofs.NotedLaws.{allFields, Tells, tells-none, no-items, tells-card, more-fields, same-fields, tells-field, tells-cv}
 
 -- ---- the row
 

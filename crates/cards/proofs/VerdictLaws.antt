@@ -11,12 +11,12 @@ use lib.Seq.{take-at}
 use borrow.Author.Tests.{ne-eqb}
 use Rattle.rules.specs.Base.{every, joined}
 use Rattle.rules.specs.Places.{All, noMore, also, Both}
-use Rattle.rules.specs.Answer.{Refusal, Answer, fine, refuse, refused, refusedAt, located, _>>=_, _>>_, unless, each}
+use Rattle.rules.specs.Answer.{Answer, fine, refused, refusedAt, located, _>>=_, _>>_, unless, each}
 use Rattle.rules.specs.Order.{Operands}
 use Rattle.rules.specs.Grammar.{Format, ff, fv, fu, Parameter, Item}
 use Rattle.rules.specs.Halves.{Field as RuleField}
 use Rattle.rules.specs.Texts.{ParameterText, UText, FsText}
-use Rattle.rules.specs.Words.{Worded, uWords, fsWords, valuesOf, againColumn, numberColumns, Limit, meets, outsideColumn, firstOf, outsideIn, outsideAmong}
+use Rattle.rules.specs.Words.{Worded, uWords, fsWords, valuesOf, againColumn, numberColumns, Limit, outsideColumn, firstOf, outsideAmong}
 use Rattle.rules.specs.Asked.{Cards, letter, distinct, sameLetter, cvs, upTo, cvColumn, once, given, Utility, complete, fieldLimits, utilityLimits, parameterNumbers, fieldColumn, limits, Asked as RuleAsked}
 use Rattle.rules.specs.Rows.{Twice}
 use Rattle.rules.specs.ColumnRows.{UParts}

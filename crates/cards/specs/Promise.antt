@@ -5,7 +5,7 @@ use Prim.Native.Nat.{ℕ, _+_}
 use lib.ListN.{length, take, replicate}
 use Rattle.rules.specs.Base.{joined}
 use Rattle.rules.specs.Places.{All}
-use Rattle.rules.specs.Answer.{Refusal, Answer, fine, refuse}
+use Rattle.rules.specs.Answer.{Answer, fine, refuse}
 use Rattle.rules.specs.Order.{operandsOf}
 use Rattle.rules.specs.Asked.{fieldsOf, Asked as RuleAsked, askedOf}
 use Rattle.terms.specs.declared.Mode.the-variants.{TC}

@@ -5,8 +5,8 @@ use mathlib.Core.Bool.{Bool, true, false, cond, true≢false, false≢true}
 use mathlib.Core.List.{List, [], _∷_, _++_, map}
 use Prim.Native.Nat.{ℕ, zero, suc, _+_, _≤_, _<_}
 use native.Mathlib.Omega.{arith}
-use lib.Dec.{leb, eqb}
-use lib.ListN.{length, length-append}
+use lib.Dec.{leb}
+use lib.ListN.{length}
 use borrow.Author.Tests.{leb-true, leb-false, le-leb, eq-eqb, ne-eqb}
 use Rattle.rules.specs.Answer.{Refusal, refuse}
 use Rattle.rules.specs.Places.{Some, this, that, Both, none-left, both}
@@ -15,12 +15,12 @@ use Rattle.rules.specs.Grammar.{Parameter, Item, field, cv}
 use Rattle.rules.specs.Words.{Worded, fsWords, valuesOf, againColumn}
 use Rattle.rules.specs.Asked.{letter, sameLetter, cvs, sameCV, cvColumn, upTo}
 use Rattle.rules.specs.Texts.{FsText}
-use Rattle.rules.specs.Rows.{Alike, Twice, again, after, total, CardOf}
+use Rattle.rules.specs.Rows.{Alike, Twice, again, after}
 use Rattle.rules.specs.ColumnRows.{FsParts, Again, this-one, later-one, BothCV, both-CV, CVOn, this-card, later-card, Lowest}
 use Rattle.rules.proofs.AnswerLaws.{refuse-same}
 use Rattle.rules.proofs.WordedLaws.{fs-parts, fs-worded}
 use Rattle.rules.proofs.AcceptedLaws.{cvs-append}
-use Rattle.rules.proofs.Given.{some-map, some-long}
+use Rattle.rules.proofs.Given.{some-map}
 use Rattle.rules.proofs.ParameterOutcome.{among-some, some-among, alike-letter, alike-of, of-letter}
 
 -- ---- the first part that stands again

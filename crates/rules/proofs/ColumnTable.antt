@@ -1,11 +1,11 @@
 -- The column of a refusal: a refused deck's column is the lowest that its row has at that place, and so number, place and column are those of the table. By
 -- following the tests of a plan: rows 3, 4 and 7 have the column that was found, every other test answers column 0.
-use mathlib.Core.Path.{_≡_, refl, ap, ap₂, sym, _∙_, subst}
+use mathlib.Core.Path.{_≡_, refl, ap, sym, _∙_, subst}
 use mathlib.Core.Logic.{_↔_, _⊎_, inl, inr}
 use mathlib.Core.Bool.{Bool, true, false, cond, true≢false}
 use mathlib.Core.List.{List, [], _∷_, map}
 use mathlib.Core.Option.{Option, none, some}
-use Prim.Native.Nat.{ℕ, zero, suc, _+_, _-_, _≤_, _<_}
+use Prim.Native.Nat.{ℕ, suc, _+_, _-_, _≤_, _<_}
 use native.Mathlib.Nat.{not-suc-le-zero}
 use native.Mathlib.Omega.{arith}
 use lib.Dec.{leb}
@@ -15,20 +15,20 @@ use Rattle.rules.specs.Answer.{Refusal, Answer, fine, refuse, refusedAt,
 use Rattle.rules.specs.Places.{All, Byte, Found, here, later, Both}
 use Rattle.rules.specs.Reader.{Read, read, stopped}
 use Rattle.rules.specs.Deck.{Card, uCard, fsCard, endCard, lines, cardOf, beforeFS}
-use Rattle.rules.specs.Order.{cardsFrom, fsFrom, nothingFrom, Operands as Ordered, ordered, operandsOf}
+use Rattle.rules.specs.Order.{cardsFrom, fsFrom, Operands as Ordered, ordered, operandsOf}
 use Rattle.rules.specs.Grammar.{Parameter, Item, uOperand, fsOperand}
-use Rattle.rules.specs.Words.{Worded, uWords, fsWords, valuesOf, againColumn, numberColumns, outsideColumn}
+use Rattle.rules.specs.Words.{Worded, uWords, fsWords, againColumn, numberColumns, outsideColumn}
 use Rattle.rules.specs.Texts.{UText, FsText}
 use Rattle.rules.specs.Columns.{NoWay, RightTo}
-use Rattle.rules.specs.Asked.{grammatical, itemsFrom, Cards as Said, cardsOf, letter, distinct, fieldsOf, cvs, sameLetter, cvColumn, upTo, once, Given, given, need, Utility, complete, utilityLimits, fieldLimits, parameterNumbers, fieldColumn, limits, Asked, askedOf}
+use Rattle.rules.specs.Asked.{grammatical, itemsFrom, cardsOf, letter, distinct, fieldsOf, cvs, sameLetter, cvColumn, upTo, once, Given, given, need, Utility, complete, utilityLimits, fieldLimits, parameterNumbers, fieldColumn, limits, askedOf}
 use Rattle.rules.specs.Plan.{Plan, assembled, barrenHalf, combined, planOf}
-use Rattle.rules.specs.Rows.{Operands, Alike, Twice, Says, Complete, Row, Done, GivenBy}
+use Rattle.rules.specs.Rows.{Operands, Alike, Twice, Complete, Row, Done, GivenBy}
 use Rattle.rules.specs.RunRows.{RowInto, RowRun}
 use Rattle.rules.specs.Run.{runOf}
 use Rattle.rules.specs.Lent.{zoneF, plan, planInto}
 use Rattle.rules.specs.ColumnRows.{At3, UParts, FsParts, Again, CVOn, At4, Outside, NumberOn, At7, Column, Lowest}
-use Rattle.rules.proofs.AnswerLaws.{not-fine, refuse-same}
-use Rattle.rules.proofs.Given.{found-low, found-nil}
+use Rattle.rules.proofs.AnswerLaws.{refuse-same}
+use Rattle.rules.proofs.Given.{found-low}
 use Rattle.rules.proofs.ParameterOutcome.{twice-of, complete-fine, complete-same}
 use Rattle.rules.proofs.CardsOutcome.{both-same}
 use Rattle.rules.proofs.GrammarLaws.{u-once, fs-once, u-right, fs-right}

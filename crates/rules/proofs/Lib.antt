@@ -101,4 +101,3 @@ pub mod NumberLimits
 pub mod RunColumns
 pub mod ColumnTable
 pub mod ColumnSteps
-pub mod PlainLaws

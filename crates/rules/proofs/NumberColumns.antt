@@ -2,28 +2,28 @@
 -- its limits is found at the lowest such column. By going along the texts.
 use mathlib.Core.Path.{_≡_, refl, ap, ap₂, sym, _∙_, subst}
 use mathlib.Core.Logic.{_⊎_, inl, inr, _↔_}
-use mathlib.Core.Bool.{Bool, true, false, cond, not, _&&_, true≢false, false≢true}
+use mathlib.Core.Bool.{Bool, true, false, cond, not, _&&_, true≢false}
 use mathlib.Core.List.{List, [], _∷_, _++_, map, append-nil, append-assoc}
-use Prim.Native.Nat.{ℕ, zero, suc, _+_, _≤_, _<_}
+use Prim.Native.Nat.{ℕ, suc, _+_, _≤_, _<_}
 use Prim.Native.String.{String}
 use native.Mathlib.Omega.{arith}
-use lib.Dec.{leb, eqb}
-use lib.ListN.{length, length-append}
-use borrow.Author.Tests.{leb-true, leb-false, le-leb, eq-eqb, ne-eqb}
+use lib.Dec.{eqb}
+use lib.ListN.{length}
+use borrow.Author.Tests.{eq-eqb, ne-eqb}
 use Rattle.rules.specs.Base.{ascii, within, every, joined}
 use Rattle.rules.specs.Answer.{Refusal, refuse, each}
 use Rattle.rules.specs.Places.{All, noMore, also, Some, this, that, Both, none-left, both}
 use Rattle.rules.specs.Reader.{isDigit, digits, decimal}
 use Rattle.rules.specs.Deck.{beforeFS}
-use Rattle.rules.specs.Halves.{Kind, copy, pack, unpack, Field}
-use Rattle.rules.specs.Grammar.{Mode, Format, ff, fv, fu, Size, two, one, Parameter, modeIs, formatIs, inputIs, outputIs, rewindIn, rewindOut, firstIs, Item, field, cv}
+use Rattle.rules.specs.Halves.{Kind, copy, pack, unpack}
+use Rattle.rules.specs.Grammar.{Format, Size, two, one, Parameter, inputIs, outputIs, firstIs, Item, field, cv}
 use Rattle.rules.specs.Words.{numberColumns, Limit, meets, outsideColumn}
 use Rattle.rules.specs.Texts.{Digit, NumberText, ListText, RestText, SizeText, ParameterText, UText, KindText, ItemText, FsText}
 use Rattle.rules.specs.Asked.{Utility, least, sizeLimits, utilityLimits, kindLimits, fieldLimits, fieldsOf, sizeNumbers, parameterNumbers, kindNumbers, itemNumbers, fieldColumn}
 use Rattle.rules.specs.Rows.{IsR, Within, Complete}
 use Rattle.rules.specs.ColumnRows.{Outside, this-number, later-number, NumberOn, number-here, number-later, Lowest}
-use Rattle.rules.proofs.Tests.{and-left, and-right, and-both, within-low, within-high, within-of}
-use Rattle.rules.proofs.AllLaws.{all-append, all-left, all-right}
+use Rattle.rules.proofs.Tests.{and-both, within-low, within-high, within-of}
+use Rattle.rules.proofs.AllLaws.{all-left, all-right}
 use Rattle.rules.proofs.AnswerLaws.{refuse-same}
 use Rattle.rules.proofs.NumberLaws.{digit-of, digits-front, Ends, at-end, before}
 

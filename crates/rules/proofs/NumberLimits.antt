@@ -1,16 +1,16 @@
 -- The numbers of a card are within their limits exactly if the card is: a U card says each of A, B and R once, so that each number that stands on it is one of
 -- those that it asks for; a field's numbers are just r, its sizes and t.
-use mathlib.Core.Path.{_≡_, refl, ap, sym, _∙_, subst}
-use mathlib.Core.Logic.{_⊎_, inl}
-use mathlib.Core.Bool.{Bool, true, false, _&&_, true≢false}
-use mathlib.Core.List.{List, [], _∷_, _++_, map}
+use mathlib.Core.Path.{_≡_, refl, ap, sym, _∙_}
+use mathlib.Core.Logic.{inl}
+use mathlib.Core.Bool.{Bool, true, false, _&&_}
+use mathlib.Core.List.{List, [], _∷_, map}
 use Prim.Native.Nat.{ℕ}
 use Rattle.rules.specs.Base.{within, every, joined}
 use Rattle.rules.specs.Places.{All, noMore, also, Some, this, that}
-use Rattle.rules.specs.Halves.{Kind, copy, pack, unpack, Field}
+use Rattle.rules.specs.Halves.{Kind, copy, pack, unpack}
 use Rattle.rules.specs.Grammar.{Format, ff, fu, Size, two, one, Parameter, modeIs, formatIs, inputIs, outputIs, rewindIn, rewindOut, firstIs, Item, field, cv}
-use Rattle.rules.specs.Words.{Limit, meets}
-use Rattle.rules.specs.Asked.{Utility, sizeLimits, utilityLimits, kindLimits, fieldLimits, sizeNumbers, parameterNumbers, kindNumbers, itemNumbers}
+use Rattle.rules.specs.Words.{meets}
+use Rattle.rules.specs.Asked.{Utility, sizeLimits, utilityLimits, kindLimits, fieldLimits, sizeNumbers, parameterNumbers, itemNumbers}
 use Rattle.rules.specs.Rows.{Twice, Complete}
 use Rattle.rules.proofs.Tests.{and-left, and-right, every-all, all-every}
 use Rattle.rules.proofs.AllLaws.{all-append}

@@ -1,9 +1,9 @@
 -- Columns part by part. A list read with its parts' texts is the list read without them, and stops where that stops; the numbers of a text are those of its
 -- parts, since a mark between two parts is no digit. So the first number outside its limits, and the first part that stands again, are found by going along
 -- the parts, and one part more only matters where nothing was found before it.
-use mathlib.Core.Path.{_≡_, refl, ap, ap₂, sym, _∙_, subst}
+use mathlib.Core.Path.{_≡_, refl, ap, ap₂, sym, _∙_}
 use mathlib.Core.Bool.{Bool, true, false, cond, not, _&&_, _||_}
-use mathlib.Core.List.{List, [], _∷_, _++_, map, append-nil, append-assoc}
+use mathlib.Core.List.{List, [], _∷_, _++_, map, append-nil}
 use Prim.Native.Nat.{ℕ, zero, suc, _+_, _-_, _≤_}
 use Prim.Native.String.{String}
 use native.Mathlib.Omega.{arith}

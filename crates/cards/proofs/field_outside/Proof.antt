@@ -1,5 +1,4 @@
 -- `cards::field_outside` meets its contract: of the columns of the four numbers the first that is not 0 is taken, in the order of the card.
-use mathlib.Core.Path.{_∙_}
 use Rattle.cards.proofs.LimitLaws.{field-first}
 use borrow.Author.Needs.{needs}
 use Rattle.cards.proofs.field_outside.Statement.{statement}

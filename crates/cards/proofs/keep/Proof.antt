@@ -1,5 +1,4 @@
 -- `cards::keep` meets its contract: by whether a number is outside its limits, and whether there is room.
-use mathlib.Core.Path.{_∙_, sym}
 use Prim.Native.Nat.{_*_}
 use native.Mathlib.Omega.{arith}
 use borrow.Author.Tests.{eq-eqb, ne-eqb, lt-ltb, le-ltb}

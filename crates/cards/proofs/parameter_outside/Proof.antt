@@ -1,5 +1,4 @@
 -- `cards::parameter_outside` meets its contract: only A, B and R have numbers.
-use mathlib.Core.Path.{ap, sym, _∙_}
 use Rattle.cards.proofs.LimitLaws.{input-places, output-places}
 use borrow.Author.Needs.{needs}
 use Rattle.cards.proofs.parameter_outside.Statement.{statement}

@@ -1,5 +1,4 @@
 -- `cards::size_outside` meets its contract: of one or two numbers the column of the first outside its limits is taken.
-use mathlib.Core.Path.{_∙_}
 use Prim.Native.Nat.{_+_}
 use native.Mathlib.Omega.{arith}
 use Rattle.rules.specs.Base.{within}
