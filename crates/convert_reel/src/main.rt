@@ -14,9 +14,9 @@ fn reel_room() -> [u8; 65537]
     [0; 65537]
 }
 
-fn refused(refusal: usize, place: usize) {
+fn refused(deck: &[u8], refusal: usize, place: usize, column: usize) {
     notices::line(&[refusal, place, 0, 0, 0]);
-    notices::refused(refusal, place);
+    notices::refused(deck, refusal, place, column);
 }
 
 // The room is the longest reel's: a longer output is refused in any room.
@@ -24,7 +24,7 @@ fn convert(deck: &[u8], reel: &[u8], out: &[u8]) {
     let mut room = io::large_buffer();
     let ran = bhexodana::bhx_run(deck, reel, &mut room);
     if ran.refusal != 0 {
-        refused(ran.refusal, ran.place);
+        refused(deck, ran.refusal, ran.place, ran.column);
         return;
     }
     let n = ran.length;
@@ -45,8 +45,9 @@ fn convert_files(deck: &[u8], reel: &[u8], out: &[u8]) {
     if filled.failed {
         return;
     }
+    // A deck that is longer than the room is refused without a column, so its cards are not asked for.
     if read.refusal != 0 {
-        refused(read.refusal, read.place);
+        refused(b"", read.refusal, read.place, 0);
         return;
     }
     let n = read.length;

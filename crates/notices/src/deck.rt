@@ -1,9 +1,22 @@
 // What refusals 1 to 10, of a deck, say.
+use crate::card;
 use crate::half;
 use crate::number;
 use crate::say;
 
-// What refusals 1 to 5 say.
+// What refusal 4 says.
+fn twice(deck: &[u8], place: usize, column: usize) {
+    say(b"a parameter, or CV, stands here for the second time; the first stands at ");
+    card::first(deck, place, column);
+}
+
+// What refusal 7 says.
+fn outside(deck: &[u8], place: usize, column: usize) {
+    say(b"this number is outside its limits, which are ");
+    card::limits(deck, place, column);
+}
+
+// What refusals 1, 2, 3 and 5 say.
 fn reading(refusal: usize) {
     match refusal {
         1 => say(
@@ -13,20 +26,16 @@ fn reading(refusal: usize) {
             b"the cards are not one U card, any number of FS cards and one END card, at most 64 in all; this one is out of order, or is missing",
         ),
         3 => say(
-            b"what stands on this card cannot be read; look at its letters, commas, slashes and parentheses, and for a blank that ends it too early",
+            b"what stands on this card cannot be read from this column on; look at its letters, commas, slashes and parentheses, and for a blank that ends it too early",
         ),
-        4 => say(b"a parameter, or CV, stands for the second time on this card"),
         _ => say(b"T, F, A or B is missing on the U card"),
     }
 }
 
-// What refusals 6, 7, 9 and 10 say.
+// What refusals 6, 9 and 10 say.
 fn asking(refusal: usize) {
     match refusal {
         6 => say(b"the 65th field stands on this card; 64 are allowed"),
-        7 => say(
-            b"a number on this card is outside its limits: 1 to 4,096 for the first of two in A or B and for places and sizes of fields, 1 to 16 for sizes to pack or unpack, 1 to 32,760 for the second or only one in A or B, there from 9 if alone in FV, 1 to 65,536 for R",
-        ),
         9 => say(
             b"this field, counted through all FS cards, reaches outside its records; look at its places and sizes, and at the first numbers of A and B",
         ),
@@ -51,29 +60,27 @@ fn combining(place: usize) {
     );
 }
 
-// A card, a field, a half byte.
-fn where_it_is(refusal: usize, place: usize) {
+// A card and a column, a field, a half byte.
+fn where_it_is(refusal: usize, place: usize, column: usize) {
     say(b", at ");
-    if refusal == 10 {
-        half(place);
-        return;
+    match refusal {
+        9 => {
+            say(b"field ");
+            number(place);
+        }
+        10 => half(place),
+        _ => card::spot(place, column),
     }
-    if refusal == 9 {
-        say(b"field ");
-    } else {
-        say(b"card ");
-    }
-    number(place);
 }
 
-pub(crate) fn explain(refusal: usize, place: usize) {
-    where_it_is(refusal, place);
+pub(crate) fn explain(deck: &[u8], refusal: usize, place: usize, column: usize) {
+    where_it_is(refusal, place, column);
     say(b": ");
-    if refusal < 6 {
-        reading(refusal);
-    } else if refusal == 8 {
-        combining(place);
-    } else {
-        asking(refusal);
+    match refusal {
+        1 | 2 | 3 | 5 => reading(refusal),
+        4 => twice(deck, place, column),
+        7 => outside(deck, place, column),
+        8 => combining(place),
+        _ => asking(refusal),
     }
 }

@@ -1,5 +1,7 @@
 // What programs tell people: the line of numbers on standard output, and in plain words on standard error what was refused, where, and
-// what to look at, or what a plan loses. The words of refusals 1 to 10 stand in `deck`, those of 11 to 15 in `reel`.
+// what to look at, or what a plan loses. The words of refusals 1 to 10 stand in `deck`, what they say of a card with a column in `card`, and the words of 11 to
+// 15 in `reel`.
+mod card;
 mod deck;
 mod reel;
 
@@ -44,16 +46,17 @@ fn half(place: usize) {
     say(b" of the input record");
 }
 
-// A refusal, by its number and its place.
-pub fn refused(refusal: usize, place: usize) {
+// A refusal, by its number, its place and its column, or 0 for none; the deck has the card.
+pub fn refused(deck: &[u8], refusal: usize, place: usize, column: usize) {
     say(b"refused by ");
     number(refusal);
     if refusal < 11 {
-        deck::explain(refusal, place);
+        deck::explain(deck, refusal, place, column);
     } else {
         reel::explain(refusal, place);
     }
     say(b"\n");
+    card::show(deck, place, column);
 }
 
 // A half byte of the first n bytes is lost, or the tail, whose place is 2n.

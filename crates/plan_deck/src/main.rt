@@ -1,17 +1,17 @@
 // Reads a deck from standard input and prints the plan's line: refusal, place, 1 for keeping or 0, lost place or 0. What it means
-// in plain words goes to standard error, where the deck is refused or the plan loses.
+// in plain words goes to standard error, where the deck is refused or the plan loses; with it the card, where a column of it is refused.
 use libc::STDIN_FILENO;
 
-fn refused(refusal: usize, place: usize) {
+fn refused(deck: &[u8], refusal: usize, place: usize, column: usize) {
     notices::line(&[refusal, place, 0, 0]);
-    notices::refused(refusal, place);
+    notices::refused(deck, refusal, place, column);
 }
 
 // A deck that is here as a whole.
 fn whole(deck: &[u8]) {
     let p = plans::plan_deck(deck);
     if p.refusal != 0 {
-        refused(p.refusal, p.place);
+        refused(deck, p.refusal, p.place, p.column);
         return;
     }
     notices::line(&[0, 0, p.keeping, p.lost]);
@@ -25,8 +25,9 @@ fn main() {
         os::fail(b"standard input");
         return;
     }
+    // A deck that is longer than the room is refused without a column, so its cards are not asked for.
     if read.refusal != 0 {
-        refused(read.refusal, read.place);
+        refused(b"", read.refusal, read.place, 0);
         return;
     }
     let n = read.length;
