@@ -1,25 +1,25 @@
--- The columns that are noted are those of the rules. What is noted first stays; so the second CV's column is that of the first CV for which one was seen, on its
--- card or an earlier one, and that of the first number outside its limits is that of its card. By going along the items and the cards.
-use mathlib.Core.Path.{_≡_, refl, ap, sym, _∙_, subst}
+-- The columns that are noted are those of the rules. What is noted first stays, so it is found by going along the items and the cards: once for whatever is
+-- noted, and then for a CV that stands again and for a number outside its limits.
+use mathlib.Core.Path.{_≡_, refl, ap, ap₂, sym, _∙_}
 use mathlib.Core.Logic.{_⊎_, inl, inr}
 use mathlib.Core.Bool.{Bool, true, false, cond}
 use mathlib.Core.List.{List, [], _∷_, _++_, map}
-use Prim.Native.Nat.{ℕ, suc, _+_, _≤_}
+use Prim.Native.Nat.{ℕ, zero, suc, _+_, _≤_}
 use native.Mathlib.Omega.{arith}
-use lib.Dec.{ltb, eqb}
-use lib.ListN.{length}
-use borrow.Author.Tests.{eqb-true, eqb-false, eq-eqb, ne-eqb, le-leb, lt-leb}
+use lib.Dec.{ltb, leb, eqb}
+use lib.ListN.{length, replicate}
+use borrow.Author.Tests.{eq-eqb, ne-eqb, le-leb}
 use Rattle.rules.specs.Base.{joined}
 use Rattle.rules.specs.Places.{Both, none-left, both}
 use Rattle.rules.specs.Deck.{beforeFS}
 use Rattle.rules.specs.Grammar.{Item, field, cv}
 use Rattle.rules.specs.Texts.{ItemText, FsText}
-use Rattle.rules.specs.Words.{Worded, fsWords, valuesOf, againColumn, numberColumns, outsideColumn, outsideIn, outsideAmong}
+use Rattle.rules.specs.Words.{Worded, fsWords, valuesOf, againColumn, numberColumns, outsideColumn, firstOf, outsideIn, outsideAmong}
 use Rattle.rules.specs.Asked.{cvs, sameCV, cvColumn, itemNumbers, fieldColumn}
 use Rattle.rules.proofs.AcceptedLaws.{cvs-append}
 use Rattle.rules.proofs.WordedLaws.{fs-worded}
 use Rattle.rules.proofs.NumberColumns.{item-count}
-use Rattle.rules.proofs.WordColumns.{outside-free, outside-parts}
+use Rattle.rules.proofs.WordColumns.{first-some, outside-free, outside-parts}
 use Rattle.cards.specs.declared.Noted.{Noted}
 use Rattle.cards.specs.declared.Selected.{Selected}
 use Rattle.cards.specs.Selected.{counted, fieldNoted, cvNoted, Taken, withItem, withWords, noSelection, withCard, withCards}
@@ -95,214 +95,201 @@ outside-keeps card column out (field f) t n = go (eqb out 0) refl
     go true e = rw e (counted-leaves (t .0) card .2)
     go false e = rw (e, ne-eqb (t .0 .beyond) 0 n) (counted-leaves (t .0) card .2)
 
+-- ---- what is noted first, item by item and card by card
+
+-- `find` is the column at which an item is noted, or 0, with what was seen before it; `step` is what is seen behind it
+module _ (get : Noted → ℕ × ℕ) (keeps : (card column out : ℕ) (i : Item) (t : Taken) → (get (t .0) .0 ≡ 0 → ⊥) → get (withItem card column out i t .0) ≡ get (t .0))
+    {S : Type 0} (find : S → ℕ → Worded Item → ℕ) (step : S → Worded Item → S) (Clear : Noted → S → Type 0) (none : (n : Noted) (s : S) → Clear n s → get n .0 ≡ 0)
+    (item : (card column : ℕ) → 1 ≤ card → 1 ≤ column → (w : Worded Item) (t : Taken) (s : S) → Clear (t .0) s
+    → ((find s column w ≡ 0) × Clear (withItem card column (outsideIn itemNumbers column w) (w .value) t .0) (step s w))
+    ⊎ ((1 ≤ find s column w) × (get (withItem card column (outsideIn itemNumbers column w) (w .value) t .0) ≡ (card, find s column w)))) where
+  abbrev pub seek : S → ℕ → List (Worded Item) → ℕ
+  seek s column [] = 0
+  seek s column (w ∷ ws) = let later = seek (step s w) (column + suc (length (w .text))) ws in firstOf (find s column w) later
+
+  abbrev pub steps : S → List (Worded Item) → S
+  steps s [] = s
+  steps s (w ∷ ws) = steps (step s w) ws
+
+  -- after the items of a card: nothing yet, or it stands on it
+  noted-words : (card column : ℕ) → 1 ≤ card → 1 ≤ column → (ws : List (Worded Item)) (t : Taken) (s : S) → Clear (t .0) s
+      → Clear (withWords card column ws t .0) (steps s ws) ⊎ (get (withWords card column ws t .0) ≡ (card, seek s column ws))
+  noted-words card column l k [] t s c = inl c
+  noted-words card column l k (w ∷ ws) t s c =
+      go (λ u r d. noted-words card (column + suc (length (w .text))) l (omega arith) ws u r d) (item card column l k w t s c)
+    where
+      next : ℕ
+      next = column + suc (length (w .text))
+
+      after : Taken
+      after = withItem card column (outsideIn itemNumbers column w) (w .value) t
+
+      go : ((u : Taken) (r : S) → Clear (u .0) r → Clear (withWords card next ws u .0) (steps r ws) ⊎ (get (withWords card next ws u .0) ≡ (card, seek r next ws)))
+          → ((find s column w ≡ 0) × Clear (after .0) (step s w)) ⊎ ((1 ≤ find s column w) × (get (after .0) ≡ (card, find s column w)))
+          → Clear (withWords card next ws after .0) (steps (step s w) ws) ⊎ (get (withWords card next ws after .0) ≡ (card, seek s column (w ∷ ws)))
+      go on (inl q) = shift (on after (step s w) (q .1))
+        where
+          shift : Clear (withWords card next ws after .0) (steps (step s w) ws) ⊎ (get (withWords card next ws after .0) ≡ (card, seek (step s w) next ws))
+              → Clear (withWords card next ws after .0) (steps (step s w) ws) ⊎ (get (withWords card next ws after .0) ≡ (card, seek s column (w ∷ ws)))
+          shift (inl x) = inl x
+          shift (inr x) = inr (x ∙ ap (λ (j : ℕ). (card, firstOf j (seek (step s w) next ws))) (sym (q .0)))
+      go on (inr q) =
+          inr
+          (words-stay get keeps card next ws after (λ z. let j : card ≡ 0 = sym (ap (λ (x : ℕ × ℕ). x .0) (q .1)) ∙ z in omega arith)
+          ∙ q .1
+          ∙ ap (λ (j : ℕ). (card, j)) (sym (first-some (find s column w) (seek (step s w) next ws) (q .0))))
+
+  -- the column on card p of the cards from card i on
+  abbrev pub columnAt : S → ℕ → List (List ℕ) → ℕ → ℕ
+  columnAt s i [] p = 0
+  columnAt s i (o ∷ os) p = let later = columnAt (steps s (fsWords o)) (suc i) os p in cond (eqb p i) (seek s (suc beforeFS) (fsWords o)) later
+
+  -- after some cards: nothing, or it stands on one of them
+  noted-cards : (card : ℕ) → 1 ≤ card → (os : List (List ℕ)) (st : Selected) (s : S) → Clear (st .noted) s
+      → (get (withCards card (map fsWords os) st .noted) .0 ≡ 0)
+      ⊎ ((card ≤ get (withCards card (map fsWords os) st .noted) .0)
+      × (get (withCards card (map fsWords os) st .noted) .1 ≡ columnAt s card os (get (withCards card (map fsWords os) st .noted) .0)))
+  unfolding withCard
+  noted-cards card l [] st s c = inl (none (st .noted) s c)
+  noted-cards card l (o ∷ os) st s c =
+      go (λ r d. noted-cards (suc card) (omega arith) os (withCard card (fsWords o) st) r d) (noted-words card (suc beforeFS) l (omega arith) (fsWords o) (st .noted, st .row) s c)
+    where
+      ws : List (Worded Item)
+      ws = fsWords o
+
+      st′ : Selected
+      st′ = withCard card ws st
+
+      end : Noted
+      end = withCards (suc card) (map fsWords os) st′ .noted
+
+      later : (get end .0 ≡ 0) ⊎ ((suc card ≤ get end .0) × (get end .1 ≡ columnAt (steps s ws) (suc card) os (get end .0)))
+          → (get end .0 ≡ 0) ⊎ ((card ≤ get end .0) × (get end .1 ≡ columnAt s card (o ∷ os) (get end .0)))
+      later (inl z) = inl z
+      later (inr z) = inr (omega (arith, z .0), rw (ne-eqb (get end .0) card (λ q. omega (arith, z .0))) (z .1))
+
+      go : ((r : S) → Clear (st′ .noted) r → (get end .0 ≡ 0) ⊎ ((suc card ≤ get end .0) × (get end .1 ≡ columnAt r (suc card) os (get end .0))))
+          → Clear (st′ .noted) (steps s ws) ⊎ (get (st′ .noted) ≡ (card, seek s (suc beforeFS) ws))
+          → (get end .0 ≡ 0) ⊎ ((card ≤ get end .0) × (get end .1 ≡ columnAt s card (o ∷ os) (get end .0)))
+      go on (inl q) = later (on (steps s ws) q)
+      go on (inr q) =
+          let f : get end ≡ (card, seek s (suc beforeFS) ws)
+          = cards-stay get keeps (suc card) (map fsWords os) st′ (λ z. let k : card ≡ 0 = sym (ap (λ (x : ℕ × ℕ). x .0) q) ∙ z in omega arith) ∙ q in
+          let p : get end .0 ≡ card = ap (λ (x : ℕ × ℕ). x .0) f in
+          inr (omega (arith, p), ap (λ (x : ℕ × ℕ). x .1) f ∙ sym (ap (λ (b : Bool). cond b (seek s (suc beforeFS) ws) (columnAt (steps s ws) (suc card) os (get end .0))) (eq-eqb (get end .0) card p)))
+
 -- ---- the second CV
 
--- no second CV yet, and a CV is noted exactly if one was seen
+-- no second CV yet, and a CV is noted exactly if one was seen, k in all
 record Single (n : Noted) (k : ℕ) : Type 0 where
   none : n .«second_cv» ≡ 0
   seen : eqb (n .cv) 0 ≡ eqb k 0
 
--- after the items of a card: still so, or the second stands on it
-cv-words : (card column : ℕ) → 1 ≤ card → (ws : List (Worded Item)) (t : Taken) (seen : List Item) → Single (t .0) (cvs seen)
-    → Single (withWords card column ws t .0) (cvs (valuesOf ws) + cvs seen) ⊎ (second (withWords card column ws t .0) ≡ (card, againColumn sameCV seen column ws))
+-- a CV stands again where one was seen
+abbrev findCV : ℕ → ℕ → Worded Item → ℕ
+findCV k column w = cond (sameCV (w .value) (replicate k cv)) column 0
+
+abbrev stepCV : ℕ → Worded Item → ℕ
+stepCV k w = cvs (w .value ∷ []) + k
+
+cvs-many : (k : ℕ) → cvs (replicate k cv) ≡ k
+cvs-many zero = refl
+cvs-many (suc k) = ap suc (cvs-many k)
+
+cv-item : (card column : ℕ) → 1 ≤ card → 1 ≤ column → (w : Worded Item) (t : Taken) (k : ℕ) → Single (t .0) k
+    → ((findCV k column w ≡ 0) × Single (withItem card column (outsideIn itemNumbers column w) (w .value) t .0) (stepCV k w))
+    ⊎ ((1 ≤ findCV k column w) × (second (withItem card column (outsideIn itemNumbers column w) (w .value) t .0) ≡ (card, findCV k column w)))
 unfolding withItem cvNoted
-cv-words card column l [] t seen s = inl (let e : cvs seen ≡ 0 + cvs seen = omega arith in subst (Single (t .0)) e s)
-cv-words card column l (w ∷ ws) t seen s = go (λ u v h. cv-words card (column + suc (length (w .text))) l ws u v h) (w .value) refl
+cv-item card column l m w t k s = go (w .value)
   where
-    next : ℕ
-    next = column + suc (length (w .text))
-
-    -- of the items behind it
-    Behind : Type 0
-    Behind =
-        (u : Taken) (v : List Item) → Single (u .0) (cvs v)
-        → Single (withWords card next ws u .0) (cvs (valuesOf ws) + cvs v) ⊎ (second (withWords card next ws u .0) ≡ (card, againColumn sameCV v next ws))
-
-    after : Taken
-    after = withItem card column (outsideIn itemNumbers column w) (w .value) t
-
-    -- nothing stands again here
-    past : Behind → sameCV (w .value) seen ≡ false → Single (after .0) (cvs (w .value ∷ seen))
-        → Single (withWords card next ws after .0) (cvs (w .value ∷ valuesOf ws) + cvs seen) ⊎ (second (withWords card next ws after .0) ≡ (card, againColumn sameCV seen column (w ∷ ws)))
-    past on f h = shift (on after (w .value ∷ seen) h)
-      where
-        many : cvs (valuesOf ws) + cvs (w .value ∷ seen) ≡ cvs (w .value ∷ valuesOf ws) + cvs seen
-        many = omega (arith, cvs-append (w .value ∷ []) seen, cvs-append (w .value ∷ []) (valuesOf ws))
-
-        shift : Single (withWords card next ws after .0) (cvs (valuesOf ws) + cvs (w .value ∷ seen)) ⊎ (second (withWords card next ws after .0) ≡ (card, againColumn sameCV (w .value ∷ seen) next ws))
-            → Single (withWords card next ws after .0) (cvs (w .value ∷ valuesOf ws) + cvs seen) ⊎ (second (withWords card next ws after .0) ≡ (card, againColumn sameCV seen column (w ∷ ws)))
-        shift (inl q) = inl (subst (Single (withWords card next ws after .0)) many q)
-        shift (inr q) = inr (q ∙ ap (λ (k : ℕ). (card, k)) (sym (ap (λ (b : Bool). cond b column (againColumn sameCV (w .value ∷ seen) next ws)) f)))
-
-    go : Behind → (i : Item) → w .value ≡ i
-        → Single (withWords card next ws after .0) (cvs (w .value ∷ valuesOf ws) + cvs seen) ⊎ (second (withWords card next ws after .0) ≡ (card, againColumn sameCV seen column (w ∷ ws)))
-    go on (field f) e =
-        past on (ap (λ (x : Item). sameCV x seen) e)
-        (subst (λ (x : Item). Single (withItem card column (outsideIn itemNumbers column w) x t .0) (cvs (x ∷ seen))) (sym e)
-        (let k = field-leaves (t .0) card (outsideIn itemNumbers column w) in
-        record { none = ap (λ (x : ℕ × ℕ). x .0) (k .1) ∙ s .none; seen = ap (λ (x : ℕ). eqb x 0) (k .0) ∙ s .seen }))
-    go on cv e = by (eqb (cvs seen) 0) refl
-      where
-        by : (b : Bool) → eqb (cvs seen) 0 ≡ b
-            → Single (withWords card next ws after .0) (cvs (w .value ∷ valuesOf ws) + cvs seen) ⊎ (second (withWords card next ws after .0) ≡ (card, againColumn sameCV seen column (w ∷ ws)))
-        by true b =
-            let z : cvs seen ≡ 0 = eqb-true (cvs seen) 0 b in
-            past on (ap (λ (x : Item). sameCV x seen) e ∙ lt-leb 1 (cvs seen) (omega arith))
-            (subst (λ (x : Item). Single (withItem card column (outsideIn itemNumbers column w) x t .0) (cvs (x ∷ seen))) (sym e)
-            (rw (s .seen ∙ b) (record { none = s .none; seen = ne-eqb card 0 (λ q. omega arith) ∙ sym (ne-eqb (suc (cvs seen)) 0 (λ q. omega arith)) })))
-        by false b =
-            let z : 1 ≤ cvs seen = some (cvs seen) (eqb-false (cvs seen) 0 b) in
-            let here : second (after .0) ≡ (card, column)
-            = ap (λ (x : Item). second (withItem card column (outsideIn itemNumbers column w) x t .0)) e ∙ rw (s .seen ∙ b, eq-eqb (t .0 .«second_cv») 0 (s .none)) refl in
-            let again : sameCV (w .value) seen ≡ true = ap (λ (x : Item). sameCV x seen) e ∙ le-leb 1 (cvs seen) z in
-            inr
-            (words-stay second second-keeps card next ws after (λ q. let k : card ≡ 0 = sym (ap (λ (x : ℕ × ℕ). x .0) here) ∙ q in omega arith)
-            ∙ here
-            ∙ ap (λ (k : ℕ). (card, k)) (sym (ap (λ (b : Bool). cond b column (againColumn sameCV (w .value ∷ seen) next ws)) again)))
-          where
-            some : (k : ℕ) → (k ≡ 0 → ⊥) → 1 ≤ k
-            some k q = omega arith
-
--- after some cards: no second, or one with its column
-cv-cards : (card : ℕ) → 1 ≤ card → (os : List (List ℕ)) (st : Selected) (seen : List Item) → Single (st .noted) (cvs seen)
-    → (withCards card (map fsWords os) st .noted .«second_cv» ≡ 0)
-    ⊎ ((card ≤ withCards card (map fsWords os) st .noted .«second_cv»)
-    × (withCards card (map fsWords os) st .noted .«second_column» ≡ cvColumn seen card os (withCards card (map fsWords os) st .noted .«second_cv»)))
-unfolding withCard
-cv-cards card l [] st seen s = inl (s .none)
-cv-cards card l (o ∷ os) st seen s = go (λ v h. cv-cards (suc card) (omega arith) os (withCard card (fsWords o) st) v h) (cv-words card (suc beforeFS) l (fsWords o) (st .noted, st .row) seen s)
-  where
-    ws : List (Worded Item)
-    ws = fsWords o
-
-    st′ : Selected
-    st′ = withCard card ws st
-
-    end : Noted
-    end = withCards (suc card) (map fsWords os) st′ .noted
-
-    after : st′ .noted ≡ withWords card (suc beforeFS) ws (st .noted, st .row) .0
-    after = refl
-
-    later : (end .«second_cv» ≡ 0)
-        ⊎ ((suc card ≤ end .«second_cv») × (end .«second_column» ≡ cvColumn (valuesOf ws ++ seen) (suc card) os (end .«second_cv»)))
-        → (end .«second_cv» ≡ 0) ⊎ ((card ≤ end .«second_cv») × (end .«second_column» ≡ cvColumn seen card (o ∷ os) (end .«second_cv»)))
-    later (inl z) = inl z
-    later (inr z) = inr (omega (arith, z .0), rw (ne-eqb (end .«second_cv») card (λ q. omega (arith, z .0))) (z .1))
-
-    go : ((v : List Item) → Single (st′ .noted) (cvs v) → (end .«second_cv» ≡ 0) ⊎ ((suc card ≤ end .«second_cv») × (end .«second_column» ≡ cvColumn v (suc card) os (end .«second_cv»))))
-        → Single (withWords card (suc beforeFS) ws (st .noted, st .row) .0) (cvs (valuesOf ws) + cvs seen)
-        ⊎ (second (withWords card (suc beforeFS) ws (st .noted, st .row) .0) ≡ (card, againColumn sameCV seen (suc beforeFS) ws))
-        → (end .«second_cv» ≡ 0) ⊎ ((card ≤ end .«second_cv») × (end .«second_column» ≡ cvColumn seen card (o ∷ os) (end .«second_cv»)))
-    go on (inl q) =
-        later
-        (on (valuesOf ws ++ seen)
-        (subst (Single (st′ .noted)) (sym (cvs-append (valuesOf ws) seen)) (subst (λ (n : Noted). Single n (cvs (valuesOf ws) + cvs seen)) (sym after) q)))
-    go on (inr q) =
-        let e : second (st′ .noted) ≡ (card, againColumn sameCV seen (suc beforeFS) ws) = ap second after ∙ q in
-        let f : second end ≡ (card, againColumn sameCV seen (suc beforeFS) ws)
-        = cards-stay second second-keeps (suc card) (map fsWords os) st′ (λ z. let k : card ≡ 0 = sym (ap (λ (x : ℕ × ℕ). x .0) e) ∙ z in omega arith) ∙ e in
-        let p : end .«second_cv» ≡ card = ap (λ (x : ℕ × ℕ). x .0) f in
-        inr (omega (arith, p), ap (λ (x : ℕ × ℕ). x .1) f ∙ sym (ap (λ (b : Bool). cond b (againColumn sameCV seen (suc beforeFS) ws) (cvColumn (valuesOf ws ++ seen) (suc card) os (end .«second_cv»))) (eq-eqb (end .«second_cv») card p)))
-
--- ---- the first number outside its limits
-
--- after the items of a card: none yet, or it stands on it
-outside-words : (card column : ℕ) → 1 ≤ card → (ws : List (Worded Item)) (t : Taken) → t .0 .beyond ≡ 0
-    → (withWords card column ws t .0 .beyond ≡ 0) ⊎ (outside (withWords card column ws t .0) ≡ (card, outsideAmong itemNumbers column ws))
-unfolding withItem fieldNoted
-outside-words card column l [] t s = inl s
-outside-words card column l (w ∷ ws) t s = go (λ u h. outside-words card (column + suc (length (w .text))) l ws u h) (w .value) refl
-  where
-    next : ℕ
-    next = column + suc (length (w .text))
-
-    -- of the items behind it
-    Behind : Type 0
-    Behind = (u : Taken) → u .0 .beyond ≡ 0 → (withWords card next ws u .0 .beyond ≡ 0) ⊎ (outside (withWords card next ws u .0) ≡ (card, outsideAmong itemNumbers next ws))
-
     out : ℕ
     out = outsideIn itemNumbers column w
 
-    after : Taken
-    after = withItem card column out (w .value) t
-
-    past : Behind → out ≡ 0 → after .0 .beyond ≡ 0
-        → (withWords card next ws after .0 .beyond ≡ 0) ⊎ (outside (withWords card next ws after .0) ≡ (card, outsideAmong itemNumbers column (w ∷ ws)))
-    past on f h = shift (on after h)
+    go : (i : Item)
+        → ((cond (sameCV i (replicate k cv)) column 0 ≡ 0) × Single (withItem card column out i t .0) (cvs (i ∷ []) + k))
+        ⊎ ((1 ≤ cond (sameCV i (replicate k cv)) column 0) × (second (withItem card column out i t .0) ≡ (card, cond (sameCV i (replicate k cv)) column 0)))
+    go (field f) =
+        let h = field-leaves (t .0) card out in
+        let z : 0 + k ≡ k = omega arith in
+        inl (refl, record { none = ap (λ (x : ℕ × ℕ). x .0) (h .1) ∙ s .none; seen = ap (λ (x : ℕ). eqb x 0) (h .0) ∙ s .seen ∙ ap (λ (x : ℕ). eqb x 0) (sym z) })
+    go cv = by k (s .seen) (cvs-many k)
       where
-        shift : (withWords card next ws after .0 .beyond ≡ 0) ⊎ (outside (withWords card next ws after .0) ≡ (card, outsideAmong itemNumbers next ws))
-            → (withWords card next ws after .0 .beyond ≡ 0) ⊎ (outside (withWords card next ws after .0) ≡ (card, outsideAmong itemNumbers column (w ∷ ws)))
-        shift (inl q) = inl q
-        shift (inr q) = inr (q ∙ ap (λ (k : ℕ). (card, k)) (sym (ap (λ (b : Bool). cond b (outsideAmong itemNumbers next ws) out) (eq-eqb out 0 f))))
+        by : (j : ℕ) → eqb (t .0 .cv) 0 ≡ eqb j 0 → cvs (replicate j cv) ≡ j
+            → ((cond (sameCV cv (replicate j cv)) column 0 ≡ 0) × Single (withItem card column out cv t .0) (cvs (cv ∷ []) + j))
+            ⊎ ((1 ≤ cond (sameCV cv (replicate j cv)) column 0) × (second (withItem card column out cv t .0) ≡ (card, cond (sameCV cv (replicate j cv)) column 0)))
+        by zero e q = inl (refl, rw e (record { none = s .none; seen = ne-eqb card 0 (λ z. omega arith) ∙ sym (ne-eqb (cvs (cv ∷ []) + 0) 0 (λ z. omega arith)) }))
+        by (suc j) e q =
+            let a : leb 1 (cvs (replicate (suc j) cv)) ≡ true = le-leb 1 (cvs (replicate (suc j) cv)) (omega arith) in
+            let b : eqb (t .0 .cv) 0 ≡ false = e ∙ ne-eqb (suc j) 0 (λ z. omega arith) in
+            inr (rw a m, rw (a, b, eq-eqb (t .0 .«second_cv») 0 (s .none)) refl)
 
-    go : Behind → (i : Item) → w .value ≡ i
-        → (withWords card next ws after .0 .beyond ≡ 0) ⊎ (outside (withWords card next ws after .0) ≡ (card, outsideAmong itemNumbers column (w ∷ ws)))
-    go on cv e =
-        past on (ap (λ (x : Item). outsideIn itemNumbers column (record { value = x; text = w .text })) e ∙ outside-free (numberColumns false column (w .text)))
-        (ap (λ (x : Item). withItem card column out x t .0 .beyond) e ∙ ap (λ (x : ℕ × ℕ). x .0) (cv-leaves (t .0) card column) ∙ s)
-    go on (field f) e = by (eqb out 0) refl
-      where
-        by : (b : Bool) → eqb out 0 ≡ b
-            → (withWords card next ws after .0 .beyond ≡ 0) ⊎ (outside (withWords card next ws after .0) ≡ (card, outsideAmong itemNumbers column (w ∷ ws)))
-        by true b =
-            past on (eqb-true out 0 b)
-            (ap (λ (x : Item). withItem card column out x t .0 .beyond) e ∙ rw b (ap (λ (x : ℕ × ℕ). x .0) (counted-leaves (t .0) card .2)) ∙ s)
-        by false b =
-            let here : outside (after .0) ≡ (card, out)
-            = ap (λ (x : Item). outside (withItem card column out x t .0)) e ∙ rw (b, eq-eqb (t .0 .beyond) 0 s) refl in
-            inr
-            (words-stay outside outside-keeps card next ws after (λ q. let k : card ≡ 0 = sym (ap (λ (x : ℕ × ℕ). x .0) here) ∙ q in omega arith)
-            ∙ here
-            ∙ ap (λ (k : ℕ). (card, k)) (sym (ap (λ (b : Bool). cond b (outsideAmong itemNumbers next ws) out) b)))
+-- which is what the rules look for
+cv-same : (i : Item) (xs ys : List Item) → cvs xs ≡ cvs ys → sameCV i xs ≡ sameCV i ys
+cv-same (field f) xs ys e = refl
+cv-same cv xs ys e = ap (leb 1) e
 
--- after some cards: none, or one with its column
-outside-cards : (card : ℕ) → 1 ≤ card → (os : List (List ℕ)) (cs : List (List Item)) → Both FsText os cs → (st : Selected) → st .noted .beyond ≡ 0
-    → (withCards card (map fsWords os) st .noted .beyond ≡ 0)
-    ⊎ ((card ≤ withCards card (map fsWords os) st .noted .beyond)
-    × (withCards card (map fsWords os) st .noted .«beyond_column» ≡ fieldColumn card os cs (withCards card (map fsWords os) st .noted .beyond)))
-unfolding withCard
-outside-cards card l [] [] none-left st s = inl s
-outside-cards card l (o ∷ os) (is ∷ cs) (both t b) st s = go (λ h. outside-cards (suc card) (omega arith) os cs b (withCard card (fsWords o) st) h) (outside-words card (suc beforeFS) l (fsWords o) (st .noted, st .row) s)
+cv-seek : (k column : ℕ) → 1 ≤ column → (ws : List (Worded Item)) (xs : List Item) → cvs xs ≡ k
+    → seek second second-keeps findCV stepCV Single (λ n s c. c .none) cv-item k column ws ≡ againColumn sameCV xs column ws
+cv-seek k column l [] xs e = refl
+cv-seek k column l (w ∷ ws) xs e =
+    let q : cvs (w .value ∷ xs) ≡ cvs (w .value ∷ []) + k = omega (arith, e, cvs-append (w .value ∷ []) xs) in
+    ap₂ firstOf (ap (λ (b : Bool). cond b column 0) (cv-same (w .value) (replicate k cv) xs (cvs-many k ∙ sym e)))
+    (cv-seek (cvs (w .value ∷ []) + k) (column + suc (length (w .text))) (omega arith) ws (w .value ∷ xs) q)
+    ∙ two (sameCV (w .value) xs)
   where
-    ws : List (Worded Item)
-    ws = fsWords o
+    two : (b : Bool) → firstOf (cond b column 0) (againColumn sameCV (w .value ∷ xs) (column + suc (length (w .text))) ws) ≡ cond b column (againColumn sameCV (w .value ∷ xs) (column + suc (length (w .text))) ws)
+    two true = first-some column _ l
+    two false = refl
 
-    st′ : Selected
-    st′ = withCard card ws st
+cv-steps : (k : ℕ) (ws : List (Worded Item)) → steps second second-keeps findCV stepCV Single (λ n s c. c .none) cv-item k ws ≡ cvs (valuesOf ws) + k
+cv-steps k [] = let e : k ≡ 0 + k = omega arith in e
+cv-steps k (w ∷ ws) = omega (arith, cv-steps (cvs (w .value ∷ []) + k) ws, cvs-append (w .value ∷ []) (valuesOf ws))
 
-    end : Noted
-    end = withCards (suc card) (map fsWords os) st′ .noted
+cv-at : (k i : ℕ) (os : List (List ℕ)) (p : ℕ) (xs : List Item) → cvs xs ≡ k
+    → columnAt second second-keeps findCV stepCV Single (λ n s c. c .none) cv-item k i os p ≡ cvColumn xs i os p
+cv-at k i [] p xs e = refl
+cv-at k i (o ∷ os) p xs e =
+    ap₂ (cond (eqb p i)) (cv-seek k (suc beforeFS) (omega arith) (fsWords o) xs e)
+    (cv-at (steps second second-keeps findCV stepCV Single (λ n s c. c .none) cv-item k (fsWords o)) (suc i) os p (valuesOf (fsWords o) ++ xs)
+    (omega (arith, e, cvs-append (valuesOf (fsWords o)) xs, cv-steps k (fsWords o))))
 
-    after : st′ .noted ≡ withWords card (suc beforeFS) ws (st .noted, st .row) .0
-    after = refl
+-- ---- the first number outside its limits
 
-    -- the column of the card's first number outside its limits
-    own : ℕ
-    own = outsideColumn (numberColumns false (suc beforeFS) o) (joined (map itemNumbers is))
+-- none yet; nothing seen before matters
+abbrev Inner : Noted → Unit {0} → Type 0
+Inner n u = n .beyond ≡ 0
 
-    found : outsideAmong itemNumbers (suc beforeFS) ws ≡ own
-    found =
-        let w = fs-worded o is t in
-        sym (outside-parts "/" 47 refl refl ItemText itemNumbers (λ x a t c. item-count c t) (w .0) (suc beforeFS) (omega arith))
-        ∙ ap (λ (xs : List Item). outsideColumn (numberColumns false (suc beforeFS) o) (joined (map itemNumbers xs))) (w .1)
+abbrev findOutside : Unit {0} → ℕ → Worded Item → ℕ
+findOutside u column w = outsideIn itemNumbers column w
 
-    later : (end .beyond ≡ 0) ⊎ ((suc card ≤ end .beyond) × (end .«beyond_column» ≡ fieldColumn (suc card) os cs (end .beyond)))
-        → (end .beyond ≡ 0) ⊎ ((card ≤ end .beyond) × (end .«beyond_column» ≡ fieldColumn card (o ∷ os) (is ∷ cs) (end .beyond)))
-    later (inl z) = inl z
-    later (inr z) = inr (omega (arith, z .0), rw (ne-eqb (end .beyond) card (λ q. omega (arith, z .0))) (z .1))
+outside-item : (card column : ℕ) → 1 ≤ card → 1 ≤ column → (w : Worded Item) (t : Taken) (u : Unit {0}) → Inner (t .0) u
+    → ((findOutside u column w ≡ 0) × Inner (withItem card column (outsideIn itemNumbers column w) (w .value) t .0) u)
+    ⊎ ((1 ≤ findOutside u column w) × (outside (withItem card column (outsideIn itemNumbers column w) (w .value) t .0) ≡ (card, findOutside u column w)))
+unfolding withItem fieldNoted
+outside-item card column l m w t u s = go (w .value) refl (outsideIn itemNumbers column w) refl
+  where
+    go : (i : Item) → w .value ≡ i → (out : ℕ) → outsideIn itemNumbers column w ≡ out
+        → ((out ≡ 0) × (withItem card column out i t .0 .beyond ≡ 0)) ⊎ ((1 ≤ out) × (outside (withItem card column out i t .0) ≡ (card, out)))
+    go cv e out o =
+        let z : out ≡ 0 = sym o ∙ ap (λ (x : Item). outsideIn itemNumbers column (record { value = x; text = w .text })) e ∙ outside-free (numberColumns false column (w .text)) in
+        inl (z, ap (λ (x : ℕ × ℕ). x .0) (cv-leaves (t .0) card column) ∙ s)
+    go (field f) e zero o = inl (refl, ap (λ (x : ℕ × ℕ). x .0) (counted-leaves (t .0) card .2) ∙ s)
+    go (field f) e (suc out) o = inr (omega arith, rw (ne-eqb (suc out) 0 (λ z. omega arith), eq-eqb (t .0 .beyond) 0 s) refl)
 
-    go : (st′ .noted .beyond ≡ 0 → (end .beyond ≡ 0) ⊎ ((suc card ≤ end .beyond) × (end .«beyond_column» ≡ fieldColumn (suc card) os cs (end .beyond))))
-        → (withWords card (suc beforeFS) ws (st .noted, st .row) .0 .beyond ≡ 0)
-        ⊎ (outside (withWords card (suc beforeFS) ws (st .noted, st .row) .0) ≡ (card, outsideAmong itemNumbers (suc beforeFS) ws))
-        → (end .beyond ≡ 0) ⊎ ((card ≤ end .beyond) × (end .«beyond_column» ≡ fieldColumn card (o ∷ os) (is ∷ cs) (end .beyond)))
-    go on (inl q) = later (on (ap (λ (n : Noted). n .beyond) after ∙ q))
-    go on (inr q) =
-        let e : outside (st′ .noted) ≡ (card, own) = ap outside after ∙ q ∙ ap (λ (k : ℕ). (card, k)) found in
-        let f : outside end ≡ (card, own)
-        = cards-stay outside outside-keeps (suc card) (map fsWords os) st′ (λ z. let k : card ≡ 0 = sym (ap (λ (x : ℕ × ℕ). x .0) e) ∙ z in omega arith) ∙ e in
-        let p : end .beyond ≡ card = ap (λ (x : ℕ × ℕ). x .0) f in
-        inr (omega (arith, p), ap (λ (x : ℕ × ℕ). x .1) f ∙ sym (ap (λ (b : Bool). cond b own (fieldColumn (suc card) os cs (end .beyond))) (eq-eqb (end .beyond) card p)))
+outside-seek : (column : ℕ) (ws : List (Worded Item))
+    → seek outside outside-keeps findOutside (λ u w. u) Inner (λ n s c. c) outside-item tt column ws ≡ outsideAmong itemNumbers column ws
+outside-seek column [] = refl
+outside-seek column (w ∷ ws) = ap (firstOf (outsideIn itemNumbers column w)) (outside-seek (column + suc (length (w .text))) ws)
+
+outside-at : (i : ℕ) (os : List (List ℕ)) (cs : List (List Item)) → Both FsText os cs → (p : ℕ)
+    → columnAt outside outside-keeps findOutside (λ u w. u) Inner (λ n s c. c) outside-item tt i os p ≡ fieldColumn i os cs p
+outside-at i [] [] none-left p = refl
+outside-at i (o ∷ os) (is ∷ cs) (both t b) p =
+    let w = fs-worded o is t in
+    let found : outsideAmong itemNumbers (suc beforeFS) (fsWords o) ≡ outsideColumn (numberColumns false (suc beforeFS) o) (joined (map itemNumbers is))
+    = sym (outside-parts "/" 47 refl refl ItemText itemNumbers (λ x a t c. item-count c t) (w .0) (suc beforeFS) (omega arith))
+    ∙ ap (λ (xs : List Item). outsideColumn (numberColumns false (suc beforeFS) o) (joined (map itemNumbers xs))) (w .1) in
+    ap₂ (cond (eqb p i)) (outside-seek (suc beforeFS) (fsWords o) ∙ found) (outside-at (suc i) os cs b p)
 
 -- ---- all cards
 
@@ -312,16 +299,20 @@ module _ (os : List (List ℕ)) where
 
   pub cv-column : (end .«second_cv» ≡ 0 → ⊥) → end .«second_column» ≡ cvColumn [] 2 os (end .«second_cv»)
   unfolding noSelection
-  cv-column n = go (cv-cards 2 (omega arith) os noSelection [] (record { none = refl; seen = refl }))
+  cv-column n = go (noted-cards second second-keeps findCV stepCV Single (λ n s c. c .none) cv-item 2 (omega arith) os noSelection 0 (record { none = refl; seen = refl }))
     where
-      go : (end .«second_cv» ≡ 0) ⊎ ((2 ≤ end .«second_cv») × (end .«second_column» ≡ cvColumn [] 2 os (end .«second_cv»))) → end .«second_column» ≡ cvColumn [] 2 os (end .«second_cv»)
+      go : (end .«second_cv» ≡ 0)
+          ⊎ ((2 ≤ end .«second_cv») × (end .«second_column» ≡ columnAt second second-keeps findCV stepCV Single (λ n s c. c .none) cv-item 0 2 os (end .«second_cv»)))
+          → end .«second_column» ≡ cvColumn [] 2 os (end .«second_cv»)
       go (inl z) = absurd (n z)
-      go (inr z) = z .1
+      go (inr z) = z .1 ∙ cv-at 0 2 os (end .«second_cv») [] refl
 
   pub number-column : (cs : List (List Item)) → Both FsText os cs → (end .beyond ≡ 0 → ⊥) → end .«beyond_column» ≡ fieldColumn 2 os cs (end .beyond)
   unfolding noSelection
-  number-column cs b n = go (outside-cards 2 (omega arith) os cs b noSelection refl)
+  number-column cs b n = go (noted-cards outside outside-keeps findOutside (λ u w. u) Inner (λ n s c. c) outside-item 2 (omega arith) os noSelection tt refl)
     where
-      go : (end .beyond ≡ 0) ⊎ ((2 ≤ end .beyond) × (end .«beyond_column» ≡ fieldColumn 2 os cs (end .beyond))) → end .«beyond_column» ≡ fieldColumn 2 os cs (end .beyond)
+      go : (end .beyond ≡ 0)
+          ⊎ ((2 ≤ end .beyond) × (end .«beyond_column» ≡ columnAt outside outside-keeps findOutside (λ u w. u) Inner (λ n s c. c) outside-item tt 2 os (end .beyond)))
+          → end .«beyond_column» ≡ fieldColumn 2 os cs (end .beyond)
       go (inl z) = absurd (n z)
-      go (inr z) = z .1
+      go (inr z) = z .1 ∙ outside-at 2 os cs b (end .beyond)

@@ -20,7 +20,7 @@ use Rattle.rules.proofs.ItemLaws.{within-item}
 use Rattle.rules.proofs.ListLaws.{list-item, list-stop, rest-end, rest-mark, rest-other}
 use Rattle.rules.proofs.LimitLaws.{field-within}
 use Rattle.rules.proofs.WordedLaws.{within-worded, fs-worded}
-use Rattle.rules.proofs.WordColumns.{worded-reads, worded-stops, columns-shift, columns-low, outside-none}
+use Rattle.rules.proofs.WordColumns.{word-taken, worded-stops, columns-shift, columns-low, outside-none}
 use Rattle.rules.proofs.NumberColumns.{item-count}
 use Rattle.rules.proofs.NumberLimits.{item-exactly}
 use Rattle.terms.specs.declared.Kind.{Kind}
@@ -55,7 +55,7 @@ module _ (card column : ℕ) (t : Taken) (s : List ℕ) where
         → ListSays card column column t s (listOf "/" (worded item) s) r row
     listed-item r row h =
         subst (λ (x : Read (List (Worded Item))). ListSays card column column t s x r row)
-        (sym (list-item "/" (worded item) takes s word (drop n s) (worded-reads item s i n (e .0) (e .1))))
+        (sym (list-item "/" (worded item) takes s word (drop n s) (word-taken item s i n (e .1))))
         (go (restOf "/" (worded item) (drop n s)) h)
       where
         after : Taken

@@ -20,7 +20,7 @@ use Rattle.rules.proofs.ParameterLaws.{within-parameter}
 use Rattle.rules.proofs.ParameterSteps.{letters-last, among-last, distinct-last, given-new, given-again}
 use Rattle.rules.proofs.ListLaws.{ahead, ahead-none, ahead-more, ahead-last, ahead-other, ahead-stop}
 use Rattle.rules.proofs.WordedLaws.{within-worded}
-use Rattle.rules.proofs.WordColumns.{worded-reads, worded-stops, columns-shift, first-zero, width, width-last, values-last, outside-last, again-last}
+use Rattle.rules.proofs.WordColumns.{word-taken, worded-stops, columns-shift, first-zero, width, width-last, values-last, outside-last, again-last}
 use Rattle.terms.specs.Meaning.{modeOf, formatOf, sizeOf}
 use Rattle.readers.specs.declared.UParameter.{UParameter}
 use Rattle.readers.specs.declared.UParameter.the-variants.{ModeIs, FormatIs, InputIs, OutputIs, RewindIn, RewindOut, FirstIs}
@@ -252,7 +252,7 @@ module _ (c : ℕ) (low : 1 ≤ c) (s : List ℕ) (st : Parameters) (o : Outside
     theWord = record { value = parameterOf p; text = part }
 
     behind : worded parameter (drop at s) ≡ read theWord (drop (at + n) s)
-    behind = worded-reads parameter (drop at s) (parameterOf p) n (e .0 .0) (e .0 .1) ∙ ap (read theWord) (drop-drop n at s)
+    behind = word-taken parameter (drop at s) (parameterOf p) n (e .0 .1) ∙ ap (read theWord) (drop-drop n at s)
 
     next : (b : ℕ) → at + n < length s → getD s (at + n) 0 ≡ b → drop (at + n) s ≡ b ∷ drop (at + n + 1) s
     next b l f = rw (add-one (at + n)) (drop-cons s (at + n) 0 l ∙ ap (λ (x : ℕ). x ∷ drop (suc (at + n)) s) f)

@@ -1,14 +1,14 @@
 -- Columns part by part. A list read with its parts' texts is the list read without them, and stops where that stops; the numbers of a text are those of its
 -- parts, since a mark between two parts is no digit. So the first number outside its limits, and the first part that stands again, are found by going along
 -- the parts, and one part more only matters where nothing was found before it.
-use mathlib.Core.Path.{_≡_, refl, ap, ap₂, sym, _∙_}
+use mathlib.Core.Path.{_≡_, refl, ap, ap₂, sym, _∙_, subst}
 use mathlib.Core.Bool.{Bool, true, false, cond, not, _&&_, _||_}
 use mathlib.Core.List.{List, [], _∷_, _++_, map, append-nil}
-use Prim.Native.Nat.{ℕ, zero, suc, _+_, _-_, _≤_}
+use Prim.Native.Nat.{ℕ, zero, suc, _+_, _≤_}
 use Prim.Native.String.{String}
 use native.Mathlib.Omega.{arith}
 use lib.Dec.{leb, eqb}
-use lib.ListN.{length, take, drop, length-drop}
+use lib.ListN.{length, take, drop, take-append-drop}
 use borrow.Author.Tests.{ne-eqb}
 use Rattle.rules.specs.Base.{ascii, every, joined}
 use Rattle.rules.specs.Places.{All, noMore, also}
@@ -18,6 +18,7 @@ use Rattle.rules.specs.Words.{Worded, worded, valuesOf, againColumn, num
 use Rattle.rules.specs.Texts.{ListText, RestText}
 use Rattle.rules.specs.Asked.{letter, among, sameLetter}
 use Rattle.rules.specs.ColumnRows.{WordIs}
+use Rattle.rules.proofs.WordedLaws.{worded-reads}
 
 -- ---- lists with their parts' texts
 
@@ -74,11 +75,11 @@ module _ {A : Type 0} (mark : String) (item : Reader A) where
 
 module _ {A : Type 0} (p : Reader A) (s : List ℕ) where
   -- a part that took so many bytes
-  pub worded-reads : (a : A) (n : ℕ) → n ≤ length s → p s ≡ read a (drop n s) → worded p s ≡ read (record { value = a; text = take n s }) (drop n s)
-  unfolding worded
-  worded-reads a n l e =
-      let k : length s - length (drop n s) ≡ n = omega (arith, length-drop n s) in
-      rw e (ap (λ (j : ℕ). read (record { value = a; text = take j s }) (drop n s)) k)
+  pub word-taken : (a : A) (n : ℕ) → p s ≡ read a (drop n s) → worded p s ≡ read (record { value = a; text = take n s }) (drop n s)
+  word-taken a n e =
+      let q : take n s ++ drop n s ≡ s = take-append-drop n s in
+      subst (λ (z : List ℕ). worded p z ≡ read (record { value = a; text = take n s }) (drop n s)) q
+      (worded-reads p (take n s) (drop n s) (record { value = a; text = take n s }) refl (ap p q ∙ e))
 
   pub worded-stops : (left : List ℕ) → p s ≡ stopped left → worded p s ≡ stopped left
   unfolding worded
