@@ -1,7 +1,7 @@
 -- Refusal 7's column: the runs of digits of a text of the grammar are its numbers, they begin at rising columns, and so the first number outside
 -- its limits is found at the lowest such column. By going along the texts.
 use mathlib.Core.Path.{_≡_, refl, ap, ap₂, sym, _∙_, subst}
-use mathlib.Core.Logic.{_⊎_, inl, inr, _↔_}
+use mathlib.Core.Logic.{_⊎_, inl, inr}
 use mathlib.Core.Bool.{Bool, true, false, cond, not, _&&_, true≢false}
 use mathlib.Core.List.{List, [], _∷_, _++_, map, append-nil, append-assoc}
 use Prim.Native.Nat.{ℕ, suc, _+_, _≤_, _<_}
@@ -10,20 +10,21 @@ use native.Mathlib.Omega.{arith}
 use lib.Dec.{eqb}
 use lib.ListN.{length}
 use borrow.Author.Tests.{eq-eqb, ne-eqb}
-use Rattle.rules.specs.Base.{ascii, within, every, joined}
+use Rattle.rules.specs.Base.{ascii, every, joined}
 use Rattle.rules.specs.Answer.{Refusal, refuse, each}
 use Rattle.rules.specs.Places.{All, noMore, also, Some, this, that, Both, none-left, both}
 use Rattle.rules.specs.Reader.{isDigit, digits, decimal}
 use Rattle.rules.specs.Deck.{beforeFS}
-use Rattle.rules.specs.Halves.{Kind, copy, pack, unpack}
-use Rattle.rules.specs.Grammar.{Format, Size, two, one, Parameter, inputIs, outputIs, firstIs, Item, field, cv}
-use Rattle.rules.specs.Words.{numberColumns, Limit, meets, outsideColumn}
+use Rattle.rules.specs.Halves.{Kind}
+use Rattle.rules.specs.Grammar.{Format, Size, Parameter, inputIs, outputIs, firstIs, Item, field, cv}
+use Rattle.rules.specs.Words.{numberColumns, Limit, limit, withinLimits, outsideColumn}
 use Rattle.rules.specs.Texts.{Digit, NumberText, ListText, RestText, SizeText, ParameterText, UText, KindText, ItemText, FsText}
-use Rattle.rules.specs.Asked.{Utility, least, sizeLimits, utilityLimits, kindLimits, fieldLimits, fieldsOf, sizeNumbers, parameterNumbers, kindNumbers, itemNumbers, fieldColumn}
-use Rattle.rules.specs.Rows.{IsR, Within, Complete}
+use Rattle.rules.specs.Asked.{Utility, utilityLimits, fieldLimits, fieldsOf, sizeNumbers, parameterNumbers, kindNumbers, itemNumbers, fieldColumn}
+use Rattle.rules.specs.Rows.{IsR, Complete}
 use Rattle.rules.specs.ColumnRows.{Outside, this-number, later-number, NumberOn, number-here, number-later, Lowest}
-use Rattle.rules.proofs.Tests.{and-both, within-low, within-high, within-of}
-use Rattle.rules.proofs.AllLaws.{all-left, all-right}
+use Rattle.rules.proofs.Tests.{and-both, all-every}
+use Rattle.rules.proofs.AllLaws.{all-append, all-left, all-right}
+use Rattle.rules.proofs.LimitLaws.{Limited, limit-exactly}
 use Rattle.rules.proofs.AnswerLaws.{refuse-same}
 use Rattle.rules.proofs.NumberLaws.{digit-of, digits-front, Ends, at-end, before}
 
@@ -141,7 +142,7 @@ runs-kind {y = y} (KindText.unpacks {x = a} {y = b} {n = n} n′ m′) w =
 runs-item : {x : List ℕ} {i : Item} {y : List ℕ} → ItemText x i → Ends y → runValues false (x ++ y) ≡ values (itemNumbers i) ++ runValues false y
 runs-item {y = y} (ItemText.aField {x = a} {y = b} {z = c} {r = r} {t = v} {k = k} n t m) w =
     let e : (a ++ ascii "," ++ b ++ ascii "," ++ c) ++ y ≡ a ++ 44 ∷ (b ++ 44 ∷ (c ++ y)) = simp append-assoc in
-    let last : Limit = record { least = 1; most = 4096; value = v } in
+    let last : Limit = limit 1 4096 v in
     let r2 : runValues false (b ++ 44 ∷ (c ++ y)) ≡ values (kindNumbers k) ++ runValues false (c ++ y) = runs-kind t (comma (c ++ y)) in
     let q : values (kindNumbers k) ++ (v ∷ runValues false y) ≡ values (kindNumbers k ++ (last ∷ [])) ++ runValues false y
     = sym (append-assoc (values (kindNumbers k)) (v ∷ []) (runValues false y)) ∙ ap (λ (l : List ℕ). l ++ runValues false y) (sym (values-append (kindNumbers k) (last ∷ []))) in
@@ -217,24 +218,21 @@ outside-low : {b d : ℕ} {cs : List ℕ} {ls : List Limit} → Rising b cs → 
 outside-low (next h r) (this-number e n) = omega arith
 outside-low (next h r) (later-number o) = let z = outside-low r o in omega arith
 
-meets-exactly : (l : Limit) → (meets l ≡ true) ↔ Within (l .least) (l .most) (l .value)
-meets-exactly l = (λ e. (within-low (l .least) (l .most) (l .value) e, within-high (l .least) (l .most) (l .value) e), λ w. within-of (l .least) (l .most) (l .value) (w .0) (w .1))
-
 -- it is found, or all are within their limits
 outside-found : (b : ℕ) (cs : List ℕ) (ls : List Limit) → Rising b cs → length cs ≡ length ls
-    → Lowest (λ c. Outside c cs ls) (outsideColumn cs ls) ⊎ All (λ l. meets l ≡ true) ls
+    → Lowest (λ c. Outside c cs ls) (outsideColumn cs ls) ⊎ Limited ls
 outside-found b [] [] r e = inr noMore
 outside-found b [] (l ∷ ls) r e = absurd (omega arith)
 outside-found b (c ∷ cs) [] r e = absurd (omega arith)
-outside-found b (c ∷ cs) (l ∷ ls) (next h r) e = go (outside-found (suc c) cs ls r (omega arith)) (meets l) refl
+outside-found b (c ∷ cs) (l ∷ ls) (next h r) e = go (outside-found (suc c) cs ls r (omega arith)) (withinLimits l) refl
   where
-    past : meets l ≡ true → (d : ℕ) → Outside d (c ∷ cs) (l ∷ ls) → Outside d cs ls
-    past f d (this-number g n) = absurd (n (meets-exactly l .0 f))
+    past : withinLimits l ≡ true → (d : ℕ) → Outside d (c ∷ cs) (l ∷ ls) → Outside d cs ls
+    past f d (this-number g n) = absurd (n (limit-exactly l .0 f))
     past f d (later-number o) = o
 
-    go : Lowest (λ c. Outside c cs ls) (outsideColumn cs ls) ⊎ All (λ l. meets l ≡ true) ls → (t : Bool) → meets l ≡ t
-        → Lowest (λ d. Outside d (c ∷ cs) (l ∷ ls)) (cond t (outsideColumn cs ls) c) ⊎ All (λ l. meets l ≡ true) (l ∷ ls)
-    go ih false f = inl (this-number refl (λ w. true≢false (sym (meets-exactly l .1 w) ∙ f)), λ d k o. omega (arith, outside-low (next {c = c} h r) o, outside-first d k o))
+    go : Lowest (λ c. Outside c cs ls) (outsideColumn cs ls) ⊎ Limited ls → (t : Bool) → withinLimits l ≡ t
+        → Lowest (λ d. Outside d (c ∷ cs) (l ∷ ls)) (cond t (outsideColumn cs ls) c) ⊎ Limited (l ∷ ls)
+    go ih false f = inl (this-number refl (λ w. true≢false (sym (limit-exactly l .1 w) ∙ f)), λ d k o. omega (arith, outside-low (next {c = c} h r) o, outside-first d k o))
       where
         outside-first : (d : ℕ) → d < c → Outside d (c ∷ cs) (l ∷ ls) → c ≤ d
         outside-first d k (this-number g n) = omega arith
@@ -242,61 +240,41 @@ outside-found b (c ∷ cs) (l ∷ ls) (next h r) e = go (outside-found (suc c) c
     go (inl w) true f = inl (later-number (w .0), λ d k o. w .1 d k (past f d o))
     go (inr a) true f = inr (also f a)
 
-pub outside-first : (c : ℕ) (s : List ℕ) (ls : List Limit) → length (numberColumns false c s) ≡ length ls → (All (λ l. meets l ≡ true) ls → ⊥)
+pub outside-first : (c : ℕ) (s : List ℕ) (ls : List Limit) → length (numberColumns false c s) ≡ length ls → (Limited ls → ⊥)
     → Lowest (λ d. Outside d (numberColumns false c s) ls) (outsideColumn (numberColumns false c s) ls)
 outside-first c s ls e h = go (outside-found c (numberColumns false c s) ls (rising false c s) e)
   where
-    go : Lowest (λ d. Outside d (numberColumns false c s) ls) (outsideColumn (numberColumns false c s) ls) ⊎ All (λ l. meets l ≡ true) ls
+    go : Lowest (λ d. Outside d (numberColumns false c s) ls) (outsideColumn (numberColumns false c s) ls) ⊎ Limited ls
         → Lowest (λ d. Outside d (numberColumns false c s) ls) (outsideColumn (numberColumns false c s) ls)
     go (inl w) = w
     go (inr a) = absurd (h a)
 
 -- ---- the limits that the numbers of a card meet are those of the card
 
-all-first : {A : Type 0} {P : A → Type 0} {x : A} {xs : List A} → All P (x ∷ xs) → P x
-all-first (also p a) = p
-
-all-more : {A : Type 0} {P : A → Type 0} {x : A} {xs : List A} → All P (x ∷ xs) → All P xs
-all-more (also p a) = a
-
-size-meets : (f : Format) (s : Size) → All (λ l. meets l ≡ true) (sizeNumbers f s) → sizeLimits f s ≡ true
-size-meets f (two n m) (also p (also q a)) = and-both p q
-size-meets f (one g) (also p a) = p
-
-parameter-meets : (f : Format) (x : Parameter) (us : List Parameter) → Some (λ y. y ≡ x) us → All (λ l. meets l ≡ true) (joined (map (parameterNumbers f) us))
-    → All (λ l. meets l ≡ true) (parameterNumbers f x)
+pub parameter-meets : (f : Format) (x : Parameter) (us : List Parameter) → Some (λ y. y ≡ x) us → Limited (joined (map (parameterNumbers f) us))
+    → Limited (parameterNumbers f x)
 parameter-meets f x (u ∷ us) (this e) a =
-    subst (λ (z : Parameter). All (λ l. meets l ≡ true) (parameterNumbers f z)) e (all-left (parameterNumbers f u) (joined (map (parameterNumbers f) us)) a)
+    subst (λ (z : Parameter). Limited (parameterNumbers f z)) e (all-left (parameterNumbers f u) (joined (map (parameterNumbers f) us)) a)
 parameter-meets f x (u ∷ us) (that s) a = parameter-meets f x us s (all-right (parameterNumbers f u) (joined (map (parameterNumbers f) us)) a)
 
-pub utility-meets : (us : List Parameter) (u : Utility) → Complete us u → All (λ l. meets l ≡ true) (joined (map (parameterNumbers (u .format)) us)) → utilityLimits u ≡ true
+-- R's number stands on the card or is 1
+pub utility-meets : (us : List Parameter) (u : Utility) → Complete us u → Limited (joined (map (parameterNumbers (u .format)) us)) → utilityLimits u ≡ true
 unfolding utilityLimits
 utility-meets us u c a =
-    and-both
-    (and-both (size-meets (u .format) (u .input) (parameter-meets (u .format) (inputIs (u .input)) us (c .input) a))
-    (size-meets (u .format) (u .output) (parameter-meets (u .format) (outputIs (u .output)) us (c .output) a)))
-    (go (c .first))
+    all-every withinLimits
+    (all-append (parameter-meets (u .format) (inputIs (u .input)) us (c .input) a)
+    (all-append (parameter-meets (u .format) (outputIs (u .output)) us (c .output) a) (go (c .first))))
   where
-    go : Some (λ x. x ≡ firstIs (u .first)) us ⊎ ((Some IsR us → ⊥) × (u .first ≡ 1)) → within 1 65536 (u .first) ≡ true
-    go (inl s) = all-first (parameter-meets (u .format) (firstIs (u .first)) us s a)
-    go (inr w) = rw (w .1) refl
+    go : Some (λ x. x ≡ firstIs (u .first)) us ⊎ ((Some IsR us → ⊥) × (u .first ≡ 1)) → Limited (parameterNumbers (u .format) (firstIs (u .first)))
+    go (inl s) = parameter-meets (u .format) (firstIs (u .first)) us s a
+    go (inr w) = also {x = limit 1 65536 (u .first)} (rw (w .1) refl) noMore
 
-kind-meets : (k : Kind) → All (λ l. meets l ≡ true) (kindNumbers k) → kindLimits k ≡ true
-kind-meets (copy s) (also p a) = p
-kind-meets (pack n m) (also p (also q a)) = and-both p q
-kind-meets (unpack n m) (also p (also q a)) = and-both p q
-
-pub fields-meet : (is : List Item) → All (λ l. meets l ≡ true) (joined (map itemNumbers is)) → every fieldLimits (fieldsOf is) ≡ true
+pub fields-meet : (is : List Item) → Limited (joined (map itemNumbers is)) → every fieldLimits (fieldsOf is) ≡ true
 unfolding fieldLimits
 fields-meet [] a = refl
 fields-meet (cv ∷ is) a = fields-meet is a
 fields-meet (field f ∷ is) a =
-    let t : Limit = record { least = 1; most = 4096; value = f .t } in
-    let own = all-left (itemNumbers (field f)) (joined (map itemNumbers is)) a in
-    let rest = all-right (itemNumbers (field f)) (joined (map itemNumbers is)) a in
-    let k = all-left (kindNumbers (f .kind)) (t ∷ []) (all-more own) in
-    let z = all-right (kindNumbers (f .kind)) (t ∷ []) (all-more own) in
-    and-both (and-both (and-both (all-first own) (kind-meets (f .kind) k)) (all-first z)) (fields-meet is rest)
+    and-both (all-every withinLimits (all-left (itemNumbers (field f)) (joined (map itemNumbers is)) a)) (fields-meet is (all-right (itemNumbers (field f)) (joined (map itemNumbers is)) a))
 
 -- ---- FS cards
 

@@ -14,7 +14,7 @@ use Rattle.rules.specs.Base.{ascii, every, joined}
 use Rattle.rules.specs.Places.{All, noMore, also}
 use Rattle.rules.specs.Reader.{Read, read, stopped, Reader, pure, onward, orElse, text, nothing, isDigit, restThen, listBy, listOf}
 use Rattle.rules.specs.Grammar.{Parameter}
-use Rattle.rules.specs.Words.{Worded, worded, valuesOf, againColumn, numberColumns, Limit, meets, outsideColumn, firstOf, outsideIn, outsideAmong}
+use Rattle.rules.specs.Words.{Worded, worded, valuesOf, againColumn, numberColumns, Limit, withinLimits, outsideColumn, firstOf, outsideIn, outsideAmong}
 use Rattle.rules.specs.Texts.{ListText, RestText}
 use Rattle.rules.specs.Asked.{letter, among, sameLetter}
 use Rattle.rules.specs.ColumnRows.{WordIs}
@@ -140,7 +140,7 @@ outside-append : (cs : List ℕ) (ls : List Limit) (ds : List ℕ) (ms : List Li
 outside-append [] [] ds ms e a = refl
 outside-append [] (l ∷ ls) ds ms e a = absurd (omega arith)
 outside-append (c ∷ cs) [] ds ms e a = absurd (omega arith)
-outside-append (c ∷ cs) (l ∷ ls) ds ms e (also p a) = go (meets l) (outside-append cs ls ds ms (omega arith) a)
+outside-append (c ∷ cs) (l ∷ ls) ds ms e (also p a) = go (withinLimits l) (outside-append cs ls ds ms (omega arith) a)
   where
     go : (t : Bool) → outsideColumn (cs ++ ds) (ls ++ ms) ≡ firstOf (outsideColumn cs ls) (outsideColumn ds ms)
         → cond t (outsideColumn (cs ++ ds) (ls ++ ms)) c ≡ firstOf (cond t (outsideColumn cs ls) c) (outsideColumn ds ms)
@@ -148,13 +148,13 @@ outside-append (c ∷ cs) (l ∷ ls) ds ms e (also p a) = go (meets l) (outside-
     go false h = sym (first-some c (outsideColumn ds ms) p)
 
 -- there is none exactly if all are within their limits
-pub outside-none : (cs : List ℕ) (ls : List Limit) → length cs ≡ length ls → All (λ k. 1 ≤ k) cs → eqb (outsideColumn cs ls) 0 ≡ every meets ls
+pub outside-none : (cs : List ℕ) (ls : List Limit) → length cs ≡ length ls → All (λ k. 1 ≤ k) cs → eqb (outsideColumn cs ls) 0 ≡ every withinLimits ls
 outside-none [] [] e a = refl
 outside-none [] (l ∷ ls) e a = absurd (omega arith)
 outside-none (c ∷ cs) [] e a = absurd (omega arith)
-outside-none (c ∷ cs) (l ∷ ls) e (also p a) = go (meets l) (outside-none cs ls (omega arith) a)
+outside-none (c ∷ cs) (l ∷ ls) e (also p a) = go (withinLimits l) (outside-none cs ls (omega arith) a)
   where
-    go : (t : Bool) → eqb (outsideColumn cs ls) 0 ≡ every meets ls → eqb (cond t (outsideColumn cs ls) c) 0 ≡ (t && every meets ls)
+    go : (t : Bool) → eqb (outsideColumn cs ls) 0 ≡ every withinLimits ls → eqb (cond t (outsideColumn cs ls) c) 0 ≡ (t && every withinLimits ls)
     go true h = h
     go false h = ne-eqb c 0 (λ q. omega arith)
 

@@ -51,14 +51,17 @@ pub record Limit : Type 0 where
   pub most : ℕ
   pub value : ℕ
 
-abbrev pub meets : Limit → Bool
-meets l = within (l .least) (l .most) (l .value)
+abbrev pub limit : ℕ → ℕ → ℕ → Limit
+limit least most value = record { least = least; most = most; value = value }
+
+abbrev pub withinLimits : Limit → Bool
+withinLimits l = within (l .least) (l .most) (l .value)
 
 -- numbers at these columns: the column of the first that is outside its limits
 abbrev pub outsideColumn : List ℕ → List Limit → ℕ
 outsideColumn [] ls = 0
 outsideColumn (c ∷ cs) [] = 0
-outsideColumn (c ∷ cs) (l ∷ ls) = let later = outsideColumn cs ls in cond (meets l) later c
+outsideColumn (c ∷ cs) (l ∷ ls) = let later = outsideColumn cs ls in cond (withinLimits l) later c
 
 -- ---- part by part
 
