@@ -851,7 +851,7 @@ fn read_ordered(deck: &[u8], fs: usize) -> DeckRead
     judged(parameters, outside, selection, fs)
 }
 
-// Reads a deck. Its refusal is the lowest number that applies, at its first place.
+// Reads a deck. Its refusal is the lowest number that applies, at its first place, and there at its lowest column.
 pub fn read_deck(deck: &[u8]) -> DeckRead
     ensures { λ r. ⌜ DeckSays (now (deck .entry)) r ⌝ }
 {
