@@ -31,7 +31,7 @@ use Rattle.cards.specs.declared.Parameters.{Parameters}
 use Rattle.cards.specs.declared.Outside.{Outside}
 use Rattle.cards.specs.declared.URead.{URead}
 use Rattle.cards.specs.Limits.{shifted}
-use Rattle.cards.specs.Parameters.{noParameter, withPart, withLetter, withSecond, withParameter, noneOutside, parameterOutside, withNumbers, hasSeen, option, givenOf, Notes, NotesOutside, UListed}
+use Rattle.cards.specs.Parameters.{noParameter, withPart, withLetter, withSecond, withParameter, noneOutside, parameterOutside, withNumbers, hasSeen, option, givenOf, Notes, NotesOutside, uRead, UListed}
 
 pub letter-small : (p : Parameter) → letter p < 7
 letter-small (modeIs m) = omega arith
@@ -267,11 +267,11 @@ module _ (c : ℕ) (low : 1 ≤ c) (s : List ℕ) (st : Parameters) (o : Outside
 
     -- the last
     pub going-last : at + n ≡ length s
-        → UListed c s (words s) (record { state = withParameter st p (c + at); outside = withNumbers o p second (c + at); unread = 0 })
+        → UListed c s (words s) (uRead (withParameter st p (c + at)) (withNumbers o p second (c + at)) 0)
     going-last l =
         let m : length s ≤ at + n = omega arith in
         let k : drop (at + n) s ≡ [] = drop-of-length-le s m in
-        subst (λ (x : Read (List (Worded Parameter))). UListed c s x (record { state = withParameter st p (c + at); outside = withNumbers o p second (c + at); unread = 0 }))
+        subst (λ (x : Read (List (Worded Parameter))). UListed c s x (uRead (withParameter st p (c + at)) (withNumbers o p second (c + at)) 0))
         (sym (g .on ∙ ahead-last "," (worded parameter) takes 44 refl (g .so) (drop at s) theWord (behind ∙ ap (read theWord) k)))
         (refl, more, more-numbers)
 

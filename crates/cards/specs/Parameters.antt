@@ -103,6 +103,9 @@ pub record NotesOutside (column : ℕ) (o : Outside) (ws : List (Worded Paramete
   pub plain : o .plain ≡ outsideAmong (parameterNumbers ff) column ws
   pub variable : o .variable ≡ outsideAmong (parameterNumbers fv) column ws
 
+abbrev pub uRead : Parameters → Outside → ℕ → URead
+uRead st o unread = record { state = st; outside = o; unread = unread }
+
 -- what was read of a U card whose operand begins at this column: its parameters, or where it stopped
 abbrev pub UListed : ℕ → List ℕ → Read (List (Worded Parameter)) → URead → Type 0
 UListed column s (read ws left) r = (r .unread ≡ 0) × Notes column (r .state) ws × NotesOutside column (r .outside) ws

@@ -29,7 +29,7 @@ ghost use Rattle.lines.specs.declared.LineRead.the-variants.{Line};
 ghost use Rattle.lines.specs.Meaning.{LineSays};
 ghost use Rattle.cards.specs.Limits.{Reaches, sizePlaces, mostOf, shifted};
 ghost use Rattle.cards.specs.Selected.{nothingNoted, counted, fieldNoted, cvNoted, Keepable, keptRow, ListSays, onCard, noSelection};
-ghost use Rattle.cards.specs.Parameters.{noParameter, withPart, withParameter, noneOutside, withNumbers, UListed};
+ghost use Rattle.cards.specs.Parameters.{noParameter, withPart, withParameter, noneOutside, withNumbers, uRead, UListed};
 ghost use Rattle.cards.specs.Deck.{cardsIn, fsFirst, CardAtSays, FsSaid};
 ghost use Rattle.cards.specs.Verdict.{isComplete, uOutside, limitsOf, verdictOf, askedFor, judgedAs};
 ghost use Rattle.cards.specs.Promise.{refusedDeck, nothingAsked, InOrder, DeckSays};
@@ -465,6 +465,16 @@ struct URead {
     unread: usize,
 }
 
+fn u_read(state: Parameters, outside: Outside, unread: usize) -> URead
+    ensures { λ r. ⌜ r ≡ uRead state outside unread ⌝ }
+{
+    URead {
+        state,
+        outside,
+        unread,
+    }
+}
+
 // One or more parameters in any order with commas between. The operand begins at this column.
 fn u_card(operand: &[u8], column: usize) -> URead
     requires { ⌜ (1 ≤ column) × Reaches column (length (now operand) + 3) ⌝ }
@@ -477,11 +487,7 @@ fn u_card(operand: &[u8], column: usize) -> URead
         let next = readers::parameter(&operand[at..]);
         match next {
             ParameterRead::NoParameter { at: stop } => {
-                return URead {
-                    state,
-                    outside,
-                    unread: column + at + stop,
-                };
+                return u_read(state, outside, column + at + stop);
             }
             ParameterRead::IsParameter {
                 parameter,
@@ -494,18 +500,10 @@ fn u_card(operand: &[u8], column: usize) -> URead
             }
         }
         if at == operand.len() {
-            return URead {
-                state,
-                outside,
-                unread: 0,
-            };
+            return u_read(state, outside, 0);
         }
         if operand[at] != COMMA {
-            return URead {
-                state,
-                outside,
-                unread: column + at,
-            };
+            return u_read(state, outside, column + at);
         }
         at += 1;
     }

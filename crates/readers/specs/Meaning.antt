@@ -12,6 +12,7 @@ use Rattle.rules.specs.Words.{numberColumns}
 use Rattle.terms.specs.Meaning.{modeOf, formatOf, sizeOf, kindOf, fieldOf}
 use Rattle.terms.specs.declared.Size.the-variants.{Two, One}
 use Rattle.terms.specs.declared.Kind.{Kind}
+use Rattle.terms.specs.declared.Field.{Field}
 use Rattle.terms.specs.declared.Kind.the-variants.{Copy, Pack, Unpack}
 use Rattle.readers.specs.declared.NumberRead.{NumberRead}
 use Rattle.readers.specs.declared.NumberRead.the-variants.{IsNumber, NoNumber}
@@ -147,6 +148,9 @@ behindPlaces Unpack p = p .input ∷ p .output ∷ p .t ∷ []
 
 abbrev pub fieldPlaces : Kind → Places → List ℕ
 fieldPlaces k p = 0 ∷ behindPlaces k p
+
+abbrev pub fieldWith : Kind → ℕ → ℕ → ℕ → ℕ → Field
+fieldWith k r input output t = record { kind = k; r = r; input = input; output = output; t = t }
 
 abbrev pub ItemFrom : Reader Item → ℕ → List ℕ → ItemRead → Type 0
 ItemFrom p from s (IsField f q n) =

@@ -10,7 +10,7 @@ ghost use Rattle.rules.specs.Reader.{number as ruleNumber};
 ghost use Rattle.rules.specs.Grammar.{sizeReader, kindReader};
 ghost use Rattle.rules.specs.TextParts.{numberThen, sizeBehind, sizesBehind, fieldBehind};
 ghost use Rattle.terms.specs.Meaning.{kindOf};
-ghost use Rattle.readers.specs.Meaning.{digitValue, NumberSays, NumberFrom, firstIn, secondIn, SizeFrom, KindFrom, Sized, ParameterSays, ItemSays, ItemFrom};
+ghost use Rattle.readers.specs.Meaning.{digitValue, NumberSays, NumberFrom, firstIn, secondIn, SizeFrom, KindFrom, Sized, ParameterSays, ItemSays, fieldWith, ItemFrom};
 use terms::Field;
 use terms::Format;
 use terms::Kind;
@@ -475,6 +475,18 @@ fn kind(s: &[u8], from: usize) -> KindRead
     }
 }
 
+fn field(kind: Kind, r: usize, input: usize, output: usize, t: usize) -> Field
+    ensures { λ x. ⌜ x ≡ fieldWith kind r input output t ⌝ }
+{
+    Field {
+        kind,
+        r,
+        input,
+        output,
+        t,
+    }
+}
+
 // The middle, a comma and t, behind `r,`.
 fn field_behind(s: &[u8], from: usize, r: usize) -> ItemRead
     requires { ⌜ from ≤ length (now s) ⌝ }
@@ -498,13 +510,7 @@ fn field_behind(s: &[u8], from: usize, r: usize) -> ItemRead
             let n = number_at(s, last);
             match n {
                 NumberRead::IsNumber { value: t, used } => ItemRead::IsField {
-                    field: Field {
-                        kind,
-                        r,
-                        input,
-                        output,
-                        t,
-                    },
+                    field: field(kind, r, input, output, t),
                     places: Places {
                         input: first,
                         output: second,

@@ -1,6 +1,6 @@
 -- `cards::u_card` meets its contract: the loop's invariant is that what was noted and what the rest of the card says
 -- are what the card says, and each way out of the loop is a way in which a list ends. The measure is what is left of the card.
-use mathlib.Core.Path.{_≡_, refl, ap, sym, _∙_, subst}
+use mathlib.Core.Path.{_≡_, ap, ap₂, sym, _∙_, subst}
 use mathlib.Core.List.{List}
 use Prim.Native.Nat.{ℕ, _+_, _-_, _≤_}
 use native.Mathlib.Omega.{arith}
@@ -15,7 +15,8 @@ use Rattle.readers.specs.declared.ParameterRead.the-variants.{IsParameter, NoPa
 use Rattle.readers.specs.Meaning.{ParameterSays}
 use Rattle.cards.specs.declared.Parameters.{Parameters}
 use Rattle.cards.specs.declared.Outside.{Outside}
-use Rattle.cards.specs.Parameters.{withParameter, noneOutside, UListed}
+use Rattle.cards.specs.declared.URead.{URead}
+use Rattle.cards.specs.Parameters.{withParameter, noneOutside, withNumbers, uRead, UListed}
 use Rattle.cards.proofs.ParameterLaws.{Going, going-start, going-stop, parameter-inside, second-low, going-last, going-other, going-more}
 use Rattle.cards.proofs.u_card.Statement.{statement}
 use Rattle.cards.proofs.u_card.Tie as tie
@@ -80,18 +81,21 @@ inside c =
       second-low (s .args .column) (s .pre .0) (now (s .args .operand)) (l .state) (l .outside) (l .at) (l .inv) (g .0) (g .1 .0) (g .1 .1 .0) (is-parameter c),
     )
 
-add-t15 : tie.Need-add-t15 Inv-loop μ-loop
-add-t15 c = let k = c .before .before .before .before .before .loop .inv .inside in omega arith
+add-u-read : tie.Need-add-u-read Inv-loop μ-loop
+add-u-read c = let k = c .before .before .before .before .before .loop .inv .inside in omega arith
 
-add-t16 : tie.Need-add-t16 Inv-loop μ-loop
-add-t16 c = let l = c .before .before .before .before .before .loop in let k = l .inv .inside in let m = is-none (c .before) .0 in omega (arith, length-drop (l .at) (now (c .before .before .before .before .before .before .before .before .before .args .operand)))
+add-u-read-2 : tie.Need-add-u-read-2 Inv-loop μ-loop
+add-u-read-2 c = let l = c .before .before .before .before .before .loop in let k = l .inv .inside in let m = is-none (c .before) .0 in omega (arith, length-drop (l .at) (now (c .before .before .before .before .before .before .before .before .before .args .operand)))
+
+u-read-requires : tie.Need-u-read-requires Inv-loop μ-loop
+u-read-requires c κs = tt
 
 returns : tie.Need-returns Inv-loop μ-loop
 returns c =
-    let n = c .before in
+    let n = c .before .before in
     let l = n .before .before .before .before .loop in
     let s = n .before .before .before .before .before .before .before .before in
-    going-stop (s .args .column) (s .pre .0) (now (s .args .operand)) (l .state) (l .outside) (l .at) (l .inv) _ (n .next .given .0 .0) (is-none n) refl
+    going-stop (s .args .column) (s .pre .0) (now (s .args .operand)) (l .state) (l .outside) (l .at) (l .inv) _ (n .next .given .0 .0) (is-none n) (ap (λ (r : URead). r .unread) (c .u-read .ensures))
 
 enum-known-next-2 : tie.Need-enum-known-next-2 Inv-loop μ-loop
 enum-known-next-2 c = search needs
@@ -111,31 +115,38 @@ with-numbers-requires c κs = let h = inside (c .before .before) in let k = c .b
 add-at : tie.Need-add-at Inv-loop μ-loop
 add-at c = let h = inside (c .before .before .before) in omega arith
 
+u-read-requires-2 : tie.Need-u-read-requires-2 Inv-loop μ-loop
+u-read-requires-2 c κs = tt
+
 returns-2 : tie.Need-returns-2 Inv-loop μ-loop
 returns-2 c =
-    let n = c .before .before .before .before in
+    let n = c .before .before .before .before .before in
     let l = n .before .before .before .before .loop in
     let s = n .before .before .before .before .before .before .before .before in
     let g = n .next2 .given .0 in
-    subst (λ (x : Parameters). UListed (s .args .column) (now (s .args .operand)) (listOf "," (worded parameter) (now (s .args .operand))) (record { state = x; outside = c .before .with-numbers .result; unread = 0 })) (sym (c .before .before .with-parameter .ensures))
-    (subst (λ (x : Outside). UListed (s .args .column) (now (s .args .operand)) (listOf "," (worded parameter) (now (s .args .operand))) (record { state = withParameter (l .state) (g .0) (s .args .column + l .at); outside = x; unread = 0 })) (sym (c .before .with-numbers .ensures))
-    (going-last (s .args .column) (s .pre .0) (now (s .args .operand)) (l .state) (l .outside) (l .at) (l .inv) (g .0) (g .1 .0) (g .1 .1 .0) (is-parameter n) (c .if1 .taken)))
+    let made : c .u-read2 .result ≡ uRead (withParameter (l .state) (g .0) (s .args .column + l .at)) (withNumbers (l .outside) (g .0) (g .1 .0) (s .args .column + l .at)) 0
+    = c .u-read2 .ensures ∙ ap₂ (λ (x : Parameters) (y : Outside). uRead x y 0) (c .before .before .before .with-parameter .ensures) (c .before .before .with-numbers .ensures) in
+    subst (UListed (s .args .column) (now (s .args .operand)) (listOf "," (worded parameter) (now (s .args .operand)))) (sym made)
+    (going-last (s .args .column) (s .pre .0) (now (s .args .operand)) (l .state) (l .outside) (l .at) (l .inv) (g .0) (g .1 .0) (g .1 .1 .0) (is-parameter n) (c .before .if1 .taken))
 
 shared-slice-read-if2 : tie.Need-shared-slice-read-if2 Inv-loop μ-loop
 shared-slice-read-if2 c = let h = inside (c .before .before .before .before .before) in let k = c .before .if1 .left in omega arith
 
-add-t21 : tie.Need-add-t21 Inv-loop μ-loop
-add-t21 c = let h = inside (c .before .before .before .before .before .before) in omega arith
+add-u-read-3 : tie.Need-add-u-read-3 Inv-loop μ-loop
+add-u-read-3 c = let h = inside (c .before .before .before .before .before .before) in omega arith
+
+u-read-requires-3 : tie.Need-u-read-requires-3 Inv-loop μ-loop
+u-read-requires-3 c κs = tt
 
 returns-3 : tie.Need-returns-3 Inv-loop μ-loop
 returns-3 c =
-    let n = c .before .before .before .before .before .before in
+    let n = c .before .before .before .before .before .before .before in
     let l = n .before .before .before .before .loop in
     let s = n .before .before .before .before .before .before .before .before in
     let g = n .next2 .given .0 in
     let h = inside n in
-    let k = c .before .before .if1 .left in
-    going-other (s .args .column) (s .pre .0) (now (s .args .operand)) (l .state) (l .outside) (l .at) (l .inv) (g .0) (g .1 .0) (g .1 .1 .0) (is-parameter n) _ (omega arith) (c .if2 .taken) refl
+    let k = c .before .before .before .if1 .left in
+    going-other (s .args .column) (s .pre .0) (now (s .args .operand)) (l .state) (l .outside) (l .at) (l .inv) (g .0) (g .1 .0) (g .1 .1 .0) (is-parameter n) _ (omega arith) (c .before .if2 .taken) (ap (λ (r : URead). r .unread) (c .u-read3 .ensures))
 
 add-at-2 : tie.Need-add-at-2 Inv-loop μ-loop
 add-at-2 c = let h = inside (c .before .before .before .before .before .before) in omega arith
@@ -169,8 +180,9 @@ u-card-spec =
     part-parameter-end
     parameter-requires
     enum-known-next
-    add-t15
-    add-t16
+    add-u-read
+    add-u-read-2
+    u-read-requires
     returns
     enum-known-next-2
     add-with-parameter
@@ -178,9 +190,11 @@ u-card-spec =
     add-with-numbers
     with-numbers-requires
     add-at
+    u-read-requires-2
     returns-2
     shared-slice-read-if2
-    add-t21
+    add-u-read-3
+    u-read-requires-3
     returns-3
     add-at-2
     loop-less

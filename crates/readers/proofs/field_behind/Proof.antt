@@ -7,9 +7,12 @@ use lib.ListN.{getD}
 use native.Mathlib.Omega.{arith}
 use Rattle.rules.specs.Reader.{number}
 use Rattle.rules.specs.Grammar.{kindReader}
+use Rattle.rules.specs.TextParts.{fieldBehind}
 use Rattle.rules.proofs.ChoiceLaws.{byte-inside}
-use Rattle.readers.specs.Meaning.{NumberFrom, KindFrom}
+use Rattle.readers.specs.Meaning.{NumberFrom, KindFrom, ItemFrom}
+use Rattle.terms.specs.declared.Field.{Field}
 use Rattle.readers.specs.declared.KindRead.the-variants.{IsKind}
+use Rattle.readers.specs.declared.ItemRead.the-variants.{IsField}
 use Rattle.readers.proofs.Items.{middle-stops, comma-missing, last-stops, field-read, field-placed}
 use Rattle.readers.proofs.field_behind.Statement.{statement}
 use Rattle.readers.proofs.field_behind.Tie as tie
@@ -53,6 +56,9 @@ number-at-requires c κs =
 enum-known-n : tie.Need-enum-known-n
 enum-known-n c = search needs
 
+field-requires : tie.Need-field-requires
+field-requires c κs = tt
+
 enum-known-n-2 : tie.Need-enum-known-n-2
 enum-known-n-2 c = search needs
 
@@ -61,13 +67,17 @@ enum-known-middle-2 c = search needs
 
 returns-2 : tie.Need-returns-2
 returns-2 c =
-    let a = c .before .before .before .before .before .before .before .before .before .before .before .args in
+    let b = c .before in
+    let a = b .before .before .before .before .before .before .before .before .before .before .before .args in
     let s = now (a .s) in
-    let m = c .before .before .before .before .before .before .before in
+    let m = b .before .before .before .before .before .before .before in
+    let g = m .middle .given .0 in
+    let end = g .1 .1 .1 .1 .1 .0 in
     let h = middle m in
-    let e = comma (c .before .before .before .before) in
-    let r = subst (NumberFrom number (m .middle .given .0 .1 .1 .1 .1 .1 .0 + 1) s) (c .before .n .given .1) (c .before .before .before .number-at .ensures) in
-    let q = field-placed s (a .from) (m .middle .given .0 .0) _ _ _ (h .2) (h .4) e _ _ r in
+    let e = comma (b .before .before .before .before) in
+    let r = subst (NumberFrom number (end + 1) s) (b .before .n .given .1) (b .before .before .before .number-at .ensures) in
+    let q = field-placed s (a .from) (g .0) _ _ _ (h .2) (h .4) e _ _ r in
+    subst (λ (f : Field). ItemFrom (fieldBehind (a .r)) (a .from) s (IsField f (record { input = g .1 .1 .1 .0; output = g .1 .1 .1 .1 .0; t = end + 1 }) (b .before .n .given .0 .1 .0))) (sym (c .field .ensures))
     (field-read (a .r) s (a .from) _ _ _ _ (h .0) e _ _ r, h .1, q .0, h .3, q .1)
 
 returns-3 : tie.Need-returns-3
@@ -95,6 +105,7 @@ field-behind-spec =
     add-last
     number-at-requires
     enum-known-n
+    field-requires
     enum-known-n-2
     enum-known-middle-2
     returns-2
