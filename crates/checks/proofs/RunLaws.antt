@@ -14,7 +14,7 @@ use Rattle.rules.specs.Places.{All, noMore, also, Byte}
 use Rattle.rules.specs.Grammar.{tc}
 use Rattle.rules.specs.Reel.{isReel, blocksOf, reelOf}
 use Rattle.rules.specs.Plan.{Plan, selects, isTC}
-use Rattle.rules.specs.Blocks.{recordsFrom, takenFrom}
+use Rattle.rules.specs.Blocks.{takenFrom}
 use Rattle.rules.specs.Output.{permits, blockOf}
 use Rattle.rules.specs.Run.{Ran as RuleRan, outBlocks, ranOf, housed, convert, outputBlocks}
 use Rattle.rules.specs.RunRows.{Holds}
@@ -23,6 +23,7 @@ use Rattle.rules.specs.Lent.{runAnswer}
 use Rattle.rules.proofs.AnswerLaws.{fine-each}
 use Rattle.rules.proofs.ReelLaws.{blocks-reel, all-blocks}
 use Rattle.rules.proofs.BlocksOutcome.{holds-of}
+use Rattle.rules.proofs.RunParts.{bad-block}
 use Rattle.rules.proofs.Never.{all-of, permits-other, holds-taken, all-fit}
 use Rattle.rules.proofs.CopyLaws.{blocks-back, copy-blocks}
 use Rattle.reels.specs.declared.ReelRead.{ReelRead}
@@ -49,11 +50,6 @@ module _ (room : ℕ) (p : Plan) (s : List ℕ) where
   pub not-reel : isReel s ≡ false → convert room p s ≡ refused 11 0
   unfolding convert outBlocks unless _>>_ _>>=_
   not-reel e = rw e refl
-
-  -- 12
-  pub bad-block : (i : ℕ) → isReel s ≡ true → recordsFrom p 1 (blocksOf s) ≡ refused 12 i → convert room p s ≡ refused 12 i
-  unfolding convert outBlocks unless _>>_ _>>=_
-  bad-block i e b = rw (e, b) refl
 
   module _ (recs : List (List (List ℕ))) (g : Good p s recs) where
     abbrev asked : Answer Unit → Answer Unit → Answer RuleRan

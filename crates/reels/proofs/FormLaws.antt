@@ -1,10 +1,10 @@
 -- Plans that ask the same of blocks read every block and every reel alike: the rules look at the format, A's numbers and the least data, and these are the same.
-use mathlib.Core.Path.{_≡_, refl, ap₂, sym, _∙_}
+use mathlib.Core.Path.{_≡_, refl, ap, ap₂, sym, _∙_}
 use mathlib.Core.Bool.{Bool, true, false, cond}
-use mathlib.Core.List.{List, [], _∷_}
+use mathlib.Core.List.{List}
 use mathlib.Core.Option.{Option, none, some}
-use Prim.Native.Nat.{ℕ, suc}
-use Rattle.rules.specs.Base.{isEmpty}
+use Prim.Native.Nat.{ℕ}
+use Rattle.rules.specs.Answer.{eachRead}
 use Rattle.rules.specs.Grammar.{tf, tr}
 use Rattle.rules.specs.Plan.{Plan, selects, recordLength}
 use Rattle.rules.specs.Blocks.{Piece, piecesIn, leastData, meets, recordsOf, recordsIn, recordsFrom}
@@ -35,21 +35,20 @@ module _ {form : Form} {p q : Plan} (h : FormIs form p) (k : FormIs form q) wher
   unfolding leastData
   least-alike = ap₂ (λ (t : Bool) (n : ℕ). cond t n 1) (sym (h .selects) ∙ k .selects) (sym (h .n) ∙ k .n)
 
-  meets-alike : (last : Bool) (b : List ℕ) (xs : List Piece) → meets p last b xs ≡ meets q last b xs
+  meets-alike : (b : List ℕ) (xs : List Piece) → meets p b xs ≡ meets q b xs
   unfolding meets
-  meets-alike last b xs = rw (least-alike, sym (h .format) ∙ k .format, sym (h .m) ∙ k .m)
+  meets-alike b xs = rw (least-alike, sym (h .m) ∙ k .m)
 
-  pieces-alike : (last : Bool) (b : List ℕ) (o : Option (List Piece)) → recordsOf p last b o ≡ recordsOf q last b o
-  pieces-alike last b none = refl
-  pieces-alike last b (some xs) = rw (meets-alike last b xs)
+  pieces-alike : (b : List ℕ) (o : Option (List Piece)) → recordsOf p b o ≡ recordsOf q b o
+  pieces-alike b none = refl
+  pieces-alike b (some xs) = rw (meets-alike b xs)
 
-  pub block-alike : (last : Bool) (b : List ℕ) → recordsIn p last b ≡ recordsIn q last b
+  pub block-alike : (b : List ℕ) → recordsIn p b ≡ recordsIn q b
   unfolding recordsIn
-  block-alike last b = pieces-alike last b (piecesIn (p .format) (recordLength (p .input)) b) ∙ ap₂ (λ f n. recordsOf q last b (piecesIn f n b)) (sym (h .format) ∙ k .format) (sym (h .n) ∙ k .n)
+  block-alike b = pieces-alike b (piecesIn (p .format) (recordLength (p .input)) b) ∙ ap₂ (λ f n. recordsOf q b (piecesIn f n b)) (sym (h .format) ∙ k .format) (sym (h .n) ∙ k .n)
 
   pub blocks-alike : (i : ℕ) (bs : List (List ℕ)) → recordsFrom p i bs ≡ recordsFrom q i bs
-  blocks-alike i [] = refl
-  blocks-alike i (b ∷ bs) = rw (block-alike (isEmpty bs) b, blocks-alike (suc i) bs)
+  blocks-alike i bs = ap (λ (reads : List ℕ → Option (List (List ℕ))). eachRead 12 reads i bs) (λ k b. block-alike b k)
 
   pub reel-alike : (s : List ℕ) → reelRead p s ≡ reelRead q s
   unfolding reelRead

@@ -1,6 +1,5 @@
 -- Two outcomes that a promise allows for one input are equal, for each function that other crates call: each promise says what the outcome is.
 use mathlib.Core.Path.{_≡_, sym, _∙_}
-use mathlib.Core.Bool.{Bool}
 use mathlib.Core.List.{List}
 use Prim.Native.Nat.{ℕ}
 use Rattle.rules.specs.Reel.{word}
@@ -35,8 +34,8 @@ only-one-start form b r r′ = only-one
 pub only-one-piece : (form : Form) (b : List ℕ) (i : ℕ) (r r′ : PieceRead) → r ≡ pieceOf form b i → r′ ≡ pieceOf form b i → r ≡ r′
 only-one-piece form b i r r′ = only-one
 
-pub only-one-rule : (form : Form) (last : Bool) (b : List ℕ) (r r′ : BlockRead) → Judged form last b r → Judged form last b r′ → r ≡ r′
-only-one-rule form last b r r′ j j′ = only-one (j .is) (j′ .is)
+pub only-one-rule : (form : Form) (b : List ℕ) (r r′ : BlockRead) → Judged form b r → Judged form b r′ → r ≡ r′
+only-one-rule form b r r′ j j′ = only-one (j .is) (j′ .is)
 
 pub only-one-read-reel : (form : Form) (s : List ℕ) (r r′ : ReelRead) → ReadAs form s r → ReadAs form s r′ → r ≡ r′
 only-one-read-reel form s r r′ w w′ = answer-once r r′ (only-one (w .is) (w′ .is))

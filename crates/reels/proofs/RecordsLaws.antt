@@ -1,6 +1,6 @@
 -- The records of a block counted piece by piece, and the records of a reel block by block: each turn of the walk leaves the answer of the rules as it is.
 use mathlib.Core.Path.{_≡_, refl, ap, sym, _∙_, subst}
-use mathlib.Core.Bool.{Bool, true, false, cond, _&&_, _||_}
+use mathlib.Core.Bool.{Bool, true, false, cond}
 use mathlib.Core.List.{List, [], _∷_, map}
 use mathlib.Core.Option.{Option, none, some}
 use Prim.Native.Nat.{ℕ, suc, _+_, _-_, _≤_, _<_}
@@ -8,16 +8,14 @@ use native.Mathlib.Omega.{arith}
 use lib.Dec.{leb, eqb}
 use lib.ListN.{length, length-map}
 use borrow.Author.Tests.{le-leb, lt-leb, eq-eqb, ne-eqb}
-use Rattle.rules.specs.Base.{_⇒_, every}
-use Rattle.rules.specs.Plan.{Plan, isFF, blockLength}
+use Rattle.rules.specs.Base.{every}
+use Rattle.rules.specs.Plan.{Plan, blockLength}
 use Rattle.rules.specs.Blocks.{Piece, withPiece, piecesIn, leastData, meets, dataOf, recordsOf, recordsIn}
 use Rattle.rules.specs.ReelPlaces.{piecesAt}
-use Rattle.rules.proofs.Tests.{and-both, asks}
 use Rattle.terms.specs.Meaning.{formatOf}
-use Rattle.terms.specs.declared.Format.the-variants.{FF}
 use Rattle.reels.specs.Form.{planBy}
 use Rattle.reels.specs.Pieces.{startOf, pieceOf}
-use Rattle.reels.specs.Records.{sizedOf, countFrom, Counted, blockRead, Judged}
+use Rattle.reels.specs.Records.{countFrom, Counted, blockRead, Judged}
 use Rattle.reels.specs.declared.Form.{Form}
 use Rattle.reels.specs.declared.Cursor.{Cursor}
 use Rattle.reels.specs.declared.StartRead.the-variants.{From, NoStart}
@@ -90,36 +88,14 @@ module _ {form : Form} {b : List ℕ} {from at count : ℕ} (w : Counting form b
         let q : count + 0 ≡ count = omega arith in
         record { is = sym (counting-read End e ∙ rw (q, ne-eqb count 0 z)); most = w .most }
 
--- ---- the sizes of a block
-
-module _ (form : Form) (last : Bool) (size : ℕ) where
-  pub size-over : form .m < size → false ≡ sizedOf form last size
-  unfolding sizedOf
-  size-over l = rw (lt-leb size (form .m) l)
-
-  pub size-last : size ≤ form .m → last ≡ true → true ≡ sizedOf form last size
-  unfolding sizedOf
-  size-last l e = sym (and-both (le-leb size (form .m) l) (asks (isFF (formatOf (form .format))) (last || eqb size (form .m)) (λ x. rw e)))
-
-  pub size-fixed : size ≤ form .m → last ≡ false → form .format ≡ FF → eqb size (form .m) ≡ sizedOf form last size
-  unfolding sizedOf
-  size-fixed l e g = rw (le-leb size (form .m) l, e, g)
-
-  pub size-other : size ≤ form .m → isFF (formatOf (form .format)) ≡ false → true ≡ sizedOf form last size
-  unfolding sizedOf
-  size-other l e = rw (le-leb size (form .m) l, e)
-
 -- ---- a block is read as the rules read it
 
 -- the tests of a block itself, and of its pieces, are those of the rules
-count-meets : (p : Plan) (last : Bool) (b : List ℕ) (o : Option (List Piece))
-    → blockRead (recordsOf p last b o)
-    ≡ cond (leb (length b) (blockLength (p .input)) && (isFF (p .format) ⇒ (last || eqb (length b) (blockLength (p .input))))) (countFrom (leastData p) 0 o) Breaks
+count-meets : (p : Plan) (b : List ℕ) (o : Option (List Piece)) → blockRead (recordsOf p b o) ≡ cond (leb (length b) (blockLength (p .input))) (countFrom (leastData p) 0 o) Breaks
 unfolding meets
-count-meets p last b o = go (leb (length b) (blockLength (p .input)) && (isFF (p .format) ⇒ (last || eqb (length b) (blockLength (p .input))))) refl o
+count-meets p b o = go (leb (length b) (blockLength (p .input))) refl o
   where
-    go : (t : Bool) → (leb (length b) (blockLength (p .input)) && (isFF (p .format) ⇒ (last || eqb (length b) (blockLength (p .input))))) ≡ t → (o : Option (List Piece))
-        → blockRead (recordsOf p last b o) ≡ cond t (countFrom (leastData p) 0 o) Breaks
+    go : (t : Bool) → leb (length b) (blockLength (p .input)) ≡ t → (o : Option (List Piece)) → blockRead (recordsOf p b o) ≡ cond t (countFrom (leastData p) 0 o) Breaks
     go true t none = refl
     go false t none = refl
     go false t (some xs) = rw t
@@ -131,17 +107,17 @@ count-meets p last b o = go (leb (length b) (blockLength (p .input)) && (isFF (p
         each true = let z : 0 + suc (length xs) ≡ suc (length xs) = omega arith in rw (z, ne-eqb (suc (length xs)) 0 (λ q. omega arith)) (ap Records (ap suc (length-map xs (dataOf b))))
 
 -- of a block that is not empty, as none of a reel is
-module _ (form : Form) (last : Bool) (b : List ℕ) (full : 1 ≤ length b) where
-  count-is : blockRead (recordsIn (planBy form) last b)
-      ≡ cond (sizedOf form last (length b)) (countFrom (leastData (planBy form)) 0 (begun (formatOf (form .format)) (form .n) b (startOf form b))) Breaks
-  unfolding recordsIn sizedOf planBy
-  count-is = count-meets (planBy form) last b (piecesIn (formatOf (form .format)) (form .n) b) ∙ rw (pieces-begun (formatOf (form .format)) (form .n) b full)
+module _ (form : Form) (b : List ℕ) (full : 1 ≤ length b) where
+  count-is : blockRead (recordsIn (planBy form) b)
+      ≡ cond (leb (length b) (form .m)) (countFrom (leastData (planBy form)) 0 (begun (formatOf (form .format)) (form .n) b (startOf form b))) Breaks
+  unfolding recordsIn planBy
+  count-is = count-meets (planBy form) b (piecesIn (formatOf (form .format)) (form .n) b) ∙ rw (pieces-begun (formatOf (form .format)) (form .n) b full)
 
-  pub judged-counted : (c : Cursor) (r : BlockRead) → sizedOf form last (length b) ≡ true → startOf form b ≡ From c → Counted form b (c .at) r → Judged form last b r
-  judged-counted c r e s w = record { is = w .is ∙ sym (count-is ∙ rw (e, s)); most = w .most }
+  pub judged-long : form .m < length b → Judged form b Breaks
+  judged-long l = record { is = sym (count-is ∙ rw (lt-leb (length b) (form .m) l)); most = omega arith }
 
-  pub judged-no-start : sizedOf form last (length b) ≡ true → startOf form b ≡ NoStart → Judged form last b Breaks
-  judged-no-start e s = record { is = sym (count-is ∙ rw (e, s)); most = omega arith }
+  pub judged-counted : (c : Cursor) (r : BlockRead) → length b ≤ form .m → startOf form b ≡ From c → Counted form b (c .at) r → Judged form b r
+  judged-counted c r l s w = record { is = w .is ∙ sym (count-is ∙ rw (le-leb (length b) (form .m) l, s)); most = w .most }
 
-  pub judged-size : sizedOf form last (length b) ≡ false → Judged form last b Breaks
-  judged-size e = record { is = sym (count-is ∙ rw e); most = omega arith }
+  pub judged-no-start : length b ≤ form .m → startOf form b ≡ NoStart → Judged form b Breaks
+  judged-no-start l s = record { is = sym (count-is ∙ rw (le-leb (length b) (form .m) l, s)); most = omega arith }

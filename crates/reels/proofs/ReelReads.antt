@@ -1,20 +1,19 @@
 -- The records of a reel counted block by block: each turn of the walk leaves the answer of the rules as it is, and counts no more records than bytes.
 use mathlib.Core.Path.{_≡_, refl, ap, ap₂, sym, _∙_, subst}
-use mathlib.Core.Bool.{Bool, true}
+use mathlib.Core.Bool.{true}
 use mathlib.Core.List.{List, [], _∷_, _++_}
 use mathlib.Core.Option.{Option, none, some}
 use Prim.Native.Nat.{ℕ, suc, _+_, _-_, _≤_, _<_}
 use native.Mathlib.Omega.{arith}
 use native.Mathlib.Numerals.{add-one}
-use lib.Dec.{eqb}
 use lib.ListN.{length, drop, length-append}
-use Rattle.rules.specs.Base.{isEmpty, joined}
+use Rattle.rules.specs.Base.{joined}
 use Rattle.rules.specs.Answer.{Answer, fine, refuse, refused, _>>=_, _>>_, unless}
 use Rattle.rules.specs.Reel.{blockCount, isReel, blocksOf}
 use Rattle.rules.specs.Plan.{Plan}
 use Rattle.rules.specs.Blocks.{recordsIn, recordsFrom}
 use Rattle.rules.specs.ReelPlaces.{offsetAt}
-use Rattle.rules.proofs.ReelSteps.{offset-most, offset-rises, blocks-end, block-last, length-block}
+use Rattle.rules.proofs.ReelSteps.{offset-most, offset-rises, blocks-end, length-block}
 use Rattle.rules.proofs.TakenLaws.{after, after-none, blocks-good, blocks-bad}
 use Rattle.reels.specs.Form.{planBy}
 use Rattle.reels.specs.Header.{headerOf, partAt}
@@ -102,15 +101,9 @@ module _ {form : Form} {s : List ℕ} {blocks records i : ℕ} (w : Reading form
     here : i < blockCount s
     here = let c = w .count in omega arith
 
-    -- block i, and whether it is the last
+    -- block i
     left : recordsFrom p (suc i) (drop i (blocksOf s)) ≡ recordsFrom p (suc i) (partAt s i ∷ drop (suc i) (blocksOf s))
     left = ap (recordsFrom p (suc i)) (part-step s i (w .reel) here)
-
-    last-is : eqb (i + 1) blocks ≡ isEmpty (drop (suc i) (blocksOf s))
-    last-is = ap₂ eqb (add-one i) (sym (w .count)) ∙ sym (block-last s (w .reel) i here)
-
-    judged-here : recordsIn p (eqb (i + 1) blocks) (partAt s i) ≡ recordsIn p (isEmpty (drop (suc i) (blocksOf s))) (partAt s i)
-    judged-here = ap (λ (t : Bool). recordsIn p t (partAt s i)) last-is
 
     part-length : length (partAt s i) ≡ offsetAt s (suc i) - offsetAt s i
     part-length = ap length (part-block s i (w .reel) here) ∙ length-block s (w .reel) i here
@@ -120,30 +113,30 @@ module _ {form : Form} {s : List ℕ} {blocks records i : ℕ} (w : Reading form
     part-full = omega (arith, part-length, offset-rises s (w .reel) i here)
 
     -- its records are counted
-    pub reading-step : (k : ℕ) → Judged form (eqb (i + 1) blocks) (partAt s i) (Records k) → Reading form s blocks (records + k) (i + 1)
+    pub reading-step : (k : ℕ) → Judged form (partAt s i) (Records k) → Reading form s blocks (records + k) (i + 1)
     reading-step k j =
         record {
           reel = w .reel;
           count = w .count;
           inside = omega arith;
           few = subst (λ (n : ℕ). records + k ≤ offsetAt s n) (sym (add-one i)) (omega (arith, w .few, j .most, part-length, offset-rises s (w .reel) i here));
-          same = step (block-some (recordsIn p (eqb (i + 1) blocks) (partAt s i)) k (j .is));
+          same = step (block-some (recordsIn p (partAt s i)) k (j .is));
         }
       where
-        step : (rs : List (List ℕ)) × (recordsIn p (eqb (i + 1) blocks) (partAt s i) ≡ some rs) × (k ≡ length rs)
+        step : (rs : List (List ℕ)) × (recordsIn p (partAt s i) ≡ some rs) × (k ≡ length rs)
             → reelRead p s ≡ countedFrom (i + 1) (records + k) (recordsFrom p (suc (i + 1)) (drop (i + 1) (blocksOf s)))
         step (rs, e, n) =
             let bs = drop (suc i) (blocksOf s) in
             w .same
-            ∙ ap (countedFrom i records) (left ∙ sym (after-none (recordsFrom p (suc i) (partAt s i ∷ bs))) ∙ blocks-good p [] (suc i) (partAt s i) bs rs (sym judged-here ∙ e))
+            ∙ ap (countedFrom i records) (left ∙ sym (after-none (recordsFrom p (suc i) (partAt s i ∷ bs))) ∙ blocks-good p [] (suc i) (partAt s i) bs rs e)
             ∙ read-more i records rs (recordsFrom p (suc (suc i)) bs)
             ∙ ap₂ (λ (m x : ℕ). countedFrom (i + 1) (records + m) (recordsFrom p (suc x) (drop x (blocksOf s)))) (sym n) (sym (add-one i))
 
     -- it breaks its rule
-    pub reading-bad : Judged form (eqb (i + 1) blocks) (partAt s i) Breaks → ReadAs form s (BadBlock (i + 1))
+    pub reading-bad : Judged form (partAt s i) Breaks → ReadAs form s (BadBlock (i + 1))
     reading-bad j =
         let bs = drop (suc i) (blocksOf s) in
-        let bad = blocks-bad p [] (suc i) (partAt s i) bs (sym judged-here ∙ block-none (recordsIn p (eqb (i + 1) blocks) (partAt s i)) (j .is)) in
+        let bad = blocks-bad p [] (suc i) (partAt s i) bs (block-none (recordsIn p (partAt s i)) (j .is)) in
         record {
           is = sym (w .same ∙ ap (countedFrom i records) (left ∙ sym (after-none (recordsFrom p (suc i) (partAt s i ∷ bs))) ∙ bad)
               ∙ read-refused i records (suc i) ∙ ap (λ (n : ℕ). refused 12 n) (sym (add-one i)));

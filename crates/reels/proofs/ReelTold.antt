@@ -4,9 +4,8 @@ use mathlib.Core.Path.{_≡_, refl, ap, ap₂, sym, _∙_, subst}
 use mathlib.Core.Bool.{Bool, true, false, cond, _&&_}
 use mathlib.Core.List.{List, [], _∷_}
 use mathlib.Core.Option.{some, Option·none-ne-some}
-use Prim.Native.Nat.{ℕ, _+_, _≤_, _<_}
+use Prim.Native.Nat.{ℕ, _≤_, _<_}
 use native.Mathlib.Omega.{arith}
-use native.Mathlib.Numerals.{add-one}
 use lib.Dec.{ltb, leb, eqb}
 use lib.ListN.{length, take, drop, getD}
 use borrow.Author.Tests.{leb-true, leb-false}
@@ -22,7 +21,6 @@ use Rattle.rules.proofs.Tests.{and-left, and-right}
 use Rattle.rules.proofs.BlockSteps.{good-inside}
 use Rattle.rules.proofs.RecordSteps.{fixed-pos, records-next, records-done, sizeOf, opens, records-start}
 use Rattle.rules.proofs.ReelLaws.{length-blocks}
-use Rattle.rules.proofs.ReelSteps.{block-last}
 use Rattle.rules.proofs.PieceLaws.{refused-block, read-at}
 use Rattle.reels.specs.Form.{FormIs}
 use Rattle.reels.specs.Header.{partAt}
@@ -79,10 +77,8 @@ tells form p h s r w = go (isReel s) refl (recordsFrom p 1 (blocksOf s)) refl
 
 -- block i is read as its records
 pub part-read : (p : Plan) (s : List ℕ) (bs : List (List (List ℕ))) → isReel s ≡ true → recordsFrom p 1 (blocksOf s) ≡ fine bs → (i : ℕ) → i < blockCount s
-    → recordsIn p (eqb (i + 1) (blockCount s)) (partAt s i) ≡ some (getD bs i [])
-part-read p s bs t e i l =
-    ap₂ (recordsIn p) (ap (λ (n : ℕ). eqb n (blockCount s)) (add-one i) ∙ sym (block-last s t i l)) (part-block s i t l)
-    ∙ read-at p 1 (blocksOf s) bs e i (omega (arith, length-blocks s t))
+    → recordsIn p (partAt s i) ≡ some (getD bs i [])
+part-read p s bs t e i l = ap (recordsIn p) (part-block s i t l) ∙ read-at p 1 (blocksOf s) bs e i (omega (arith, length-blocks s t))
 
 -- ---- a block that is read as some records
 
@@ -98,14 +94,14 @@ GoesOn p b rs End = rs ≡ []
 GoesOn p b rs Bad = ⊥
 
 module _ (form : Form) (p : Plan) (h : FormIs form p) (w : Accepted p) (b : List ℕ) (rs : List (List ℕ)) where
-  pub starts : (last : Bool) → recordsIn p last b ≡ some rs → Starts p b rs (startOf form b)
-  starts last e = go (opens p last b) refl
+  pub starts : recordsIn p b ≡ some rs → Starts p b rs (startOf form b)
+  starts e = go (opens p b) refl
     where
-      go : (t : Bool) → opens p last b ≡ t → Starts p b rs (startOf form b)
-      go false t = absurd (Option·none-ne-some rs (rw t at (sym (records-start p w last b) ∙ e)))
+      go : (t : Bool) → opens p b ≡ t → Starts p b rs (startOf form b)
+      go false t = absurd (Option·none-ne-some rs (rw t at (sym (records-start p w b) ∙ e)))
       go true t =
-          let g = and-right (ltb (cost (p .format)) (length b)) (goodStart (p .format) b) (and-left (ltb (cost (p .format)) (length b) && goodStart (p .format) b) (sizeOf p last b) t) in
-          let x : recordsAt p b (cost (p .format)) ≡ some rs = rw t at (sym (records-start p w last b) ∙ e) in
+          let g = and-right (ltb (cost (p .format)) (length b)) (goodStart (p .format) b) (and-left (ltb (cost (p .format)) (length b) && goodStart (p .format) b) (sizeOf p b) t) in
+          let x : recordsAt p b (cost (p .format)) ≡ some rs = rw t at (sym (records-start p w b) ∙ e) in
           subst (Starts p b rs) (start-good (p .format) b g ∙ ap (λ f. startIn f b) (sym (h .format))) x
 
   pub goes-on : (i : ℕ) → recordsAt p b i ≡ some rs → GoesOn p b rs (pieceOf form b i)

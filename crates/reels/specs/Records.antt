@@ -1,15 +1,15 @@
 -- What a block, and a reel, is read as.
 use mathlib.Core.Path.{_≡_}
-use mathlib.Core.Bool.{Bool, cond, _&&_, _||_}
+use mathlib.Core.Bool.{cond}
 use mathlib.Core.List.{List}
 use mathlib.Core.Option.{Option, none, some}
 use Prim.Native.Nat.{ℕ, _+_, _≤_}
 use lib.Dec.{leb, eqb}
 use lib.ListN.{length}
-use Rattle.rules.specs.Base.{_⇒_, every, joined}
+use Rattle.rules.specs.Base.{every, joined}
 use Rattle.rules.specs.Answer.{Answer, fine, refused, _>>=_, _>>_, unless}
 use Rattle.rules.specs.Reel.{isReel, blocksOf}
-use Rattle.rules.specs.Plan.{Plan, isFF}
+use Rattle.rules.specs.Plan.{Plan}
 use Rattle.rules.specs.Blocks.{Piece, leastData, recordsIn, recordsFrom}
 use Rattle.rules.specs.ReelPlaces.{piecesAt}
 use Rattle.terms.specs.Meaning.{formatOf}
@@ -21,10 +21,6 @@ use Rattle.reels.specs.declared.ReelRead.{ReelRead}
 use Rattle.reels.specs.declared.ReelRead.the-variants.{Read, NotReel, BadBlock}
 
 -- ---- a block
-
--- at most m (or g) bytes; in FF only the last block may be shorter than m
-unfoldable pub sizedOf : Form → Bool → ℕ → Bool
-sizedOf form last size = leb size (form .m) && (isFF (formatOf (form .format)) ⇒ (last || eqb size (form .m)))
 
 -- of some pieces, before which so many were counted: how many there are, if each has the least data and there is one
 abbrev pub countFrom : ℕ → ℕ → Option (List Piece) → BlockRead
@@ -46,8 +42,8 @@ blockRead none = Breaks
 blockRead (some rs) = Records (length rs)
 
 -- the answer is that of the rules; no block has more records than bytes
-pub record Judged (form : Form) (last : Bool) (b : List ℕ) (r : BlockRead) : Type 0 where
-  pub is : r ≡ blockRead (recordsIn (planBy form) last b)
+pub record Judged (form : Form) (b : List ℕ) (r : BlockRead) : Type 0 where
+  pub is : r ≡ blockRead (recordsIn (planBy form) b)
   pub most : countOf r ≤ length b
 
 -- ---- a reel

@@ -11,7 +11,7 @@ ghost use Rattle.reels.specs.Words.{written, lengthWritten};
 ghost use Rattle.reels.specs.Header.{headerOf, partAt};
 ghost use Rattle.reels.specs.Form.{planBy};
 ghost use Rattle.reels.specs.Pieces.{lengthOf, variableStart, startOf, fixedPiece, variablePiece, pieceOf};
-ghost use Rattle.reels.specs.Records.{sizedOf, Counted, Judged, ReadAs};
+ghost use Rattle.reels.specs.Records.{Counted, Judged, ReadAs};
 use terms::Format;
 
 // What a header says: a reel of so many blocks, or no reel.
@@ -264,25 +264,6 @@ pub enum ReelRead {
     BadBlock { block: usize },
 }
 
-// At most m (or g) bytes; in FF only the last block may be shorter than m.
-fn sized(form: Form, last: bool, size: usize) -> bool
-    ensures { λ r. ⌜ r ≡ sizedOf form last size ⌝ }
-{
-    let m = form.m;
-    if size > m {
-        return false;
-    }
-    if last {
-        return true;
-    }
-    let format = form.format;
-    match format {
-        Format::FF => size == m,
-        Format::FV => true,
-        Format::FU => true,
-    }
-}
-
 // The least data of a record.
 fn least_data(form: Form) -> usize
     ensures { λ r. ⌜ r ≡ leastData (planBy form) ⌝ }
@@ -321,30 +302,24 @@ fn counted(form: Form, b: &[u8], from: Cursor) -> BlockRead
                 }
                 return BlockRead::Records { count };
             }
-            PieceRead::Bad => {
-                return BlockRead::Breaks;
-            }
+            PieceRead::Bad => return BlockRead::Breaks,
         }
     }
 }
 
-// Whether a block, the last of its reel or not, obeys its rule, and how many records it has. No block of a reel is empty.
-fn rule(form: Form, last: bool, b: &[u8]) -> BlockRead
+// Whether a block obeys its rule, wherever it stands: at most m (or g) bytes, and what it holds are records; and how many it has. No block of a reel is empty.
+fn rule(form: Form, b: &[u8]) -> BlockRead
     requires { ⌜ 1 ≤ length (now b) ⌝ }
-    ensures { λ r. ⌜ Judged form last (now (b .entry)) r ⌝ }
+    ensures { λ r. ⌜ Judged form (now (b .entry)) r ⌝ }
 {
-    if sized(form, last, b.len()) {
-        let from = start(form, b);
-        match from {
-            StartRead::From { cursor } => {
-                return counted(form, b, cursor);
-            }
-            StartRead::NoStart => {
-                return BlockRead::Breaks;
-            }
-        }
+    if b.len() > form.m {
+        return BlockRead::Breaks;
     }
-    BlockRead::Breaks
+    let from = start(form, b);
+    match from {
+        StartRead::From { cursor } => counted(form, b, cursor),
+        StartRead::NoStart => BlockRead::Breaks,
+    }
 }
 
 // The blocks of a reel, one after the other, up to the first that breaks its rule.
@@ -356,7 +331,7 @@ fn read_blocks(form: Form, s: &[u8], blocks: usize) -> ReelRead
     let mut i = 0;
     while i < blocks {
         let b = block(s, i);
-        let read = rule(form, i + 1 == blocks, b);
+        let read = rule(form, b);
         match read {
             BlockRead::Records { count } => {
                 records += count;

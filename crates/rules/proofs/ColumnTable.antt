@@ -40,7 +40,7 @@ use Rattle.rules.proofs.NumberColumns.{number-on-low, u-count, outside-
 use Rattle.rules.proofs.AskedTable.{operands-same, operands-of, says-of, not-twice}
 use Rattle.rules.proofs.PlanTable.{plan-table, into-table}
 use Rattle.rules.proofs.RunTable.{run-table}
-use Rattle.rules.proofs.RunColumns.{Refuses, Plainly, refuses-bind, refuses-then, refuses-unless, refuses-each, refuses-convert}
+use Rattle.rules.proofs.RunColumns.{refuses-reads, Refuses, Plainly, refuses-bind, refuses-then, refuses-unless, refuses-each, refuses-convert}
 
 lowest-zero : Lowest (λ c. c ≡ 0) 0
 lowest-zero = (refl, λ d l e. absurd (not-suc-le-zero l))
@@ -87,14 +87,6 @@ module _ (deck : List ℕ) where
 
   -- ---- rows 1, 2 and 5
 
-  columned-lines : (i : ℕ) (ls : List (List ℕ)) → Columned (cardsFrom i ls)
-  columned-lines i [] = tt
-  columned-lines i (l ∷ ls) = go (columned-lines (suc i) ls) (cardOf l) refl
-    where
-      go : Columned (cardsFrom (suc i) ls) → (o : Option Card) → cardOf l ≡ o → Columned (cardsFrom i (l ∷ ls))
-      go h none e = rw e lowest-zero
-      go h (some c) e = rw e (columned-bind (cardsFrom (suc i) ls) (λ cs. fine (c ∷ cs)) h (λ cs f. tt))
-
   columned-cards : (i : ℕ) (cs : List Card) → Columned (fsFrom i cs)
   columned-cards i [] = lowest-zero
   columned-cards i (uCard b o ∷ cs) = lowest-zero
@@ -122,7 +114,7 @@ module _ (deck : List ℕ) where
 
   columned-operands : Columned (operandsOf deck)
   unfolding operandsOf
-  columned-operands = columned-bind (cardsFrom 1 (lines deck)) ordered (columned-lines 1 (lines deck)) (λ cs e. columned-order cs)
+  columned-operands = columned-bind (cardsFrom 1 (lines deck)) ordered (refuses-reads ColumnIs 1 cardOf 1 (lines deck) (λ p. lowest-zero)) (λ cs e. columned-order cs)
 
   columned-need : {A : Type 0} (o : Option A) → Columned (need o)
   columned-need none = lowest-zero

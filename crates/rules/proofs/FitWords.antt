@@ -6,20 +6,17 @@ use mathlib.Core.List.{List, [], _∷_, _++_}
 use Prim.Native.Nat.{ℕ, _-_, _≤_, _<_}
 use lib.ListN.{length, drop}
 use Rattle.rules.specs.Base.{joined}
-use Rattle.rules.specs.Places.{All, noMore, also, Found, here, later}
+use Rattle.rules.specs.Places.{All, noMore, also, Found}
 use Rattle.rules.specs.Grammar.{tf}
 use Rattle.rules.specs.Plan.{Plan}
 use Rattle.rules.specs.Accepted.{Accepted}
 use Rattle.rules.specs.RunRows.{Exceeds, TooLong, Overfills}
 use Rattle.rules.proofs.AllLaws.{all-head, all-left, all-right, all-append, all-drop}
 use Rattle.rules.proofs.ReelLaws.{all-joined}
+use Rattle.rules.proofs.Given.{found-with}
 use Rattle.rules.proofs.Overfull.{OutExceeds}
 use Rattle.rules.proofs.FitOutcome.{Exceeding}
 use Rattle.rules.proofs.OutputWords.{Whole, outputs-told, outputs-once}
-
-found-with : {A : Type 0} {P Q T : A → Type 0} → ((x : A) → T x → P x → Q x) → {p b : ℕ} {xs : List A} → All T xs → Found P p b xs → Found Q p b xs
-found-with f (also {x = x} t ts) (here e h) = here e (f x t h)
-found-with f (also t ts) (later h) = later (found-with f ts h)
 
 -- of every block: the records up to one of them
 overfills-with : (pl : Plan) {T : List ℕ → Type 0} {P Q : List (List ℕ) → Type 0} → ((rs : List (List ℕ)) → All T rs → P rs → Q rs)

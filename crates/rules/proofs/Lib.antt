@@ -1,4 +1,5 @@
 pub mod Cases
+pub mod ShortBlockCases
 pub mod Tests
 pub mod AllLaws
 pub mod AnswerLaws

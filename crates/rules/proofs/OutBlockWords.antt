@@ -8,14 +8,14 @@ use Prim.Native.Nat.{ℕ, suc, _+_, _-_, _≤_, _<_}
 use native.Mathlib.Omega.{arith}
 use lib.ListN.{length, drop}
 use Rattle.rules.specs.Base.{joined}
-use Rattle.rules.specs.Places.{All, noMore, also, Both, Byte}
+use Rattle.rules.specs.Places.{All, noMore, also, Both, none-left, both, Byte}
 use Rattle.rules.specs.Grammar.{Mode, tc, tf, tr, trf, Format, ff, fv, fu}
 use Rattle.rules.specs.Plan.{Plan, selects, recordLength, blockLength}
 use Rattle.rules.specs.Blocks.{takenAfter, takenFrom}
 use Rattle.rules.specs.Output.{outRecord, cost, fitsB, filled, filledB, nonEmpty, blocked}
 use Rattle.rules.specs.Run.{fitAlone, fitting, outputs, outputBlocks}
 use Rattle.rules.specs.InWords.{OutputOf, Packed, EachBlock, no-input, nothing-left, something-left, BlocksOut}
-use Rattle.rules.specs.RunRows.{RecordIs, Holds, no-block, block}
+use Rattle.rules.specs.RunRows.{RecordIs, Holds}
 use Rattle.rules.specs.Accepted.{Accepted}
 use Rattle.rules.proofs.AllLaws.{all-drop, all-imply}
 use Rattle.rules.proofs.ReelLaws.{all-joined}
@@ -40,8 +40,8 @@ module _ (p : Plan) (ok : Accepted p) where
   whole-records (also {x = r} w ws) (also b bs) = also (record { bytes = b; long = long-enough (p .format) refl r w }) (whole-records ws bs)
 
   whole-blocks : {bs : List (List ℕ)} {recs : List (List (List ℕ))} → Holds p bs recs → All (All (All Byte)) recs → All (All (Whole p)) recs
-  whole-blocks no-block noMore = noMore
-  whole-blocks (block v h) (also b bs) = also (whole-records (v .records) b) (whole-blocks h bs)
+  whole-blocks none-left noMore = noMore
+  whole-blocks (both v h) (also b bs) = also (whole-records (v .records) b) (whole-blocks h bs)
 
   pub holds-whole : {bs : List (List ℕ)} {recs : List (List (List ℕ))} → All (All Byte) bs → Holds p bs recs → All (All (Whole p)) recs
   holds-whole a h = whole-blocks h (holds-bytes p ok a h)

@@ -7,8 +7,8 @@ use mathlib.Core.Option.{Option, none, some}
 use Prim.Native.Nat.{ℕ, suc, _≤_}
 use native.Mathlib.Omega.{arith}
 use lib.ListN.{length}
-use Rattle.rules.specs.Base.{isEmpty, joined}
-use Rattle.rules.specs.Answer.{Refusal, Answer, fine, refuse, refused, _>>=_, _>>_, unless, each}
+use Rattle.rules.specs.Base.{joined}
+use Rattle.rules.specs.Answer.{Refusal, Answer, fine, refuse, refused, _>>=_, _>>_, unless, each, eachRead}
 use Rattle.rules.specs.Reel.{isReel, blocksOf}
 use Rattle.rules.specs.Plan.{Plan}
 use Rattle.rules.specs.Blocks.{recordsIn, recordsFrom, takenFrom}
@@ -49,34 +49,34 @@ module _ (P : Refusal → Type 0) where
       go true h = h
       go false h = z i
 
+  pub refuses-reads : {A B : Type 0} (m : ℕ) (reads : A → Option B) (i : ℕ) (xs : List A) → Plainly m → Refuses (eachRead m reads i xs)
+  refuses-reads m reads i [] z = tt
+  refuses-reads {A} {B} m reads i (x ∷ xs) z = go (refuses-reads m reads (suc i) xs z) (reads x) refl
+    where
+      go : Refuses (eachRead m reads (suc i) xs) → (o : Option B) → reads x ≡ o → Refuses (eachRead m reads i (x ∷ xs))
+      go h none e = rw e (z i)
+      go h (some y) e = rw e (refuses-bind (eachRead m reads (suc i) xs) (λ ys. fine (y ∷ ys)) h (λ ys f. tt))
+
   pub refuses-fine : {A : Type 0} (x : Answer A) (a : A) → x ≡ fine a → Refuses x
   refuses-fine x a e = rw e tt
 
-  refuses-records : Plainly 12 → (pl : Plan) (i : ℕ) (bs : List (List ℕ)) → Refuses (recordsFrom pl i bs)
-  refuses-records z pl i [] = tt
-  refuses-records z pl i (b ∷ bs) = go (refuses-records z pl (suc i) bs) (recordsIn pl (isEmpty bs) b) refl
-    where
-      go : Refuses (recordsFrom pl (suc i) bs) → (o : Option (List (List ℕ))) → recordsIn pl (isEmpty bs) b ≡ o → Refuses (recordsFrom pl i (b ∷ bs))
-      go h none e = rw e (z i)
-      go h (some rs) e = rw e (refuses-bind (recordsFrom pl (suc i) bs) (λ more. fine (rs ∷ more)) h (λ more f. tt))
-
   module _ (room : ℕ) (pl : Plan) (s : List ℕ) where
-    -- a run over a plan is refused with 11, 12 or 15, or by what is asked of the records
-    pub refuses-by : Plainly 11 → Plainly 12 → Plainly 15
+    -- a run over a plan is refused by what is asked of the reel, the blocks or the records, or with 15
+    pub refuses-by : Refuses (unless (isReel s) 11 0) → Refuses (recordsFrom pl 1 (blocksOf s)) → Plainly 15
         → ((recs : List (List (List ℕ))) → recordsFrom pl 1 (blocksOf s) ≡ fine recs
         → Refuses (each 13 (permits pl) (pl .first) (joined (takenFrom (pl .first) recs))) × Refuses (each 14 (λ holds. holds) (pl .first) (fitting (pl .mode) pl (outputs pl recs))))
         → Refuses (convert room pl s)
     unfolding convert outBlocks housed
-    refuses-by z11 z12 z15 k =
+    refuses-by c11 c12 z15 k =
         refuses-bind (outBlocks pl s) _
-        (refuses-then (unless (isReel s) 11 0) _ (refuses-unless _ 11 0 z11) (λ e1.
-        refuses-bind (recordsFrom pl 1 (blocksOf s)) _ (refuses-records z12 pl 1 (blocksOf s)) (λ recs e2.
+        (refuses-then (unless (isReel s) 11 0) _ c11 (λ e1.
+        refuses-bind (recordsFrom pl 1 (blocksOf s)) _ c12 (λ recs e2.
         refuses-then _ _ (k recs e2 .0) (λ e3. refuses-then _ _ (k recs e2 .1) (λ e4. tt)))))
         (λ bs e5. refuses-then _ _ (refuses-unless _ 15 (length (ranOf pl bs .reel)) z15) (λ e6. tt))
 
     pub refuses-convert : ((m : ℕ) → 11 ≤ m → Plainly m) → Refuses (convert room pl s)
     refuses-convert z =
-        refuses-by (z 11 (omega arith)) (z 12 (omega arith)) (z 15 (omega arith)) (λ recs e.
+        refuses-by (refuses-unless _ 11 0 (z 11 (omega arith))) (refuses-reads 12 (recordsIn pl) 1 (blocksOf s) (z 12 (omega arith))) (z 15 (omega arith)) (λ recs e.
         (refuses-each 13 _ (pl .first) _ (z 13 (omega arith)), refuses-each 14 _ (pl .first) _ (z 14 (omega arith))))
 
 -- a run of a plan has no column

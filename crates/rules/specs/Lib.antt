@@ -24,6 +24,7 @@ pub mod InWords
 pub mod Columns
 pub mod Rows
 pub mod RunRows
+pub mod ShortBlocks
 pub mod ColumnRows
 pub mod Taken
 pub mod Accepted

@@ -1,9 +1,8 @@
 -- The walk holds the number of a block and how many records were counted before it; each way out is a law of the reading.
 use mathlib.Core.Path.{sym, subst}
-use Prim.Native.Nat.{_+_, _-_, _≤_}
+use Prim.Native.Nat.{_-_, _≤_}
 use native.Mathlib.Omega.{arith}
 use borrow.Author.Needs.{needs}
-use lib.Dec.{eqb}
 use lib.ListN.{length}
 use denote.Ref.{now}
 use Rattle.reels.specs.Header.{partAt}
@@ -21,31 +20,26 @@ abbrev μ-loop : tie.MeasureT-loop
 
 -- what the rule says of block i
 judged-some : (c : tie.After-read Inv-loop μ-loop)
-    → Judged (c .before .before .before .before .before .before .before .args .form) (eqb (c .before .before .before .before .before .loop .i + 1) (c .before .before .before .before .before .before .before .args .blocks))
+    → Judged (c .before .before .before .before .before .before .before .args .form)
     (partAt (now (c .before .before .before .before .before .before .before .args .s)) (c .before .before .before .before .before .loop .i)) (Records (c .read .given .0 .0))
 judged-some c =
-    let a = c .before .before .before .before .before .before .before .args in
-    let last = eqb (c .before .before .before .before .before .loop .i + 1) (a .blocks) in
-    subst (λ b. Judged (a .form) last b (Records (c .read .given .0 .0))) (c .before .before .before .block .ensures)
-    (subst (λ r. Judged (a .form) last (now (c .before .before .before .block .result)) r) (c .read .given .1) (c .before .before .rule .ensures))
+    let form = c .before .before .before .before .before .before .before .args .form in
+    subst (λ b. Judged form b (Records (c .read .given .0 .0))) (c .before .before .before .block .ensures)
+    (subst (Judged form (now (c .before .before .before .block .result))) (c .read .given .1) (c .before .before .rule .ensures))
 
 judged-none : (c : tie.After-enum-told Inv-loop μ-loop)
-    → Judged (c .before .before .before .before .before .before .before .args .form) (eqb (c .before .before .before .before .before .loop .i + 1) (c .before .before .before .before .before .before .before .args .blocks))
+    → Judged (c .before .before .before .before .before .before .before .args .form)
     (partAt (now (c .before .before .before .before .before .before .before .args .s)) (c .before .before .before .before .before .loop .i)) Breaks
 judged-none c =
-    let a = c .before .before .before .before .before .before .before .args in
-    let last = eqb (c .before .before .before .before .before .loop .i + 1) (a .blocks) in
-    subst (λ b. Judged (a .form) last b Breaks) (c .before .before .before .block .ensures)
-    (subst (λ r. Judged (a .form) last (now (c .before .before .before .block .result)) r) (c .enum-told .given .1) (c .before .before .rule .ensures))
+    let form = c .before .before .before .before .before .before .before .args .form in
+    subst (λ b. Judged form b Breaks) (c .before .before .before .block .ensures)
+    (subst (Judged form (now (c .before .before .before .block .result))) (c .enum-told .given .1) (c .before .before .rule .ensures))
 
 loop-holds : tie.Need-loop-holds Inv-loop μ-loop
 loop-holds c = reading-start _ _ _ (c .before .pre)
 
 block-requires : tie.Need-block-requires Inv-loop μ-loop
 block-requires c κs = search needs
-
-add-rule : tie.Need-add-rule Inv-loop μ-loop
-add-rule c = omega arith
 
 rule-requires : tie.Need-rule-requires Inv-loop μ-loop
 rule-requires c κs = subst (λ b. 1 ≤ length b) (sym (c .block .ensures)) (part-full (c .before .before .loop .inv) (c .before .loop-test .taken))
@@ -68,8 +62,8 @@ loop-again c = reading-step (c .before .before .before .before .before .before .
 enum-told : tie.Need-enum-told Inv-loop μ-loop
 enum-told c = search needs
 
-add-t11 : tie.Need-add-t11 Inv-loop μ-loop
-add-t11 c = omega arith
+add-t10 : tie.Need-add-t10 Inv-loop μ-loop
+add-t10 c = omega arith
 
 returns : tie.Need-returns Inv-loop μ-loop
 returns c = reading-bad (c .before .before .before .before .before .loop .inv) (c .before .before .before .before .loop-test .taken) (judged-none c)
@@ -85,7 +79,6 @@ read-blocks-spec =
     μ-loop
     loop-holds
     block-requires
-    add-rule
     rule-requires
     enum-known-read
     add-records
@@ -93,6 +86,6 @@ read-blocks-spec =
     loop-less
     loop-again
     enum-told
-    add-t11
+    add-t10
     returns
     returns-2)

@@ -1,12 +1,12 @@
--- The sizes of the block, its start, and the count of its pieces.
+-- By the test of the block's length, its start, and the count of its pieces.
 use mathlib.Core.Path.{sym, _∙_}
 use borrow.Author.Needs.{needs}
-use Rattle.reels.proofs.RecordsLaws.{judged-counted, judged-no-start, judged-size}
+use Rattle.reels.proofs.RecordsLaws.{judged-long, judged-counted, judged-no-start}
 use Rattle.reels.proofs.rule.Statement.{statement}
 use Rattle.reels.proofs.rule.Tie as tie
 
-sized-requires : tie.Need-sized-requires
-sized-requires c κs = search needs
+returns : tie.Need-returns
+returns c = judged-long _ _ (c .before .before .before .pre) (c .if1 .taken)
 
 start-requires : tie.Need-start-requires
 start-requires c κs = search needs
@@ -17,27 +17,26 @@ enum-known-from c = search needs
 counted-requires : tie.Need-counted-requires
 counted-requires c κs = search needs
 
-returns : tie.Need-returns
-returns c = judged-counted _ _ _ (c .before .before .before .before .before .before .before .before .pre) _ _ (sym (c .before .before .before .before .before .before .sized .ensures) ∙ c .before .before .before .before .before .if1 .taken) (sym (c .before .before .before .before .start .ensures) ∙ c .before .before .from .given .1) (c .counted .ensures)
-
 enum-told : tie.Need-enum-told
 enum-told c = search needs
 
 returns-2 : tie.Need-returns-2
-returns-2 c = judged-no-start _ _ _ (c .before .before .before .before .before .before .pre) (sym (c .before .before .before .before .sized .ensures) ∙ c .before .before .before .if1 .taken) (sym (c .before .before .start .ensures) ∙ c .enum-told .given .1)
+returns-2 c =
+    judged-counted _ _ (c .before .before .before .before .before .before .before .before .pre) _ _ (c .before .before .before .before .before .if1 .left)
+    (sym (c .before .before .before .before .start .ensures) ∙ c .before .before .from .given .1) (c .counted .ensures)
 
 returns-3 : tie.Need-returns-3
-returns-3 c = judged-size _ _ _ (c .before .before .before .pre) (sym (c .before .sized .ensures) ∙ c .if1 .left)
+returns-3 c =
+    judged-no-start _ _ (c .before .before .before .before .before .before .pre) (c .before .before .before .if1 .left) (sym (c .before .before .start .ensures) ∙ c .enum-told .given .1)
 
 pub rule-spec : {M : Type 1} → statement M
 rule-spec =
     tie.close
     (tie.spec
-    sized-requires
+    returns
     start-requires
     enum-known-from
     counted-requires
-    returns
     enum-told
     returns-2
     returns-3)
