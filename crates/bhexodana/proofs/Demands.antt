@@ -4,13 +4,13 @@ use mathlib.Core.Path.{_≡_, refl, ap, sym, _∙_, subst}
 use mathlib.Core.Logic.{_⊎_, inl, inr}
 use mathlib.Core.Bool.{Bool, true, false}
 use mathlib.Core.List.{List, map}
-use Prim.Native.Nat.{ℕ}
+use Prim.Native.Nat.{ℕ, _≤_}
 use native.Mathlib.Omega.{arith}
 use lib.Dec.{eqb}
 use lib.ListN.{length, take, drop, length-map}
 use lib.Seq.{take-at}
 use borrow.Author.Tests.{eqb-true, eqb-false}
-use Rattle.rules.specs.Answer.{Answer, fine, refuse}
+use Rattle.rules.specs.Answer.{Answer, fine, refuse, refusedAt}
 use Rattle.rules.specs.Places.{All, Byte}
 use Rattle.rules.specs.Plan.{Plan, planAnswer}
 use Rattle.rules.specs.Rows.{Row}
@@ -18,9 +18,12 @@ use Rattle.rules.specs.Run.{Ran as RuleRan}
 use Rattle.rules.specs.Lent.{zoneF, plan, planInto, tableAfter, run, runAnswer, outputAfter}
 use Rattle.rules.specs.Said.{PlanSays, TableSays, RunSays}
 use Rattle.rules.specs.Taken.{Takes}
+use Rattle.rules.specs.ShortBlocks.{NeverRefused, Under, ReadsBack, RunGives}
+use Rattle.rules.specs.Grammar.{tc}
 use Rattle.rules.proofs.AnswerLaws.{fine-same}
 use Rattle.rules.proofs.SaidLaws.{plan-says, table-says, run-says}
 use Rattle.rules.proofs.Apart.{run-never-0, took, same-taken}
+use Rattle.rules.proofs.ShortBlockLaws.{run-gives}
 use Rattle.terms.specs.Meaning.{entryMeans}
 use Rattle.terms.specs.declared.Entry.{Entry}
 use Rattle.terms.proofs.Entries.{entries-hold}
@@ -86,22 +89,23 @@ keeping-plan deck n w k = go (plan deck) refl
     go (fine p) e = (p, e, one)
     go (refuse q) e = let z : _≡_ {A = ℕ} 0 1 = sym (ap (λ (x : Answer Plan). planAnswer x .keeping) e) ∙ one in absurd (omega arith)
 
--- a run that is not refused is finished, its reel stands at the front of the lent output, and its records are counted
+-- the reel of a finished run stands at the front of the lent output
+front : (before : List ℕ) (r : Ran) (after : List ℕ) (x : RuleRan) → r ≡ ranOf (runAnswer (fine x)) → after ≡ outputAfter before (fine x) → reelIn r after ≡ x .reel
+front before r after x is out =
+    ap (λ (n : ℕ). take n after) (ap (λ (n : Ran). n .length) is) ∙ ap (take (length (x .reel))) out ∙ take-at (x .reel) (drop (length (x .reel)) before) (length (x .reel)) refl
+
+-- a run that is not refused is finished, its reel stands at the front of the lent output, and its numbers are the reel's
 pub finished-run : (deck reel before : List ℕ) (r : Ran) (after : List ℕ) → All Byte reel → RanInto deck reel before r after → r .refusal ≡ 0
-    → (x : RuleRan) × (run (length before) deck reel ≡ fine x) × (reelIn r after ≡ x .reel) × (r .records ≡ x .records)
+    → (x : RuleRan) × (run (length before) deck reel ≡ fine x) × (reelIn r after ≡ x .reel) × (r ≡ ranOf (runAnswer (fine x)))
 unfolding run
 finished-run deck reel before r after a w z = go (run (length before) deck reel) refl
   where
-    go : (y : Answer RuleRan) → run (length before) deck reel ≡ y → (x : RuleRan) × (run (length before) deck reel ≡ fine x) × (reelIn r after ≡ x .reel) × (r .records ≡ x .records)
+    go : (y : Answer RuleRan) → run (length before) deck reel ≡ y
+        → (x : RuleRan) × (run (length before) deck reel ≡ fine x) × (reelIn r after ≡ x .reel) × (r ≡ ranOf (runAnswer (fine x)))
     go (refuse q) d = absurd (run-never-0 zoneF (length before) (omega arith) deck reel a q d (sym (ap (λ (n : Ran). n .refusal) (w .answer ∙ ap (λ (y : Answer RuleRan). ranOf (runAnswer y)) d)) ∙ z))
     go (fine x) d =
         let is : r ≡ ranOf (runAnswer (fine x)) = w .answer ∙ ap (λ (y : Answer RuleRan). ranOf (runAnswer y)) d in
-        let out : after ≡ outputAfter before (fine x) = w .output ∙ ap (outputAfter before) d in (
-          x,
-          d,
-          ap (λ (n : ℕ). take n after) (ap (λ (n : Ran). n .length) is) ∙ ap (take (length (x .reel))) out ∙ take-at (x .reel) (drop (length (x .reel)) before) (length (x .reel)) refl,
-          ap (λ (n : Ran). n .records) is,
-        )
+        (x, d, front before r after x is (w .output ∙ ap (outputAfter before) d), is)
 
 -- ---- demand 3 and the run
 
@@ -138,8 +142,8 @@ module _ (deck : List ℕ) (n : Planned) (planned : PlanOf deck n) (keeping : n 
         takes′ = subst (Takes (q .0) s′) same (t′ .takes);
         only = t .only;
         only′ = λ rs u. t′ .only rs u ∙ same;
-        many = x .3 ∙ t .many;
-        many′ = x′ .3 ∙ t′ .many ∙ ap length same;
+        many = ap (λ (n : Ran). n .records) (x .3) ∙ t .many;
+        many′ = ap (λ (n : Ran). n .records) (x′ .3) ∙ t′ .many ∙ ap length same;
       }
 
   -- so where a record taken differs, a run is refused, or the reels that are written differ
@@ -157,3 +161,48 @@ module _ (deck : List ℕ) (n : Planned) (planned : PlanOf deck n) (keeping : n 
       go false z b′ z′ = inl (eqb-false (r .refusal) 0 z)
       go true z false z′ = inr (inl (eqb-false (r′ .refusal) 0 z′))
       go true z true z′ = inr (inr (told (eqb-true (r .refusal) 0 z) (eqb-true (r′ .refusal) 0 z′)))
+
+-- ---- what a run wrote, run again (document 02, order 2)
+
+-- r′ and after′ are of a run of a deck, whose plan q reads under B, over what r wrote
+pub record RunsBack (q : Plan) (r : Ran) (after before′ : List ℕ) (r′ : Ran) (after′ : List ℕ) : Type 0 where
+  pub no-11 : r′ .refusal ≡ 11 → ⊥
+  pub no-12 : r′ .refusal ≡ 12 → ⊥
+  -- TC answers the same and writes the same reel, where there is room
+  pub copied : q .mode ≡ tc → r .length ≤ length before′ → (r′ ≡ r) × (reelIn r′ after′ ≡ reelIn r after)
+
+module _ (deck reel before : List ℕ) (r : Ran) (after : List ℕ) (a : All Byte reel) (w : RanInto deck reel before r after) (z : r .refusal ≡ 0)
+    (p : Plan) (e : plan deck ≡ fine p) (deck′ : List ℕ) (q : Plan) (e′ : plan deck′ ≡ fine q) (u : Under p q)
+    (before′ : List ℕ) (r′ : Ran) (after′ : List ℕ) (w′ : RanInto deck′ (reelIn r after) before′ r′ after′) where
+  pub runs-back : RunsBack q r after before′ r′ after′
+  unfolding plan run
+  runs-back =
+      record {
+        no-11 = λ n. never 11 (omega arith) (back .no-11) (run (length before′) deck′ (x .0 .reel)) refl n;
+        no-12 = λ n. never 12 (omega arith) (back .no-12) (run (length before′) deck′ (x .0 .reel)) refl n;
+        copied = λ m l.
+            let c : run (length before′) deck′ (x .0 .reel) ≡ fine (x .0) = back .copied m (length before′) (rw (ap (λ (n : Ran). n .length) (x .3)) at l) in
+            let is : r′ ≡ ranOf (runAnswer (fine (x .0))) = answer ∙ ap (λ (y : Answer RuleRan). ranOf (runAnswer y)) c in
+            let out : after′ ≡ outputAfter before′ (fine (x .0)) =
+            w′ .output ∙ ap (λ (s : List ℕ). outputAfter before′ (run (length before′) deck′ s)) (x .2) ∙ ap (outputAfter before′) c in
+            (is ∙ sym (x .3), front before′ r′ after′ (x .0) is out ∙ sym (x .2));
+      }
+    where
+      x : (x : RuleRan) × (run (length before) deck reel ≡ fine x) × (reelIn r after ≡ x .reel) × (r ≡ ranOf (runAnswer (fine x)))
+      x = finished-run deck reel before r after a w z
+
+      gives : RunGives zoneF p reel (x .0)
+      gives = run-gives zoneF (length before) (omega arith) deck reel p (x .0) e a (x .1)
+
+      back : ReadsBack zoneF deck′ q (x .0) (gives .outs)
+      back = gives .back deck′ q e′ u
+
+      answer : r′ ≡ ranOf (runAnswer (run (length before′) deck′ (x .0 .reel)))
+      answer = w′ .answer ∙ ap (λ (s : List ℕ). ranOf (runAnswer (run (length before′) deck′ s))) (x .2)
+
+      never : (n : ℕ) → 1 ≤ n → NeverRefused zoneF deck′ (x .0 .reel) n → (y : Answer RuleRan) → run (length before′) deck′ (x .0 .reel) ≡ y → r′ .refusal ≡ n → ⊥
+      never n l h y d k = go y d (sym (ap (λ (b : Ran). b .refusal) (answer ∙ ap (λ (y : Answer RuleRan). ranOf (runAnswer y)) d)) ∙ k)
+        where
+          go : (y : Answer RuleRan) → run (length before′) deck′ (x .0 .reel) ≡ y → runAnswer y .refusal ≡ n → ⊥
+          go (fine b) d k = omega arith
+          go (refuse b) d k = h (length before′) (b .place) (b .column) (d ∙ (λ i. refusedAt (k i) (b .place) (b .column)))

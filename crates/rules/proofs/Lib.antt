@@ -77,6 +77,7 @@ pub mod OutBlockWords
 pub mod FitWords
 pub mod FullBlocks
 pub mod ReadBack
+pub mod ShortBlockLaws
 pub mod TakenRecords
 pub mod SaidLaws
 pub mod Apart
