@@ -42,6 +42,13 @@ def with_column(number, place):
     return '%s %s %s' % (number, place, '?' if str(number) in ('3', '4', '7') else '0')
 
 
+def kept(*names):
+    """The cases, each without its name, of drawn files that are there already. What reels were drawn depends on the answers, so a case that was drawn once stays: a
+    change of the rules is then seen in the answers. Without the files there are none."""
+    paths = [os.path.join(ROOT, 'data', name) for name in names]
+    return [line.rstrip('\n').split(' ', 1)[1] for path in paths if os.path.exists(path) for line in open(path) if line[0] != '#']
+
+
 class File:
     def __init__(self, name, head):
         self.name, self.lines, self.hand, self.names = name, ['# ' + h for h in head], [], set()

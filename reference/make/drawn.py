@@ -1,12 +1,20 @@
 """Plans and runs drawn by chance, so many of each refusal; their answers are the converter's own."""
 from common import *
-import plans, runs
+import plans, re, runs
 
 LONGEST = 2400  # a longer line is left out: the files are many lines, not large ones
 
 
-def drawn(seed, count, kind, wanted):
-    """The drawn cases of a kind, without names, so many of each refusal as are wanted."""
+def short_inside(words):
+    """Whether a run's reel has, in FF, a block shorter than A's m before the last."""
+    deck, reel = bytes.fromhex(words[0]).decode('latin-1'), bytes.fromhex(words[1])
+    a = re.search(r'A=\(\d+,(\d+)\)', deck)
+    offsets = [int.from_bytes(reel[i:i + 4], 'big') for i in range(4, min(len(reel), 8 + 4 * int.from_bytes(reel[:4], 'big')), 4)]
+    return 'FF' in deck and a is not None and any(q - p < int(a[1]) for p, q in zip(offsets, offsets[1:-1]))
+
+
+def drawn(seed, count, kind, wanted, chosen_if=lambda words: True):
+    """The drawn cases of a kind, without names, so many of each refusal as are wanted, of those that are chosen."""
     out = subprocess.run([CASES, str(seed), str(count), kind, '--large'], capture_output=True, text=True).stdout.split('\n')[:-1]
     words_asked = 2 if kind == 'plan' else 3
     counts, chosen = {}, []
@@ -14,14 +22,14 @@ def drawn(seed, count, kind, wanted):
         words = line.split()
         answer = words[words_asked:]
         sort = 'empty' if kind == 'run' and answer[:4] == ['0', '0', '0', '8'] else answer[0]
-        if counts.get(sort, 0) < wanted[sort] and len(line) <= LONGEST:
+        if counts.get(sort, 0) < wanted.get(sort, 0) and len(line) <= LONGEST and chosen_if(words):
             counts[sort] = counts.get(sort, 0) + 1
             chosen.append(' '.join([kind] + words[:words_asked]))
     assert counts == wanted, (counts, wanted)
     return chosen
 
 
-def files_of(name, head, kind, chosen):
+def files_of(name, head, kind, chosen, label):
     """One file, or several of like size where it would be too long for the program to read whole."""
     count = -(-sum(len(case) + 20 for case in chosen) // 240000)
     each = -(-len(chosen) // count)
@@ -29,7 +37,7 @@ def files_of(name, head, kind, chosen):
     for number in range(1, count + 1):
         f = File(name + ('_%d' % number if count > 1 else '') + '.txt', head + ['This file: %s drawn by chance.' % ('decks' if kind == 'plan' else 'decks and reels')])
         for at in range(each * (number - 1), min(each * number, len(chosen))):
-            f.case('drawn-%s-%d' % (kind, at + 1), chosen[at], None)
+            f.case('%s-%d' % (label, at + 1), chosen[at], None)
         files.append(f)
     return files
 
@@ -38,5 +46,8 @@ def make():
     early = {str(number): 50 for number in range(1, 11)}
     of_plans = drawn(2026, 6000, 'plan', {'0': 300, **early, '15': 100})
     early = {str(number): 24 for number in range(1, 11)}
-    of_runs = drawn(1973, 9000, 'run', {'0': 500, 'empty': 60, **early, '11': 120, '12': 200, '13': 160, '14': 160, '15': 160})
-    return files_of('drawn_plans', plans.HEAD, 'plan', of_plans) + files_of('drawn_runs', runs.HEAD, 'run', of_runs)
+    of_runs = kept('drawn_runs_1.txt', 'drawn_runs_2.txt', 'drawn_runs_3.txt') or drawn(
+        1973, 9000, 'run', {'0': 500, 'empty': 60, **early, '11': 120, '12': 200, '13': 160, '14': 160, '15': 160})
+    of_blocks = kept('drawn_blocks.txt') or drawn(1902, 9000, 'run', {'0': 160, 'empty': 10, '12': 90, '13': 30, '15': 30}, short_inside)
+    return (files_of('drawn_plans', plans.HEAD, 'plan', of_plans, 'drawn-plan') + files_of('drawn_runs', runs.HEAD, 'run', of_runs, 'drawn-run')
+            + files_of('drawn_blocks', runs.HEAD, 'run', of_blocks, 'drawn-block'))

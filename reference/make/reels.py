@@ -119,21 +119,28 @@ def blocks():
     def group(text, deck):
         f.note(text + ': ' + shown(deck.encode()))
         return lambda name, blocks, expected, why: f.reel(name, deck, reel(*blocks), expected, why)
-    r = group('FF, n of 8 and m of 16: each block is a multiple of n, at most m; only the last may be shorter than m', FIRST)
+    r = group('FF, n of 8 and m of 16: each block is a positive multiple of n, at most m, wherever it stands', FIRST)
     r('ff-full', [data(16)], '0 0 0 1 2 8,8', 'a block of m')
-    r('ff-short-alone', [data(8)], '0 0 0 1 1 8', 'a single block is the last, and may be short')
+    r('ff-short-alone', [data(8)], '0 0 0 1 1 8', 'a short block alone')
     r('ff-short-last', [data(16), data(8)], '0 0 0 2 3 8,8,8', 'a short block at the end')
-    r('ff-short-middle', [data(16), data(8), data(16)], '12 2', 'a short block in the middle, though a multiple of n')
-    r('ff-short-first', [data(8), data(16)], '12 1', 'a short block at the start')
-    r('ff-short-before-last', [data(16), data(8), data(8)], '12 2', 'a short block before the last')
+    r('ff-short-middle', [data(16), data(8), data(16)], '0 0 0 3 5 8,8,8,8,8', 'a short block in the middle')
+    r('ff-short-first', [data(8), data(16)], '0 0 0 2 3 8,8,8', 'a short block at the start')
+    r('ff-short-before-last', [data(16), data(8), data(8)], '0 0 0 3 4 8,8,8,8', 'two short blocks, one behind the other')
+    r('ff-short-twice', [data(8), data(16), data(8), data(16)], '0 0 0 4 6 8,8,8,8,8,8', 'two short blocks apart')
+    r('ff-short-all', [data(8), data(8), data(8)], '0 0 0 3 3 8,8,8', 'all blocks short')
     r('ff-not-n', [data(12)], '12 1', '12 bytes are no multiple of 8')
     r('ff-not-n-last', [data(16), data(12)], '12 2', 'no multiple of n, at the end')
+    r('ff-not-n-middle', [data(16), data(12), data(16)], '12 2', 'no multiple of n, in the middle')
+    r('ff-not-n-first', [data(12), data(8), data(16)], '12 1', 'no multiple of n, at the start')
+    r('ff-not-n-behind-short', [data(8), data(16), data(8), data(15)], '12 4', 'no multiple of n behind short blocks')
+    r('ff-under-n-middle', [data(8), data(7), data(16)], '12 2', 'less than a record, in the middle')
     r('ff-under-n', [data(16), data(7)], '12 2', 'less than a record')
     r('ff-of-1', [data(1)], '12 1', 'one byte')
     r('ff-of-9', [data(9)], '12 1', 'a record and a byte')
     r('ff-over-m', [data(17)], '12 1', 'over m')
     r('ff-over-m-of-n', [data(24)], '12 1', 'over m, though a multiple of n')
     r('ff-over-m-second', [data(16), data(32)], '12 2', 'two blocks in one')
+    r('ff-over-m-middle', [data(8), data(24), data(8)], '12 2', 'over m between short blocks')
     r('ff-two-bad', [data(16), data(15), data(17), data(8)], '12 2', 'the first place')
     r('ff-any-data', [bytes(range(16))], '0 0 0 1 2 8,8', 'what stands in a record is 13, not asked here')
     r = group('FF, n and m of 5', '// U TR,FF,A=(5,5),B=(5,20)\n// END\n')
@@ -142,7 +149,8 @@ def blocks():
     r('ff-one-a-block-10', [data(10)], '12 1', 'two records in one block')
     r = group('FF, n of 1 and m of 3', '// U TR,FF,A=(1,3),B=(1,2)\n// END\n')
     r('ff-bytes', [data(3), data(3), data(2)], '0 0 0 3 8 1,1,1,1,1,1,1,1', 'records of a byte')
-    r('ff-bytes-short', [data(3), data(2), data(3)], '12 2', 'a short block in the middle')
+    r('ff-bytes-short', [data(3), data(2), data(3)], '0 0 0 3 8 1,1,1,1,1,1,1,1', 'a short block in the middle')
+    r('ff-bytes-one', [data(3), data(1), data(1), data(3)], '0 0 0 4 8 1,1,1,1,1,1,1,1', 'blocks of one record in the middle')
     r = group('FF, n of 4,096 and m of 28,672, the largest records', '// U TR,FF,A=(4096,28672),B=(4096,4096)\n// END\n')
     r('ff-4096', [data(28672), data(28672), data(4096)], '0 0 0 3 15 ' + ','.join(['4096'] * 15), '15 records of 4,096 bytes')
     r('ff-4096-less-1', [data(28672), data(28671)], '12 2', 'a byte less')
@@ -227,6 +235,10 @@ def blocks():
 
 def drawn():
     f = Reels('drawn_reels.txt', HEAD + ['This file: decks and reels drawn by chance, most of them right with a fault or two put in.'])
+    for number, case in enumerate(kept(f.name), 1):
+        f.case('reel-%d' % number, case, None)
+    if f.names:
+        return f
     out = subprocess.run([CASES, '815', '2500', 'run'], capture_output=True, text=True).stdout.split('\n')[:-1]
     counts, number = {}, 0
     wanted = {0: 90, 11: 70, 12: 110, 13: 20, 14: 30, 15: 30}

@@ -129,11 +129,52 @@ def fixed(f):
     f.done('trf-ff-short', trf, reel(a + b, c), reel(h('40 C1C2C3C4 40 00FF00FF 40 40404040')), 3, 1, 'exactly m')
     f.note('Damaged blocks of FF are 12 in every mode, whatever the room')
     for mode, text in (('tc', tc), ('tr', tr), ('tf', tf), ('trf', trf)):
-        f.refused(mode + '-ff-short-first', text, reel(a, b + c), 12, 1, 'a short block that is not the last', 0)
-        f.refused(mode + '-ff-short-middle', text, reel(a + b, a, b + c), 12, 2, 'a short block in the middle')
         f.refused(mode + '-ff-no-multiple', text, reel(a + b, a + b[:3]), 12, 2, 'no multiple of n', 70)
+        f.refused(mode + '-ff-no-multiple-middle', text, reel(a, a + b[:3], c), 12, 2, 'no multiple of n, in the middle')
+        f.refused(mode + '-ff-over-middle', text, reel(a, a + b + c, c), 12, 2, 'over m, in the middle')
         f.refused(mode + '-ff-over', text, reel(a + b + c), 12, 1, 'over m')
         f.refused(mode + '-ff-byte', text, reel(a + b, b[:1]), 12, 2, 'one byte')
+
+
+def short_blocks(f):
+    f.note('Short blocks of FF anywhere (document 02, order 2): TC leaves them, TF gives a block for each, TR and TRF write full blocks but the last')
+    a, b, c = h('C1C2C3C4'), h('00FF00FF'), h('40404040')
+    tc, tf = deck('TC,FF,A=(4,8),B=(4,8)'), deck('TF,FF,A=(4,8),B=(2,4)', '2,1,1')
+    tr, trf = deck('TR,FF,A=(4,8),B=(4,12)'), deck('TRF,FF,A=(4,8),B=(5,15)', '1,4,2')
+    to_tf = {a: h('C240'), b: h('FF40'), c: h('4040')}
+    def four(name, why, *blocks):
+        records = [r for block in blocks for r in block]
+        threes = [records[i:i + 3] for i in range(0, len(records), 3)]
+        joined = lambda lists, made: reel(*[b''.join(made(r) for r in l) for l in lists])
+        shown_as = joined(blocks, lambda r: r)
+        f.done('tc-ff-short-' + name, tc, shown_as, shown_as, len(records), len(blocks), 'TC: ' + why)
+        f.done('tf-ff-short-' + name, tf, shown_as, joined(blocks, to_tf.get), len(records), len(blocks), 'TF: ' + why)
+        f.done('tr-ff-short-' + name, tr, shown_as, joined(threes, lambda r: r), len(records), len(threes), 'TR: ' + why)
+        f.done('trf-ff-short-' + name, trf, shown_as, joined(threes, lambda r: b'\x40' + r), len(records), len(threes), 'TRF: ' + why)
+    four('middle', 'in the middle', [a, b], [a], [b, c])
+    four('twice', 'twice, at the start and in the middle', [a], [b, c], [a], [b, c])
+    four('next', 'one behind the other', [a, b], [a], [b], [c, a])
+    four('all', 'all of one record', [a], [b], [c])
+    for mode, text, length in (('tc', tc, 28), ('tr', tr, 24), ('tf', tf, 22), ('trf', trf, 27)):
+        f.refused(mode + '-ff-short-first', text, reel(a, b + c), 15, length, 'a short block at the start, and no room', 0)
+    f.note('R and short blocks: records are counted through them')
+    wanted = {2: [[b, c], [a], [b, c]], 3: [[c], [a], [b, c]], 4: [[a], [b, c]], 5: [[b, c]], 6: [[c]], 7: []}
+    for r, left in wanted.items():
+        records = [x for block in left for x in block]
+        into = reel(a, b + c, a, b + c)
+        f.done('tf-ff-short-r-%d' % r, tf.replace('B=(2,4)', 'B=(2,4),R%d' % r), into, reel(*[b''.join(to_tf[x] for x in l) for l in left]), len(records), len(left), 'TF, R%d' % r)
+        threes = [records[i:i + 3] for i in range(0, len(records), 3)]
+        f.done('tr-ff-short-r-%d' % r, tr.replace('B=(4,12)', 'B=(4,12),R%d' % r), into, reel(*[b''.join(l) for l in threes]), len(records), len(threes), 'TR, R%d' % r)
+    f.note('What TF under R2 wrote, short block first, read again under B: it was refused by 12 before')
+    wrote = reel(h('FF40'), h('FF40 4040'), h('C240'))
+    f.done('tf-ff-short-r-2-wrote', tf.replace('B=(2,4)', 'B=(2,4),R2'), reel(a + b, b + c, a), wrote, 4, 3, 'TF under R2 begins within the first block')
+    f.done('tc-ff-short-back', deck('TC,FF,A=(2,4),B=(2,4)'), wrote, wrote, 4, 3, 'TC of it is itself')
+    f.done('tr-ff-short-back', deck('TR,FF,A=(2,4),B=(2,8)'), wrote, reel(h('FF40 FF40 4040 C240')), 4, 1, 'and its records in one block')
+    f.done('tf-ff-short-back', deck('TF,FF,A=(2,4),B=(1,2)', '1,1,1'), wrote, reel(h('FF'), h('FF40'), h('C2')), 4, 3, 'and a block for each block')
+    f.note('13 is at its record, counted through short blocks')
+    packs = deck('TRF,FF,A=(2,6),B=(2,4)', '1,(P,2,2),1')
+    f.refused('trf-ff-short-13', packs, reel(h('F1C2'), h('F1C2 F1C2'), h('F1C2 F1D3 F112')), 13, 6, 'the sixth record')
+    f.done('trf-ff-short-packs', packs, reel(h('F1C2'), h('F1C2 F3D4'), h('F5C6')), reel(h('012C 012C'), h('034D 056C')), 4, 2, 'four records of short blocks')
 
 
 def variable(f):
@@ -401,6 +442,6 @@ def refused_decks(f):
 
 def make():
     f = Runs('runs.txt', HEAD)
-    for section in (cases_of_paper, firsts, lengths, fixed, variable, undefined, tails, sizes, together, fillings, large, many, blanks, permitted, vectors, refused_decks):
+    for section in (cases_of_paper, firsts, lengths, fixed, short_blocks, variable, undefined, tails, sizes, together, fillings, large, many, blanks, permitted, vectors, refused_decks):
         section(f)
     return f

@@ -11,10 +11,10 @@ fn length_word(bytes: &[u8]) -> Option<usize> {
     }
 }
 
-/// FF: a multiple of n, at most m; only the last block may be shorter than m.
-fn fixed<'a>(plan: &Plan, block: &'a [u8], last: bool) -> Option<Vec<&'a [u8]>> {
+/// FF: a positive multiple of n, at most m, wherever the block stands (document 02, order 2).
+fn fixed<'a>(plan: &Plan, block: &'a [u8]) -> Option<Vec<&'a [u8]>> {
     let (n, m) = (record_length(plan.a), longest_block(plan.a));
-    let right = block.len().is_multiple_of(n) && (block.len() == m || (last && block.len() < m));
+    let right = (1..=m).contains(&block.len()) && block.len().is_multiple_of(n);
     right.then(|| block.chunks(n).collect())
 }
 
@@ -44,9 +44,9 @@ fn undefined<'a>(plan: &Plan, block: &'a [u8]) -> Option<Vec<&'a [u8]>> {
 }
 
 /// The data of the records of a block; nothing if the block breaks its rule.
-pub fn records<'a>(plan: &Plan, block: &'a [u8], last: bool) -> Option<Vec<&'a [u8]>> {
+pub fn records<'a>(plan: &Plan, block: &'a [u8]) -> Option<Vec<&'a [u8]>> {
     match plan.format {
-        Format::FF => fixed(plan, block, last),
+        Format::FF => fixed(plan, block),
         Format::FV => variable(plan, block),
         Format::FU => undefined(plan, block),
     }

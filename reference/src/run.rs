@@ -29,8 +29,7 @@ struct Record<'a> {
 fn taken<'a>(plan: &Plan, blocks: &[&'a [u8]]) -> Result<Vec<Record<'a>>, Refused> {
     let mut all = Vec::new();
     for (block, bytes) in (1..).zip(blocks) {
-        let last = block == blocks.len();
-        let records = blocks::records(plan, bytes, last);
+        let records = blocks::records(plan, bytes);
         for data in records.ok_or(Refused::at(12, block))? {
             all.push(Record { number: all.len() + 1, block, data });
         }

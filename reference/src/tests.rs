@@ -237,6 +237,40 @@ fn r_at_and_past_the_last_record() {
 }
 
 #[test]
+fn short_blocks_anywhere() {
+    let tc = "// U TC,FF,A=(2,6),B=(2,6)\n// END\n";
+    let short = "00000003 00000014 00000016 0000001C 0000001E C1C2 C3C4C5C6C7C8 C9D1";
+    finished(tc, short, 5, 3, short);
+    finished("// U TR,FF,A=(2,6),B=(2,4)\n// END\n", short, 5, 3,
+        "00000003 00000014 00000018 0000001C 0000001E C1C2C3C4 C5C6C7C8 C9D1");
+    finished("// U TF,FF,A=(2,6),B=(1,3),R3\n// FS 2,1,1\n// END\n", short, 3, 2,
+        "00000002 00000010 00000012 00000013 C6C8 D1");
+    refused(tc, "00000002 00000010 00000013 00000015 C1C2C3 C4C5", 12, 1);
+    refused(tc, "00000002 00000010 00000012 00000015 C1C2 C3C4C5", 12, 2);
+    refused(tc, "00000002 00000010 00000018 0000001A C1C2C3C4C5C6C7C8 C9D1", 12, 1);
+}
+
+#[test]
+fn blocks_are_judged_one_by_one() {
+    let deck = b"// U TC,FF,A=(3,12),B=(3,12)\n// END\n";
+    let mut seed = 7_u32;
+    let mut below = |n: u32| {
+        seed = seed.wrapping_mul(1_664_525).wrapping_add(1_013_904_223);
+        ((seed >> 8) % n) as usize
+    };
+    for _ in 0..2_000 {
+        let blocks: Vec<Vec<u8>> = (0..1 + below(5)).map(|_| vec![7; 1 + below(14)]).collect();
+        let good = |block: &Vec<u8>| block.len() <= 12 && block.len().is_multiple_of(3);
+        let reel = reel::write(&blocks);
+        let ran = run(deck, &reel, 65_536);
+        match blocks.iter().position(|block| !good(block)) {
+            None => assert_eq!((ran.refusal, ran.reel), (0, reel)),
+            Some(at) => assert_eq!((ran.refusal, ran.place), (12, at + 1)),
+        }
+    }
+}
+
+#[test]
 fn bad_halves_of_taken_records_only() {
     let bad = "00000001 0000000C 0000001C C1C2C3C4F1F2E3C4 C1C2C3C4F9F2F3C4";
     refused(FIRST, bad, 13, 1);

@@ -41,7 +41,7 @@ fn reading(text: &[u8], input: &[u8]) -> Result<String, Refused> {
     let blocks = reel::read(input).ok_or(Refused::at(11, 0))?;
     let mut lengths: Vec<String> = Vec::new();
     for (number, block) in (1..).zip(&blocks) {
-        let records = blocks::records(&plan, block, number == blocks.len());
+        let records = blocks::records(&plan, block);
         let records = records.ok_or(Refused::at(12, number))?;
         lengths.extend(records.iter().map(|data| data.len().to_string()));
     }

@@ -28,10 +28,9 @@ fn fixed(chance: &mut Chance, plan: &Plan, room: usize) -> Records {
     let (n, m) = (record_length(plan.a), longest_block(plan.a));
     let blocks = chance.pick(&[0, 1, 1, 2, 2, 2, 3, 3, 4, 4]).min(1 + room / (m + 4));
     let mut reel = Vec::new();
-    for block in 1..=blocks {
-        let full = block < blocks || chance.one_in(2);
+    for _ in 0..blocks {
         let most = if m > room { (room / n).clamp(1, m / n) } else { m / n };
-        let count = if full { most } else { chance.range(1, most) };
+        let count = if chance.one_in(2) { most } else { chance.range(1, most) };
         reel.push((0..count).map(|_| data(chance, plan, n)).collect());
     }
     reel
