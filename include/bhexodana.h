@@ -37,6 +37,10 @@
  *
  *   A plan answers 1 to 10, and 15 where a table is lent; a run answers 1 to 15.
  *
+ *   12: each block obeys its rule by itself, wherever it stands. In FF it is a positive multiple of n bytes, at most m, so short blocks may stand inside a
+ *   reel; in FV it has at most m or g bytes and is filled by its records, each with its length, and with fields at least n bytes of data in each; in FU
+ *   it has at most g bytes.
+ *
  *   The column is that of a byte of the card which the place names, from 1:
  *    3  the first column at which no continuation of the operand could be right; one past its end where the operand stops short
  *    4  the first byte of the second occurrence

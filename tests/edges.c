@@ -168,6 +168,19 @@ static void test_counts(void)
     runs("five records in three blocks", "// U TR,FF,A=(1,4),B=(1,2)\n// END", s, sizeof s, ROOM, now, 25, 5, 3);
 }
 
+/* A short block in the middle is taken, one of no whole records is not. */
+static void test_short_blocks(void)
+{
+    static const uint8_t s[30] = {0, 0, 0, 3, 0, 0, 0, 20, 0, 0, 0, 24, 0, 0, 0, 26, 0, 0, 0, 30, 1, 2, 3, 4, 5, 6, 7, 8, 9, 10};
+    static const uint8_t filled[30] = {0, 0, 0, 3, 0, 0, 0, 20, 0, 0, 0, 24, 0, 0, 0, 28, 0, 0, 0, 30, 1, 2, 3, 4, 5, 6, 7, 8, 9, 10};
+    uint8_t odd[sizeof s];
+    runs("a short block in the middle, copied", "// U TC,FF,A=(2,4),B=(2,4)\n// END", s, sizeof s, ROOM, s, 30, 5, 3);
+    runs("a short block in the middle, filled", "// U TR,FF,A=(2,4),B=(2,4)\n// END", s, sizeof s, ROOM, filled, 30, 5, 3);
+    memcpy(odd, s, sizeof odd);
+    odd[15] = 27;
+    refuses_run("three bytes in the middle", "// U TC,FF,A=(2,4),B=(2,4)\n// END", odd, sizeof odd, ROOM, 12, 2, 0);
+}
+
 static void test_runs(void)
 {
     static const uint8_t no_reel[13] = {0, 0, 0, 1, 0, 0, 0, 12, 0, 0, 0, 14, 0x40};
@@ -254,6 +267,7 @@ int main(void)
 {
     test_runs();
     test_counts();
+    test_short_blocks();
     test_plans();
     test_many_fields();
     printf("%d calls, %d wrong\n", calls, wrong);

@@ -12,6 +12,9 @@ program edges
         -63, -62, -61, -60, -15, -14, -13, -60, -63, -62, -61, -60, -7, -14, -13, -60], int8)
     integer(int8), parameter :: result(30) = int([0, 0, 0, 2, 0, 0, 0, 16, 0, 0, 0, 23, 0, 0, 0, 30, &
         -63, -62, -61, -60, 1, 35, 76, -63, -62, -61, -60, 9, 35, 76], int8)
+    character(len=*), parameter :: filled(2) = [character(len=40) :: "// U TR,FF,A=(2,4),B=(2,4)", "// END"]
+    integer(int8), parameter :: short(30) = int([0, 0, 0, 3, 0, 0, 0, 20, 0, 0, 0, 24, 0, 0, 0, 26, 0, 0, 0, 30, &
+        1, 2, 3, 4, 5, 6, 7, 8, 9, 10], int8)
     integer(int8), parameter :: none(0) = [integer(int8) ::]
     integer :: tested = 0, wrong = 0
     character(len=:), allocatable :: text
@@ -96,6 +99,10 @@ contains
         call check(same_run(r, 4, 1, 14, 0, 0, 0) .and. all(output == 77), "a run with a parameter that stands twice")
         call run_deck(cards, reel, output, r)
         call check(same_run(r, 0, 0, 0, 30, 2, 2) .and. all(output(1:30) == result) .and. all(output(31:) == 77), "the paper's run")
+        output = 77
+        call run_deck(filled, short, output, r)
+        call check(same_run(r, 0, 0, 0, 30, 5, 3) .and. output(16) == 28 .and. all(output(21:30) == short(21:)) &
+            .and. all(output(31:) == 77), "a short block in the middle")
         wide = 55
         wide(1:56:2) = reel
         output = 77
