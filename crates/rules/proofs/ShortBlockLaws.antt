@@ -114,8 +114,8 @@ module _ (zone : ℕ) (deck : List ℕ) (p : Plan) (e : planOf zone deck ≡ fin
       go (refuse x) d =
           absurd (h 0 (x .place) 0 (the-run zone 0 deck s p e ∙ bad-block 0 p s (x .place) (reel-is s bs r) (refused-block p (blocksOf s) x d)))
 
-  pub one-by-one : OneByOne zone deck p
-  one-by-one =
+  pub judged-alone : OneByOne zone deck p
+  judged-alone =
       record {
         fixed = fixed-good p;
         each = λ s bs b r. (never-good s bs b r, good-never s bs r);
@@ -178,6 +178,7 @@ module _ (zone room : ℕ) (z : zone < 16) (deck s : List ℕ) (p : Plan) (x : R
         outs = outputBlocks p (w .recs);
         gives = (blocksOf s, reel-of s a (w .reel), h);
         blocks = told;
+        is = w .writes;
         back = back;
         TF = λ m. each-gives p (accepted zone deck p e) m h;
         TR = λ t o. full-blocks p (accepted zone deck p e) t h o told;

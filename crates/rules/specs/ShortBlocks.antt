@@ -12,7 +12,7 @@ use Rattle.rules.specs.Grammar.{tc, tf, tr, trf, ff}
 use Rattle.rules.specs.Plan.{Plan, planOf, selects, recordLength, blockLength}
 use Rattle.rules.specs.Blocks.{takenFrom}
 use Rattle.rules.specs.Output.{blockOf, nonEmpty}
-use Rattle.rules.specs.Run.{Ran, runOf}
+use Rattle.rules.specs.Run.{Ran, ranOf, runOf}
 use Rattle.rules.specs.InWords.{BlocksOut}
 use Rattle.rules.specs.RunRows.{ReelIs, GoodBlock, Gives}
 
@@ -87,6 +87,7 @@ pub record RunGives (zone : ℕ) (p : Plan) (s : List ℕ) (x : Ran) : Type 0 wh
   pub outs : List (List (List ℕ))
   pub gives : Gives p s recs
   pub blocks : BlocksOut p recs outs
+  pub is : x ≡ ranOf p outs
   pub back : (deck : List ℕ) (q : Plan) → planOf zone deck ≡ fine q → Under p q → ReadsBack zone deck q x outs
   pub TF : p .mode ≡ tf → EachGives p recs outs
   -- in FF TR and TRF write full blocks, whatever the input's are
