@@ -497,7 +497,7 @@ static size_t bad_block(const struct plan *p, const uint8_t *reel, size_t blocks
         if (size > p->a.m)
             return i + 1;
         if (p->format == FF) {
-            if (size % p->a.n || (i + 1 < blocks && size < p->a.m))
+            if (size % p->a.n)
                 return i + 1;
             here = size / p->a.n;
         } else if (p->format == FV) {
