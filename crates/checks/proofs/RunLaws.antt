@@ -1,7 +1,7 @@
 -- The answer of a run, step by step: each refusal is that of the first step that refuses. By the definition of a run.
 use mathlib.Core.Path.{_≡_, refl, ap, sym, _∙_, subst}
 use mathlib.Core.Bool.{Bool, true, false}
-use mathlib.Core.List.{List, [], _∷_, map}
+use mathlib.Core.List.{List, [], _∷_}
 use mathlib.Core.Logic.{inl}
 use Prim.Native.Nat.{ℕ, zero, suc, _-_, _≤_, _<_}
 use native.Mathlib.Omega.{arith}
@@ -12,20 +12,17 @@ use Rattle.rules.specs.Base.{joined}
 use Rattle.rules.specs.Answer.{Answer, fine, refuse, refused, _>>=_, _>>_, unless, each}
 use Rattle.rules.specs.Places.{All, noMore, also, Byte}
 use Rattle.rules.specs.Grammar.{tc}
-use Rattle.rules.specs.Reel.{isReel, blocksOf, reelOf}
+use Rattle.rules.specs.Reel.{isReel}
 use Rattle.rules.specs.Plan.{Plan, selects, isTC}
 use Rattle.rules.specs.Blocks.{takenFrom}
-use Rattle.rules.specs.Output.{permits, blockOf}
+use Rattle.rules.specs.Output.{permits}
 use Rattle.rules.specs.Run.{Ran as RuleRan, outBlocks, ranOf, housed, convert, outputBlocks}
-use Rattle.rules.specs.RunRows.{Holds}
-use Rattle.rules.specs.Accepted.{Accepted}
 use Rattle.rules.specs.Lent.{runAnswer}
 use Rattle.rules.proofs.AnswerLaws.{fine-each}
-use Rattle.rules.proofs.ReelLaws.{blocks-reel, all-blocks}
-use Rattle.rules.proofs.BlocksOutcome.{holds-of}
+use Rattle.rules.proofs.BlocksOutcome.{reads-give}
 use Rattle.rules.proofs.RunParts.{bad-block}
 use Rattle.rules.proofs.Never.{all-of, permits-other, holds-taken, all-fit}
-use Rattle.rules.proofs.CopyLaws.{blocks-back, copy-blocks}
+use Rattle.rules.proofs.CopyLaws.{copy-blocks, copy-reel}
 use Rattle.reels.specs.declared.ReelRead.{ReelRead}
 use Rattle.reels.specs.declared.ReelRead.the-variants.{Read, NotReel, BadBlock}
 use Rattle.walks.specs.Promise.{Good}
@@ -96,11 +93,6 @@ measured-run room p s recs g permitted = go (fitAnswer p recs) refl ∙ ap (λ (
     go (fine a) e = rw e (sym (room-is room (ranOf p (outputBlocks p recs))))
     go (refuse r) e = rw e
 
-pub copy-reel : (p : Plan) (ok : Accepted p) → p .mode ≡ tc → (s : List ℕ) → All Byte s → isReel s ≡ true → (recs : List (List (List ℕ))) → Holds p (blocksOf s) recs
-    → reelOf (map (blockOf (p .format)) (outputBlocks p recs)) ≡ s
-copy-reel p ok q s a e recs h =
-    ap (λ (bs : List (List (List ℕ))). reelOf (map (blockOf (p .format)) bs)) (copy-blocks p ok q recs) ∙ ap reelOf (blocks-back p h) ∙ blocks-reel s a e
-
 -- as the code asks it
 module _ (room size records blocks : ℕ) (r : Ran) where
   pub room-over : room < size → r ≡ refusedRun 15 size → r ≡ housedRun room size records blocks
@@ -154,13 +146,13 @@ module _ {task : Task} {fields s : List ℕ} {blocks records : ℕ} where
           → answerOf (Fits blocks records (length s)) ≡ measuredOf p recs
       fits p recs x g b k =
           let q : p .mode ≡ tc = sym (x .is .mode) ∙ e in
-          let h = holds-of p (x .accepted) 1 (all-blocks s a) recs (g .records) in
+          let h = reads-give p (x .accepted) s a (g .reel) recs (g .records) in
           let same = copy-blocks p (x .accepted) q recs in
           measured-fits p recs
-          (fine-each 14 (λ holds. holds) (p .first) (all-fit p (x .accepted) (inl q) (holds-taken p (p .first - 1) h)))
+          (fine-each 14 (λ holds. holds) (p .first) (all-fit p (x .accepted) (inl q) (holds-taken p (p .first - 1) (h .2))))
           (b ∙ ap length (sym same))
           (k ∙ ap (λ (bs : List (List (List ℕ))). length (joined bs)) (sym same))
-          (ap length (sym (copy-reel p (x .accepted) q s a (g .reel) recs h)))
+          (ap length (sym (copy-reel p (x .accepted) q s recs h)))
 
   pub measures : isTC (modeOf (task .mode)) ≡ false → (r : Measured) → Measures task s r → MeasuredRun task fields s blocks records r
   measures e r h = record { is = λ p recs x g b k. measured-says task s r h (record { fair = record { is = x .is; good = g }; other = ap isTC (sym (x .is .mode)) ∙ e }) }

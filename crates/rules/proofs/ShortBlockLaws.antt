@@ -22,10 +22,10 @@ use Rattle.rules.specs.InWords.{BlocksOut}
 use Rattle.rules.proofs.AllLaws.{all-imply}
 use Rattle.rules.proofs.AnswerLaws.{fine-unless}
 use Rattle.rules.proofs.AcceptedLaws.{accepted, zone-of}
-use Rattle.rules.proofs.ReelLaws.{all-blocks, reel-blocks, reel-is, reel-of}
+use Rattle.rules.proofs.ReelLaws.{all-blocks, reel-blocks, reel-is}
 use Rattle.rules.proofs.BlockSizes.{all-map}
 use Rattle.rules.proofs.BlockLaws.{fixed-back, length-joined}
-use Rattle.rules.proofs.BlocksOutcome.{holds-of}
+use Rattle.rules.proofs.BlocksOutcome.{holds-of, reads-give}
 use Rattle.rules.proofs.TakenLaws.{taken-first}
 use Rattle.rules.proofs.PieceLaws.{refused-block}
 use Rattle.rules.proofs.RunColumns.{refuses-fine, refuses-each, refuses-by}
@@ -176,22 +176,22 @@ module _ (zone room : ℕ) (z : zone < 16) (deck s : List ℕ) (p : Plan) (x : R
       record {
         recs = w .recs;
         outs = outputBlocks p (w .recs);
-        gives = (blocksOf s, reel-of s a (w .reel), h);
+        gives = given;
         blocks = told;
         is = w .writes;
         back = back;
-        TF = λ m. each-gives p (accepted zone deck p e) m h;
-        TR = λ t o. full-blocks p (accepted zone deck p e) t h o told;
+        TF = λ m. each-gives p (accepted zone deck p e) m (given .2);
+        TR = λ t o. full-blocks p (accepted zone deck p e) t (given .2) o told;
       }
     where
       w : Finished p room s x
       w = finished p room s x (sym (the-run zone room deck s p e) ∙ d)
 
-      h : Holds p (blocksOf s) (w .recs)
-      h = holds-of p (accepted zone deck p e) 1 (all-blocks s a) (w .recs) (w .reads)
+      given : Gives p s (w .recs)
+      given = reads-give p (accepted zone deck p e) s a (w .reel) (w .recs) (w .reads)
 
       told : BlocksOut p (w .recs) (outputBlocks p (w .recs))
-      told = blocks-told p (rw (zone-of zone deck p e) z) (accepted zone deck p e) (w .recs) (holds-whole p (accepted zone deck p e) (all-blocks s a) h) (w .fit)
+      told = blocks-told p (rw (zone-of zone deck p e) z) (accepted zone deck p e) (w .recs) (holds-whole p (accepted zone deck p e) (all-blocks s a) (given .2)) (w .fit)
 
       back : (deck′ : List ℕ) (q : Plan) → planOf zone deck′ ≡ fine q → Under p q → ReadsBack zone deck′ q x (outputBlocks p (w .recs))
       back deck′ q e′ u =

@@ -18,8 +18,8 @@ use Rattle.rules.specs.Output.{blockOf}
 use Rattle.rules.specs.Run.{Ran as RuleRan, ranOf, convert, outputBlocks}
 use Rattle.rules.specs.Accepted.{Accepted}
 use Rattle.rules.specs.Lent.{zoneF, runAnswer, outputAfter}
-use Rattle.rules.proofs.ReelLaws.{all-blocks}
-use Rattle.rules.proofs.BlocksOutcome.{holds-of}
+use Rattle.rules.proofs.BlocksOutcome.{reads-give}
+use Rattle.rules.proofs.CopyLaws.{copy-reel}
 use Rattle.rules.proofs.LentParts.{front-over}
 use Rattle.rules.proofs.RunParts.{Finished, finished}
 use Rattle.rules.proofs.RunColumns.{Refuses, refuses-convert}
@@ -32,7 +32,6 @@ use Rattle.rows.proofs.RowLaws.{short-of, flat-front}
 use Rattle.writers.specs.Promise.{blocksIn, Ready, Lent, ReelPut}
 use Rattle.checks.specs.declared.Ran.{Ran}
 use Rattle.checks.specs.Promise.{ranStruct, Given, GivenPlan, Checked}
-use Rattle.checks.proofs.RunLaws.{copy-reel}
 use Rattle.runs.specs.Promise.{Runnable, Finishes, Finishing, Written, RanInto}
 
 -- ---- a run that finishes
@@ -48,7 +47,7 @@ module _ {task : Task} {fields s : List ℕ} {blocks room : ℕ} {p : Plan} {x :
       let w = parts in
       let ok = y .given .accepted in
       ap (λ (z : RuleRan). z .reel) (w .writes)
-      ∙ copy-reel p ok (sym (y .given .is .mode) ∙ e) s a (w .reel) (w .recs) (holds-of p ok 1 (all-blocks s a) (w .recs) (w .reads))
+      ∙ copy-reel p ok (sym (y .given .is .mode) ∙ e) s (w .recs) (reads-give p ok s a (w .reel) (w .recs) (w .reads))
 
   pub copy-fits : modeOf (task .mode) ≡ tc → All Byte s → length s ≤ room
   copy-fits e a = subst (λ (z : List ℕ). length z ≤ room) (copy-is e a) (parts .roomy)
