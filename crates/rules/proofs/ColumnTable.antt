@@ -42,7 +42,7 @@ use Rattle.rules.proofs.PlanTable.{plan-table, into-table}
 use Rattle.rules.proofs.RunTable.{run-table}
 use Rattle.rules.proofs.RunColumns.{refuses-reads, Refuses, Plainly, refuses-bind, refuses-then, refuses-unless, refuses-each, refuses-convert}
 
-lowest-zero : Lowest (λ c. c ≡ 0) 0
+pub lowest-zero : Lowest (λ c. c ≡ 0) 0
 lowest-zero = (refl, λ d l e. absurd (not-suc-le-zero l))
 
 module _ (deck : List ℕ) where
@@ -65,7 +65,7 @@ module _ (deck : List ℕ) where
   pub columned-then : {B : Type 0} (x : Answer Unit) (y : Answer B) → Columned x → (x ≡ fine tt → Columned y) → Columned (x >> y)
   columned-then x y c h = refuses-then ColumnIs x y c h
 
-  columned-unless : (t : Bool) (m i : ℕ) → Plain m → Columned (unless t m i)
+  pub columned-unless : (t : Bool) (m i : ℕ) → Plain m → Columned (unless t m i)
   columned-unless t m i z = refuses-unless ColumnIs t m i z
 
   columned-each : {A : Type 0} (m : ℕ) (q : A → Bool) (i : ℕ) (xs : List A) → Plain m → Columned (each m q i xs)
@@ -356,7 +356,7 @@ module _ (deck : List ℕ) where
 
 -- an answer whose number and place the table gives, and whose column is the lowest
 module _ {A : Type 0} (deck : List ℕ) (x : Answer A) (R : ℕ → ℕ → Type 0) (given : (n p : ℕ) → ((c : ℕ) × (x ≡ refusedAt n p c)) ↔ GivenBy R n p) (columned : Columned deck x) where
-  columns : (n p c : ℕ) → (x ≡ refusedAt n p c) ↔ (GivenBy R n p × Lowest (Column deck p n) c)
+  pub columns : (n p c : ℕ) → (x ≡ refusedAt n p c) ↔ (GivenBy R n p × Lowest (Column deck p n) c)
   columns n p c = (λ e. (given n p .0 (c, e), subst (Columned deck) e columned), λ w. back (given n p .1 (w .0)) (w .1))
     where
       back : (d : ℕ) × (x ≡ refusedAt n p d) → Lowest (Column deck p n) c → x ≡ refusedAt n p c

@@ -1,5 +1,6 @@
 pub mod Cases
 pub mod ShortBlockCases
+pub mod TwinCases
 pub mod Tests
 pub mod AllLaws
 pub mod AnswerLaws
@@ -27,6 +28,7 @@ pub mod SizeLaws
 pub mod RecordLaws
 pub mod PlaceLaws
 pub mod BytePlaces
+pub mod ListedLaws
 pub mod HalfBytes
 pub mod PermittedLaws
 pub mod AllowedWords
@@ -35,6 +37,7 @@ pub mod PackLaws
 pub mod FieldSteps
 pub mod SourceSteps
 pub mod SourceWords
+pub mod ShowsLaws
 pub mod FieldChecks
 pub mod FieldTests
 pub mod KeepingSteps
@@ -58,6 +61,10 @@ pub mod ConvertsLaws
 pub mod OutputWords
 pub mod Twins
 pub mod Demand3
+pub mod TwinLaws
+pub mod NextValue
+pub mod TwinReasons
+pub mod TwinTable
 pub mod BlockSteps
 pub mod RecordSteps
 pub mod TakenLaws
@@ -80,6 +87,8 @@ pub mod ReadBack
 pub mod ShortBlockLaws
 pub mod TakenRecords
 pub mod SaidLaws
+pub mod TwinSaid
+pub mod TwinOnce
 pub mod Apart
 pub mod Confused
 pub mod PlanSteps

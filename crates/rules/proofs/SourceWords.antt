@@ -46,7 +46,7 @@ module _ (zone a b : ℕ) (f : Field) (fit : Fits a b f) (e : Source) where
   wide c q = ap (λ (k : Kind). 2 * outputSize k) q
 
   -- what it writes at a place is what the words say
-  field-takes : (h : ℕ) (x : Source) → Writes f h → FieldTakes zone f h x → getD (fieldHalves zone constant f (froms 0 (2 * a))) (h - writesFrom f) e ≡ x
+  pub field-takes : (h : ℕ) (x : Source) → Writes f h → FieldTakes zone f h x → getD (fieldHalves zone constant f (froms 0 (2 * a))) (h - writesFrom f) e ≡ x
   field-takes h x w (copied {s = s} j q p) =
       copy-source zone f (2 * a) room e s q (h - writesFrom f) (readsFrom f + j) (omega arith) (omega (arith, w .0, w .1, wide (copy s) q))
   field-takes h x w (packed-high {n = n} {m = m} {i = i} q p r) =
@@ -109,7 +109,7 @@ module _ (zone a b : ℕ) (f : Field) (fit : Fits a b f) (e : Source) where
             (constant (made zone), unpacked-zone (g / 2) q (omega arith) (before-last m g l (eqb-false (g + 1) (2 * m) s) (eqb-false (g + 2) (2 * m) t)))
         go false s false t false c = digit ((2 * m - 3 - g) / 2) (odd-left m g l (eqb-false (g + 1) (2 * m) s) (omega (arith, eqb-false (g % 2) 0 c)))
 
-    field-source : (c : Kind) → f .kind ≡ c → (x : Source) × FieldTakes zone f h x
+    pub field-source : (c : Kind) → f .kind ≡ c → (x : Source) × FieldTakes zone f h x
     field-source (copy s) q = (from (readsFrom f + (h - writesFrom f)), copied (h - writesFrom f) q (omega (arith, w .0)))
     field-source (pack n m) q = pack-source n m q
     field-source (unpack n m) q = unpack-at n m (h - writesFrom f) q (omega (arith, w .0)) (omega (arith, w .1, wide (unpack n m) q))
@@ -131,7 +131,7 @@ blanks-low k (suc n) (suc i) h e p l =
 -- ---- the last field that writes a half
 
 -- a field writes a half, or not
-writes-or : (f : Field) (h : ℕ) → Writes f h ⊎ (Writes f h → ⊥)
+pub writes-or : (f : Field) (h : ℕ) → Writes f h ⊎ (Writes f h → ⊥)
 writes-or f h = go (leb (writesFrom f) h) refl (ltb h (writesFrom f + 2 * outputSize (f .kind))) refl
   where
     go : (u : Bool) → leb (writesFrom f) h ≡ u → (v : Bool) → ltb h (writesFrom f + 2 * outputSize (f .kind)) ≡ v → Writes f h ⊎ (Writes f h → ⊥)

@@ -15,6 +15,7 @@ pub mod Blocks
 pub mod Output
 pub mod Run
 pub mod Lent
+pub mod Twins
 pub mod Places
 pub mod TextParts
 pub mod ReelPlaces
@@ -30,4 +31,5 @@ pub mod Taken
 pub mod Accepted
 pub mod Demand
 pub mod Said
+pub mod TwinWords
 pub mod Open
