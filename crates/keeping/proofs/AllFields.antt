@@ -31,10 +31,10 @@ module _ (fields : List Field) (count : ℕ) where
   abbrev pub planned : List RuleField
   planned = map fieldOf (take count fields)
 
-  field-at : (k : ℕ) → k < count → getD planned k (fieldOf noField) ≡ fieldOf (getD fields k noField)
+  pub field-at : (k : ℕ) → k < count → getD planned k (fieldOf noField) ≡ fieldOf (getD fields k noField)
   field-at k l = List·getD-map fieldOf (take count fields) k noField ∙ ap fieldOf (getD-take count fields k noField l)
 
-  length-planned : count ≤ length fields → length planned ≡ count
+  pub length-planned : count ≤ length fields → length planned ≡ count
   length-planned l = length-map (take count fields) fieldOf ∙ length-take-le count fields l
 
   -- after so many fields all are done

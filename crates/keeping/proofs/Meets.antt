@@ -1,17 +1,19 @@
--- What marks permit: two that meet permit what both do, a mark of one value permits one, and a mark comes back from its code. By cases on the
--- marks.
+-- What marks permit: two that meet permit what both do, a mark of one value permits one, which is its lowest, and a mark comes back from its
+-- code. By cases on the marks.
 use mathlib.Core.Path.{_≡_, refl, ap, _∙_}
 use mathlib.Core.Bool.{Bool, true, false, _&&_}
 use Prim.Native.Nat.{ℕ, _+_, _-_, _≤_, _<_}
 use native.Mathlib.Decide.{decLt}
 use native.Mathlib.Omega.{arith}
 use lib.Dec.{eqb}
-use borrow.Author.Tests.{le-leb, lt-leb, ne-eqb, eqb-true}
+use borrow.Author.Tests.{le-leb, lt-leb, eq-eqb, ne-eqb, eqb-true}
 use Rattle.rules.specs.Permitted.{digit, sign}
+use Rattle.rules.specs.Twins.{lowest}
 use Rattle.rules.proofs.Tests.{within-low, within-high}
 use Rattle.rules.proofs.PermittedLaws.{any-of}
-use Rattle.rules.proofs.MarkLaws.{count-only, count-past}
-use Rattle.keeping.specs.Marks.{markAllows, onlyIf, meetOf, choicesOf, codedOf, decodedOf, Says}
+use Rattle.rules.proofs.KeepingSteps.{first-here, first-nowhere}
+use Rattle.rules.proofs.MarkLaws.{count-only, count-past, first-alike}
+use Rattle.keeping.specs.Marks.{markAllows, onlyIf, meetOf, choicesOf, codedOf, decodedOf, Says, lowestOf}
 use Rattle.keeping.specs.declared.Mark.{Mark}
 use Rattle.keeping.specs.declared.Mark.the-variants.{Any, Digit, Sign, Only, Nothing}
 
@@ -24,6 +26,21 @@ choices-one w l = count-only w 16 (omega arith)
 pub choices-none : (w : ℕ) → 15 < w → choicesOf (Only w) ≡ 0
 unfolding choicesOf
 choices-none w l = count-past w 16 l
+
+-- ---- the lowest
+
+pub lowest-one : (w : ℕ) → w ≤ 15 → lowestOf (Only w) ≡ w
+unfolding lowestOf
+lowest-one w l = first-here (λ v. eqb v w) w 16 (omega arith) (λ v s. ne-eqb v w (λ e. omega arith)) (eq-eqb w w refl)
+
+pub lowest-none : (w : ℕ) → 15 < w → lowestOf (Only w) ≡ 16
+unfolding lowestOf
+lowest-none w l = first-nowhere (λ v. eqb v w) 16 (λ v s. ne-eqb v w (λ e. omega arith))
+
+-- a mark has the lowest of the halves that it permits
+pub lowest-says : (a : Mark) (q : ℕ → ℕ → Bool) (i : ℕ) → Says a (q i) → lowestOf a ≡ lowest q i
+unfolding lowestOf lowest
+lowest-says a q i says = first-alike (markAllows a) (q i) 0 16 (λ v l. says v (omega arith))
 
 -- ---- codes
 

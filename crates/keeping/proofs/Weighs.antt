@@ -11,6 +11,7 @@ use Rattle.rules.specs.Answer.{fine, refused, placeOf, _>>_, unless}
 use Rattle.rules.specs.Halves.{Field as RuleField, sources}
 use Rattle.rules.specs.Permitted.{permitted, choices}
 use Rattle.rules.specs.Keeping.{missing, lostHalf}
+use Rattle.rules.specs.Twins.{listed, lowest}
 use Rattle.rules.specs.Lent.{zoneF}
 use Rattle.rules.proofs.AnswerLaws.{fine-same}
 use Rattle.rules.proofs.Search.{first-most}
@@ -89,3 +90,6 @@ answer-once (Lost half) (Lost half′) e = ap Lost (ap (λ (n : ℕ × ℕ). n .
 
 pub only-one : (zone : ℕ) (fs : List RuleField) (n m : ℕ) (r q : Weighed) → answerOf r ≡ weighedOf zone fs n m → answerOf q ≡ weighedOf zone fs n m → r ≡ q
 only-one zone fs n m r q e f = answer-once r q (e ∙ sym f)
+
+pub only-one-lowest : (fs : List RuleField) (r q : List ℕ) → r ≡ listed (lowest (permitted zoneF fs)) 0 8192 → q ≡ listed (lowest (permitted zoneF fs)) 0 8192 → r ≡ q
+only-one-lowest fs r q e f = e ∙ sym f

@@ -7,7 +7,7 @@ use Prim.Native.Nat.{ℕ, _+_, _-_, _*_, _≤_, _<_}
 use lib.Dec.{leb, eqb}
 use lib.ListN.{length, getD}
 use Rattle.rules.specs.Halves.{readsFrom, readsMany, writesFrom, blank, fieldHalves, Source, from, constant, froms}
-use Rattle.rules.specs.Permitted.{digit, sign, any, count}
+use Rattle.rules.specs.Permitted.{digit, sign, any, count, firstOf}
 use Rattle.rules.specs.Lent.{zoneF}
 use Rattle.terms.specs.Meaning.{fieldOf}
 use Rattle.terms.specs.declared.Field.{Field}
@@ -76,6 +76,10 @@ askingOf Unpack input = 2 * input
 -- which values an array of marks, each by its code, permits in half i
 unfoldable pub permitsIn : List ℕ → ℕ → ℕ → Bool
 permitsIn marks i v = markAllows (decodedOf (getD marks i 0)) v
+
+-- the lowest value that a mark permits; 16 where it permits none
+unfoldable pub lowestOf : Mark → ℕ
+lowestOf a = firstOf (markAllows a) 0 16
 
 -- ---- sources
 

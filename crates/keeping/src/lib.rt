@@ -6,9 +6,10 @@ ghost use lib.ListN.{length, take, getD};
 ghost use Rattle.rules.specs.Halves.{Source, sources as sourcesBy};
 ghost use Rattle.rules.specs.Permitted.{kindAllows, permitted as permittedBy};
 ghost use Rattle.rules.specs.Keeping.{lostHalf};
+ghost use Rattle.rules.specs.Twins.{listed, lowest as lowestBy};
 ghost use Rattle.rules.specs.Lent.{zoneF};
 ghost use Rattle.terms.specs.Meaning.{fieldOf};
-ghost use Rattle.keeping.specs.Marks.{markAllows, onlyIf, meetOf, choicesOf, codedOf, decodedOf, Says, askingOf, permitsIn, Gives, Covers, Stand};
+ghost use Rattle.keeping.specs.Marks.{markAllows, onlyIf, meetOf, choicesOf, codedOf, decodedOf, Says, askingOf, permitsIn, lowestOf, Gives, Covers, Stand};
 ghost use Rattle.keeping.specs.Promise.{FairField, Fair, answerOf, barrenOf, weighedOf};
 use terms::Field;
 use terms::Kind;
@@ -379,4 +380,32 @@ pub fn weigh(fields: [Field; 64], count: usize, n: usize, m: usize) -> Weighed
         return Weighed::Lost { half: lost };
     }
     Weighed::Kept
+}
+
+// The lowest value that a mark permits; 16 where it permits none.
+fn lowest(a: Mark) -> u8
+    ensures { λ r. ⌜ r ≡ lowestOf a ⌝ }
+{
+    match a {
+        Mark::Any => 0,
+        Mark::Digit => 0,
+        Mark::Sign => 10,
+        Mark::Only(v) => { if v <= 15 { v } else { 16 } }
+        Mark::Nothing => 16,
+    }
+}
+
+// The lowest value that each half may have, for all fields: the marks, each of which gives way to its value.
+pub fn lowest_halves(fields: [Field; 64], count: usize) -> [u8; 8192]
+    requires { ⌜ Fair fields count 4096 4096 ⌝ }
+    ensures { λ r. ⌜ r ≡ listed (lowestBy (permittedBy zoneF (map fieldOf (take count fields)))) 0 8192 ⌝ }
+{
+    let mut values = permitted(fields, count);
+    let mut h = 0;
+    while h < 8192 {
+        let mark = decoded(values[h]);
+        values[h] = lowest(mark);
+        h += 1;
+    }
+    values
 }
