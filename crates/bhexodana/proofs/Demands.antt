@@ -1,9 +1,9 @@
--- The demands, of what the three exported functions promise (specs/Promise), for every deck, reel, table and output. Each holds since the promise is the rules'
+-- The demands, of what the four exported functions promise (specs/Promise), for every deck, reel, table and output. Each holds since the promise is the rules'
 -- answer, of which it is proved: the table of refusals, demand 3 and what the lent memory holds in rules/proofs/SaidLaws, what runs tell in Apart.
 use mathlib.Core.Path.{_≡_, refl, ap, sym, _∙_, subst}
 use mathlib.Core.Logic.{_⊎_, inl, inr}
 use mathlib.Core.Bool.{Bool, true, false}
-use mathlib.Core.List.{List, map}
+use mathlib.Core.List.{List, [], _∷_, map}
 use Prim.Native.Nat.{ℕ, _≤_}
 use native.Mathlib.Omega.{arith}
 use lib.Dec.{eqb}
@@ -12,24 +12,33 @@ use lib.Seq.{take-at}
 use borrow.Author.Tests.{eqb-true, eqb-false}
 use Rattle.rules.specs.Answer.{Answer, fine, refuse, refusedAt}
 use Rattle.rules.specs.Places.{All, Byte}
+use Rattle.rules.specs.Reel.{reelOf}
 use Rattle.rules.specs.Plan.{Plan, planAnswer}
-use Rattle.rules.specs.Rows.{Row}
+use Rattle.rules.specs.Output.{blockOf, outRecord}
+use Rattle.rules.specs.Rows.{Row, Done}
 use Rattle.rules.specs.Run.{Ran as RuleRan}
 use Rattle.rules.specs.Lent.{zoneF, plan, planInto, tableAfter, run, runAnswer, outputAfter}
 use Rattle.rules.specs.Said.{PlanSays, TableSays, RunSays}
+use Rattle.rules.specs.Twins.{twinsInto, twinsAnswer}
+use Rattle.rules.specs.TwinWords.{Shows, Told, TwinsSays}
 use Rattle.rules.specs.Taken.{Takes}
 use Rattle.rules.specs.ShortBlocks.{NeverRefused, Under, ReadsBack, RunGives}
 use Rattle.rules.specs.Grammar.{tc}
 use Rattle.rules.proofs.AnswerLaws.{fine-same}
 use Rattle.rules.proofs.SaidLaws.{plan-says, table-says, run-says}
+use Rattle.rules.proofs.PlanTable.{asks-once}
+use Rattle.rules.proofs.TwinSaid.{twins-says}
+use Rattle.rules.proofs.OneRecord.{ownRan}
+use Rattle.rules.proofs.Confused.{alone-runs}
 use Rattle.rules.proofs.Apart.{run-never-0, took, same-taken}
 use Rattle.rules.proofs.ShortBlockLaws.{run-gives}
 use Rattle.terms.specs.Meaning.{entryMeans}
 use Rattle.terms.specs.declared.Entry.{Entry}
 use Rattle.terms.proofs.Entries.{entries-hold}
-use Rattle.bhexodana.specs.Promise.{plannedOf, numbersOf, ranOf, runNumbers, PlanOf, PlannedInto, RanInto}
+use Rattle.bhexodana.specs.Promise.{numbersOf, ranOf, runNumbers, twinsNumbers, PlanOf, PlannedInto, RanInto, TwinsInto}
 use Rattle.bhexodana.specs.declared.Planned.{Planned}
 use Rattle.bhexodana.specs.declared.Ran.{Ran}
+use Rattle.bhexodana.specs.declared.Twins.{Twins}
 
 -- ---- one outcome only
 
@@ -44,6 +53,10 @@ only-one-into deck before r r′ after after′ w w′ = (w .answer ∙ sym (w�
 pub only-one-run : (deck reel before : List ℕ) (r r′ : Ran) (after after′ : List ℕ) → RanInto deck reel before r after → RanInto deck reel before r′ after′
     → (r ≡ r′) × (after ≡ after′)
 only-one-run deck reel before r r′ after after′ w w′ = (w .answer ∙ sym (w′ .answer), w .output ∙ sym (w′ .output))
+
+pub only-one-twins : (deck before : List ℕ) (r r′ : Twins) (after after′ : List ℕ) → TwinsInto deck before r after → TwinsInto deck before r′ after′
+    → (r ≡ r′) × (after ≡ after′)
+only-one-twins deck before r r′ after after′ w w′ = (w .answer ∙ sym (w′ .answer), w .output ∙ sym (w′ .output))
 
 -- ---- demands 1, 2 and 3, in words (rules/specs/Said)
 
@@ -69,6 +82,13 @@ pub run-demands : (deck reel before : List ℕ) (r : Ran) (after : List ℕ) →
 run-demands deck reel before r after a w =
     subst (λ (z : Ran). RunSays deck reel before (runNumbers z) after) (sym (w .answer))
     (subst (RunSays deck reel before (runAnswer (run (length before) deck reel))) (sym (w .output)) (run-says deck reel a before))
+
+-- of bhx_twins (document 02, order 3): refusal, place and column by the table; refused, reason and length are 0 and no lent byte changes; else the two records stand at
+-- the front of the output: the plan converts both, they differ in the lost half alone or by the byte behind, they have one output record, and the reason holds
+pub twins-demands : (deck before : List ℕ) (r : Twins) (after : List ℕ) → TwinsInto deck before r after → TwinsSays deck before (twinsNumbers r) after
+twins-demands deck before r after w =
+    subst (λ (z : Twins). TwinsSays deck before (twinsNumbers z) after) (sym (w .answer))
+    (subst (TwinsSays deck before (twinsAnswer (twinsInto (length before) deck))) (sym (w .output)) (twins-says deck before))
 
 -- ---- what was written
 
@@ -206,3 +226,41 @@ module _ (deck reel before : List ℕ) (r : Ran) (after : List ℕ) (a : All Byt
           go : (y : Answer RuleRan) → run (length before′) deck′ (x .0 .reel) ≡ y → runAnswer y .refusal ≡ n → ⊥
           go (fine b) d k = omega arith
           go (refuse b) d k = h (length before′) (b .place) (b .column) (d ∙ (λ i. refusedAt (k i) (b .place) (b .column)))
+
+-- ---- the two records of bhx_twins, run (document 02, order 3)
+
+-- the reel of one block that holds a record alone
+abbrev pub alone : Plan → List ℕ → List ℕ
+alone p r = reelOf (blockOf (p .format) (r ∷ []) ∷ [])
+
+module _ (deck before : List ℕ) (t : Twins) (after : List ℕ) (told : Told deck before (twinsNumbers t) after) (p : Plan) (e : plan deck ≡ fine p) (first : p .first ≡ 1)
+    (lent lent′ : List ℕ) (room : length lent ≡ 65536) (room′ : length lent′ ≡ 65536) (r r′ : Ran) (out out′ : List ℕ)
+    (w : RanInto deck (alone p (told .r)) lent r out) (w′ : RanInto deck (alone p (told .s)) lent′ r′ out′) where
+  -- with R1 bhx_run finishes over each of them alone, and writes one reel
+  pub twins-run : (r .refusal ≡ 0) × (r ≡ r′) × (reelIn r out ≡ reelIn r′ out′)
+  unfolding plan run
+  twins-run = (
+    ap (λ (x : Ran). x .refusal) is,
+    is ∙ sym is′,
+    front lent r out x is (w .output ∙ ap (outputAfter lent) runs) ∙ sym (front lent′ r′ out′ x is′ (w′ .output ∙ ap (outputAfter lent′) runs′)),
+  )
+    where
+      shows : Shows p (told .lost) (told .r) (told .s)
+      shows = subst (λ (q : Plan). Shows q (told .lost) (told .r) (told .s)) (asks-once zoneF deck Done p (told .p) e (told .asks)) (told .shows)
+
+      x : RuleRan
+      x = ownRan p (outRecord p (told .r))
+
+      runs : run (length lent) deck (alone p (told .r)) ≡ fine x
+      runs = ap (λ (k : ℕ). run k deck (alone p (told .r))) room ∙ alone-runs zoneF deck p e first (told .r) (shows .r-converts)
+
+      runs′ : run (length lent′) deck (alone p (told .s)) ≡ fine x
+      runs′ =
+          ap (λ (k : ℕ). run k deck (alone p (told .s))) room′ ∙ alone-runs zoneF deck p e first (told .s) (shows .s-converts)
+          ∙ ap (λ (o : List ℕ). fine (ownRan p o)) (sym (shows .outputs))
+
+      is : r ≡ ranOf (runAnswer (fine x))
+      is = w .answer ∙ ap (λ (y : Answer RuleRan). ranOf (runAnswer y)) runs
+
+      is′ : r′ ≡ ranOf (runAnswer (fine x))
+      is′ = w′ .answer ∙ ap (λ (y : Answer RuleRan). ranOf (runAnswer y)) runs′

@@ -5,12 +5,14 @@ use Prim.Native.Nat.{ℕ}
 use lib.ListN.{length}
 use Rattle.rules.specs.Plan.{PlanAnswer, planAnswer}
 use Rattle.rules.specs.Lent.{plan, planInto, tableAfter, run, RunAnswer, runAnswer, outputAfter}
+use Rattle.rules.specs.Twins.{twinsInto, TwinsAnswer, twinsAnswer, twinsAfter}
 use Rattle.terms.specs.Meaning.{entryMeans, entryFor}
 use Rattle.terms.specs.declared.Entry.{Entry}
 use Rattle.plans.specs.Promise.{tableOf, stored}
 use Rattle.bhexodana.specs.declared.Filling.{Filling}
 use Rattle.bhexodana.specs.declared.Planned.{Planned}
 use Rattle.bhexodana.specs.declared.Ran.{Ran}
+use Rattle.bhexodana.specs.declared.Twins.{Twins}
 
 -- ---- numbers
 
@@ -27,6 +29,13 @@ ranOf x = record { refusal = x .refusal; place = x .place; column = x .column; l
 
 abbrev pub runNumbers : Ran → RunAnswer
 runNumbers r = record { refusal = r .refusal; place = r .place; column = r .column; reelLength = r .length; records = r .records; blocks = r .blocks }
+
+-- and of twins
+abbrev pub twinsOf : TwinsAnswer → Twins
+twinsOf x = record { refusal = x .refusal; place = x .place; column = x .column; reason = x .reason; length = x .written }
+
+abbrev pub twinsNumbers : Twins → TwinsAnswer
+twinsNumbers r = record { refusal = r .refusal; place = r .place; column = r .column; reason = r .reason; written = r .length }
 
 abbrev pub refusedRun : ℕ → ℕ → ℕ → Ran
 refusedRun number place column = record { refusal = number; place = place; column = column; length = 0; records = 0; blocks = 0 }
@@ -46,6 +55,11 @@ pub record PlannedInto (deck : List ℕ) (before : List Entry) (r : Planned) (af
 pub record RanInto (deck reel before : List ℕ) (r : Ran) (after : List ℕ) : Type 0 where
   pub answer : r ≡ ranOf (runAnswer (run (length before) deck reel))
   pub output : after ≡ outputAfter before (run (length before) deck reel)
+
+-- bhx_twins: the answer, and the lent output afterwards
+pub record TwinsInto (deck before : List ℕ) (r : Twins) (after : List ℕ) : Type 0 where
+  pub answer : r ≡ twinsOf (twinsAnswer (twinsInto (length before) deck))
+  pub output : after ≡ twinsAfter before (twinsInto (length before) deck)
 
 -- ---- for the private functions
 

@@ -1,11 +1,11 @@
-// What users call: the plan of a deck, the plan into a table that the caller lends, and the run of a deck over a reel. Exported for C and
-// Fortran.
+// What users call: the plan of a deck, the plan into a table that the caller lends, the run of a deck over a reel, and the twins of a deck. Exported for C
+// and Fortran.
 use terms::Entry;
 ghost use mathlib.Core.Path.{_≡_};
 ghost use mathlib.Core.List.{_++_};
 ghost use Prim.Native.Nat.{_≤_};
 ghost use lib.ListN.{length, take, drop};
-ghost use Rattle.bhexodana.specs.Promise.{refusedRun, PlanOf, PlannedInto, RanInto, fillingOf};
+ghost use Rattle.bhexodana.specs.Promise.{refusedRun, PlanOf, PlannedInto, RanInto, TwinsInto, fillingOf};
 
 // What a plan answers: refusal, place, column, 1 for keeping or 0, lost place or 0, field count.
 #[repr(C)]
@@ -127,5 +127,30 @@ pub extern "C" fn bhx_run(deck: &[u8], reel: &[u8], out: &mut [u8]) -> Ran
         length: r.length,
         records: r.records,
         blocks: r.blocks,
+    }
+}
+
+// What is answered for twins: refusal, place, column, the reason, and how many bytes were written.
+#[repr(C)]
+pub struct Twins {
+    pub refusal: usize,
+    pub place: usize,
+    pub column: usize,
+    pub reason: usize,
+    pub length: usize,
+}
+
+// For a deck whose plan loses, two input records that it makes one, into an output that the caller lends. A refusal changes no byte.
+#[no_mangle]
+pub extern "C" fn bhx_twins(deck: &[u8], out: &mut [u8]) -> Twins
+    ensures { λ r. ⌜ TwinsInto (now (deck .entry)) (now (out .entry)) r (now (out .exit)) ⌝ }
+{
+    let t = twins::twins_of(deck, out);
+    Twins {
+        refusal: t.refusal,
+        place: t.place,
+        column: t.column,
+        reason: t.reason,
+        length: t.length,
     }
 }
