@@ -1,6 +1,6 @@
-"""Plans and runs drawn by chance, so many of each refusal; their answers are the converter's own."""
+"""Plans, runs and twins drawn by chance, so many of each refusal and reason; their answers are the converter's own."""
 from common import *
-import plans, re, runs
+import plans, re, runs, twins as of_twins
 
 LONGEST = 2400  # a longer line is left out: the files are many lines, not large ones
 
@@ -13,18 +13,24 @@ def short_inside(words):
     return 'FF' in deck and a is not None and any(q - p < int(a[1]) for p, q in zip(offsets, offsets[1:-1]))
 
 
+def sort_of(kind, answer):
+    """The refusal; where there is none, a run's that wrote the empty reel, and the reason of twins."""
+    if kind == 'run' and answer[:4] == ['0', '0', '0', '8']:
+        return 'empty'
+    return 'reason ' + answer[3] if kind == 'twins' and answer[0] == '0' else answer[0]
+
+
 def drawn(seed, count, kind, wanted, chosen_if=lambda words: True):
-    """The drawn cases of a kind, without names, so many of each refusal as are wanted, of those that are chosen."""
+    """The drawn cases of a kind, without names, so many of each sort as are wanted, of those that are chosen."""
     out = subprocess.run([CASES, str(seed), str(count), kind, '--large'], capture_output=True, text=True).stdout.split('\n')[:-1]
-    words_asked = 2 if kind == 'plan' else 3
+    words_asked = 3 if kind == 'run' else 2
     counts, chosen = {}, []
     for line in out:
         words = line.split()
-        answer = words[words_asked:]
-        sort = 'empty' if kind == 'run' and answer[:4] == ['0', '0', '0', '8'] else answer[0]
-        if counts.get(sort, 0) < wanted.get(sort, 0) and len(line) <= LONGEST and chosen_if(words):
+        case, sort = ' '.join([kind] + words[:words_asked]), sort_of(kind, words[words_asked:])
+        if counts.get(sort, 0) < wanted.get(sort, 0) and len(case) <= LONGEST and chosen_if(words):
             counts[sort] = counts.get(sort, 0) + 1
-            chosen.append(' '.join([kind] + words[:words_asked]))
+            chosen.append(case)
     assert counts == wanted, (counts, wanted)
     return chosen
 
@@ -35,7 +41,7 @@ def files_of(name, head, kind, chosen, label):
     each = -(-len(chosen) // count)
     files = []
     for number in range(1, count + 1):
-        f = File(name + ('_%d' % number if count > 1 else '') + '.txt', head + ['This file: %s drawn by chance.' % ('decks' if kind == 'plan' else 'decks and reels')])
+        f = File(name + ('_%d' % number if count > 1 else '') + '.txt', head + ['This file: %s drawn by chance.' % ('decks and reels' if kind == 'run' else 'decks')])
         for at in range(each * (number - 1), min(each * number, len(chosen))):
             f.case('%s-%d' % (label, at + 1), chosen[at], None)
         files.append(f)
@@ -51,3 +57,10 @@ def make():
     of_blocks = kept('drawn_blocks.txt') or drawn(1902, 9000, 'run', {'0': 160, 'empty': 10, '12': 90, '13': 30, '15': 30}, short_inside)
     return (files_of('drawn_plans', plans.HEAD, 'plan', of_plans, 'drawn-plan') + files_of('drawn_runs', runs.HEAD, 'run', of_runs, 'drawn-run')
             + files_of('drawn_blocks', runs.HEAD, 'run', of_blocks, 'drawn-block'))
+
+
+def twins():
+    refused = {str(number): 6 for number in range(1, 11)}
+    chosen = kept('drawn_twins.txt') or drawn(
+        1964, 6000, 'twins', {'reason 1': 45, 'reason 2': 70, 'reason 3': 60, 'reason 4': 25, **refused, '15': 24, '16': 24})
+    return files_of('drawn_twins', of_twins.HEAD, 'twins', chosen, 'drawn-twins')

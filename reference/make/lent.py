@@ -1,4 +1,4 @@
-"""The answers to plans and runs, worked apart from the converter: the memory that was lent, and its digest."""
+"""The answers to plans, runs and twins, worked apart from the converter: the memory that was lent, and its digest."""
 from common import *
 
 PATTERN = [((i + 7) % 256, i + 1000, i + 2000, i + 3000, i + 4000) for i in range(70)]
@@ -20,6 +20,11 @@ def table_digest(fields):
 
 
 NOTHING_WRITTEN = digest(BYTES)
+
+
+def written(data):
+    """The digest of the output that begins with these bytes, and the bytes where they are few."""
+    return '%d %s' % (digest(data + BYTES[len(data):]), data.hex().upper() if len(data) <= 64 else '..')
 
 
 def deck(u, *fs):
@@ -51,9 +56,16 @@ class Plans(File):
         self.case(name, 'plan %s %s' % (runs(text.encode('latin-1')), lent), answer + ' ' + after, why)
 
 
-class Runs(File):
+class Outputs(File):
     said = ''  # the deck of the case before, shown once where several in a row have it
 
+    def say(self, text):
+        if text != self.said and len(text) <= 260:
+            self.note(shown(text.encode('latin-1')))
+        self.said = text
+
+
+class Runs(Outputs):
     def agrees(self, expected, answer):
         # a whole line has eight words, the last of them two dots where the reel is long
         if len(expected.split()) == 8 and '?' not in expected:
@@ -62,8 +74,7 @@ class Runs(File):
 
     def done(self, name, text, reel, out, records, blocks, why, room=None):
         """A run that writes the reel `out`; the room is exact where none is given."""
-        shown_reel = out.hex().upper() if len(out) <= 64 else '..'
-        answer = '0 0 0 %d %d %d %d %s' % (len(out), records, blocks, digest(out + BYTES[len(out):]), shown_reel)
+        answer = '0 0 0 %d %d %d %s' % (len(out), records, blocks, written(out))
         self.run(name, text, reel, len(out) if room is None else room, answer, why)
 
     def refused(self, name, text, reel, number, place, why, room=70000):
@@ -71,7 +82,27 @@ class Runs(File):
         self.run(name, text, reel, room, answer, why + ': %d at %d' % (number, place))
 
     def run(self, name, text, reel, room, answer, why):
-        if text != self.said and len(text) <= 260:
-            self.note(shown(text.encode('latin-1')))
-        self.said = text
+        self.say(text)
         self.case(name, 'run %s %s %d' % (runs(text.encode('latin-1')), runs(reel), room), answer, why)
+
+
+REASONS = ['', 'never read', 'dropped by a short field', 'covered later', 'tail']
+
+
+class Twins(Outputs):
+    def agrees(self, expected, answer):
+        return answer == expected
+
+    def pair(self, name, text, reason, one, other, why, room=None):
+        """The two records that are written; the room is exact where none is given."""
+        both = one + other
+        answer = '0 0 0 %d %d %s' % (reason, len(both), written(both))
+        self.twins(name, text, len(both) if room is None else room, answer, '%s: %s' % (why, REASONS[reason]))
+
+    def refused(self, name, text, number, place, why, room=70000, column=0):
+        answer = '%d %d %d 0 0 %d -' % (number, place, column, NOTHING_WRITTEN)
+        self.twins(name, text, room, answer, why + ': %d at %d' % (number, place) + (', column %d' % column if column else ''))
+
+    def twins(self, name, text, room, answer, why):
+        self.say(text)
+        self.case(name, 'twins %s %d' % (runs(text.encode('latin-1')), room), answer, why)

@@ -1,5 +1,5 @@
 """All case files of `crates/answers`, their names in `args` and the lines that are expected in `stdout`."""
-import columns, decks, drawn, halves, manual, plans, reels, runs, os
+import columns, decks, drawn, halves, manual, plans, reels, runs, twins, os
 from common import ROOT
 
 
@@ -12,7 +12,7 @@ def tally(subject, files, lines):
 
 of_manual = manual.make()
 files = [halves.make(), decks.lines(), decks.order(), decks.operands(), decks.limits(), columns.make(), of_manual, manual.drawn(), reels.edges(), reels.blocks(), reels.drawn(),
-         plans.make(of_manual.decks), runs.make()] + drawn.make()
+         plans.make(of_manual.decks), runs.make()] + drawn.make() + [twins.make()] + drawn.twins()
 names = set()
 stdout = []
 for f in files:
@@ -23,5 +23,6 @@ open(os.path.join(ROOT, 'stdout'), 'w').write('\n'.join(stdout) + '\n')
 open(os.path.join(ROOT, 'args'), 'w').write('\n'.join(f.name for f in files) + '\n')
 print(tally('plan', files, stdout))
 print(tally('run', files, stdout))
+print(tally('twins', files, stdout))
 print(len(stdout), 'cases', sum(os.path.getsize(os.path.join(ROOT, 'data', f.name)) for f in files), 'bytes of data', os.path.getsize(os.path.join(ROOT, 'stdout')), 'bytes of stdout')
 raise SystemExit(1 if any(f.differ for f in files) else 0)

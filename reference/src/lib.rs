@@ -1,4 +1,4 @@
-//! A second writing of document 01 ("the paper") and order 1 of document 02, to compare other definitions with.
+//! A second writing of document 01 ("the paper") and orders 1 to 3 of document 02, to compare other definitions with.
 //!
 //! One module for each part of the paper. Nothing here is made to be fast.
 
@@ -13,10 +13,12 @@ pub mod permitted;
 pub mod plan;
 pub mod reel;
 pub mod run;
+pub mod twins;
 
 pub use halves::{pack, unpack};
 pub use plan::{plan, plan_into, Entry, Planned};
 pub use run::{run, Ran};
+pub use twins::{twins, Twins};
 
 /// A refusal number of the paper's table, its place, and for 3, 4 and 7 the column on that card; 0 for all others.
 #[derive(Clone, Copy, Debug, PartialEq, Eq)]

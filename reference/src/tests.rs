@@ -296,6 +296,49 @@ fn variable_records() {
     refused(&deck("TF", 17, ""), &short, 12, 1);
 }
 
+/// The twins of a deck are these two records, for this reason, in a room of just their length and not in less.
+fn twins_are(deck: &str, reason: usize, one: &str, other: &str) {
+    let records = hex(&(one.to_string() + other));
+    let length = records.len();
+    let expected = Twins { reason, length, records, ..Twins::default() };
+    assert_eq!(twins(deck.as_bytes(), length), expected);
+    assert_eq!(twins(deck.as_bytes(), 70_000), expected);
+    let short = Twins { refusal: 15, place: length, ..Twins::default() };
+    assert_eq!(twins(deck.as_bytes(), length - 1), short);
+    assert_eq!(twins(deck.as_bytes(), 0), short);
+}
+
+#[test]
+fn twins_of_the_sample() {
+    twins_are(SIX, 2, "00000000 F0F0F0A0", "00000000 F1F0F0A0");
+    let keeping = Twins { refusal: 16, ..Twins::default() };
+    assert_eq!(twins(FIRST.as_bytes(), 70_000), keeping);
+    assert_eq!(twins(FIRST.as_bytes(), 0), keeping);
+}
+
+#[test]
+fn reasons_where_several_fields_read_the_half() {
+    let two = |fs: &str| format!("// U TRF,FF,A=(2,2),B=(2,2)\n// FS {fs}\n// END");
+    twins_are(&two("1,2,1/1,(U,2,1),1"), 2, "000A", "100A");
+    twins_are(&two("1,(U,2,1),1/1,2,1/2,1,1"), 3, "000A", "100A");
+    twins_are(&two("1,2,1/2,1,1/1,(U,2,1),1"), 2, "000A", "100A");
+}
+
+#[test]
+fn each_reason_and_the_lowest_values() {
+    let three = |fs: &str| format!("// U TF,FF,A=(3,3),B=(3,3)\n// FS {fs}\n// END");
+    twins_are(&three("1,1,1/3,1,2"), 1, "000000", "001000");
+    twins_are(&three("1,(P,3,1),1"), 2, "F0F0A0", "F1F0A0");
+    twins_are(&three("1,(P,2,1),1/2,(P,2,2),2"), 2, "F0F0A0", "F1F0A0");
+    twins_are(&three("1,1,1/2,(P,2,2),2/1,1,3"), 3, "00F0A0", "00F0B0");
+    twins_are(&three("1,1,2/2,(U,2,3),1/1,1,3"), 3, "00000A", "00001A");
+    let tail = |fs: &str| format!("// U TF,FV,A=(2,11),B=(2,10),R9\n// FS {fs}\n// END");
+    twins_are(&tail("1,2,1"), 4, "0000", "000000");
+    twins_are(&tail("1,(P,2,2),1"), 4, "F0A0", "F0A000");
+    twins_are(&tail("CV"), 1, "0000", "1000");
+    twins_are(&tail("1,1,1"), 1, "0000", "0010");
+}
+
 #[test]
 fn keeping_is_what_the_outputs_show() {
     let items = ["1,1,1", "2,2,2", "3,1,1", "1,(P,3,2),2", "1,(P,2,1),4", "2,(P,2,3),1",

@@ -1,4 +1,4 @@
-// Answers cases from files, a line for each; the lines that are expected are worked from document 01.
+// Answers cases from files, a line for each; the lines that are expected are worked from documents 01 and 02.
 //
 // The arguments name the files. A case is one line of words with one blank between; a line that begins with `#` is a comment.
 //   NAME half pack|unpack SOURCE M    what M bytes of hex 5A hold once SOURCE was packed or unpacked into them
@@ -8,6 +8,8 @@
 //                                     the first ENTRIES were lent. ENTRIES `-`: no table, and `-` for the digest
 //   NAME run DECK REEL ROOM           refusal, place, column, length, records and blocks; the digest of an output of 70,000 bytes of which the first
 //                                     ROOM were lent; and the reel written, `..` where it has over 64 bytes, `-` where the run was refused
+//   NAME twins DECK ROOM              refusal, place, column, reason and length; the digest of an output of 70,000 bytes of which the first ROOM were
+//                                     lent; and the two records, `..` where they have over 64 bytes, `-` where the call was refused
 // Bytes are hex digits, or xCOUNT:HH for COUNT bytes HH, in parts joined by `+`; `-` is no byte.
 mod asked;
 mod digest;
@@ -16,6 +18,7 @@ mod reel;
 mod run;
 mod say;
 mod text;
+mod twins;
 
 ghost use mathlib.Core.Path.{_≡_};
 ghost use lib.ListN.{length};
@@ -105,6 +108,15 @@ fn deck_and_output(words: &[u8]) {
     run::tell(&deck[..n], &reel[..m], &mut out, lent);
 }
 
+fn deck_and_records(words: &[u8]) {
+    let mut deck = room();
+    let n = text::decode(text::before(words, b' '), &mut deck);
+    let mut out = room();
+    run::mark(&mut out);
+    let lent = text::count(text::after(words, b' '), &out);
+    twins::tell(&deck[..n], &mut out, lent);
+}
+
 fn case(line: &[u8]) {
     say::words(text::before(line, b' '));
     say::words(b" ");
@@ -121,6 +133,8 @@ fn case(line: &[u8]) {
         deck_and_table(words);
     } else if same(subject, b"run") {
         deck_and_output(words);
+    } else if same(subject, b"twins") {
+        deck_and_records(words);
     } else {
         say::words(b"is no case");
     }

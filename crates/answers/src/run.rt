@@ -21,19 +21,6 @@ fn tell_answer(answer: Ran) {
     say::labelled(b" ", answer.blocks);
 }
 
-// The reel that was written, in hex where it is short.
-fn tell_reel(answer: Ran, out: &[u8]) {
-    if answer.refusal != 0 {
-        say::words(b"-");
-        return;
-    }
-    if answer.length > 64 {
-        say::words(b"..");
-        return;
-    }
-    say::bytes(text::first(out, answer.length));
-}
-
 // The run of a deck over a reel into the first bytes of an output that was marked.
 pub(crate) fn tell(deck: &[u8], reel: &[u8], out: &mut [u8], lent: usize)
     requires { ⌜ Counts lent (now out) ⌝ }
@@ -42,5 +29,5 @@ pub(crate) fn tell(deck: &[u8], reel: &[u8], out: &mut [u8], lent: usize)
     tell_answer(answer);
     say::labelled(b" ", digest::of_bytes(out));
     say::words(b" ");
-    tell_reel(answer, out);
+    say::written(answer.refusal, text::first(out, answer.length));
 }

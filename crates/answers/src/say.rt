@@ -46,3 +46,16 @@ pub(crate) fn bytes(s: &[u8]) {
         i += 1;
     }
 }
+
+// What a call wrote, in hex where it is short; `-` where it was refused.
+pub(crate) fn written(refusal: usize, s: &[u8]) {
+    if refusal != 0 {
+        words(b"-");
+        return;
+    }
+    if s.len() > 64 {
+        words(b"..");
+        return;
+    }
+    bytes(s);
+}

@@ -14,16 +14,21 @@ mod draft;
 mod faults;
 #[path = "../cases/large.rs"]
 mod large;
+#[cfg(test)]
+#[path = "../cases/pairs.rs"]
+mod pairs;
 #[path = "../cases/reels.rs"]
 mod reels;
 #[path = "../cases/text.rs"]
 mod text;
+#[path = "../cases/twins.rs"]
+mod twins;
 
 use std::collections::BTreeMap;
 use std::io::Write;
 
 use chance::Chance;
-use reference::{pack, plan, plan_into, run, unpack, Entry, Refused};
+use reference::{pack, plan, plan_into, run, unpack, Entry, Refused, Twins};
 
 /// What is asked, what is answered, the refusal number in it, and what it shows.
 struct Case {
@@ -113,6 +118,19 @@ fn deck_case(chance: &mut Chance, aim: usize, _large: bool) -> Case {
     Case { asked: hex(&deck), answered, refusal: number, marks }
 }
 
+fn twins_case(chance: &mut Chance, aim: usize, large: bool) -> Case {
+    let deck = twins::deck(chance, aim, large);
+    let room = twins::room(chance, &deck, aim);
+    let answer = reference::twins(&deck, room);
+    let mut marks = if answer.refusal == 0 { aim::marks(&deck) } else { vec![] };
+    marks.extend(twins::marks(&answer));
+    marks.extend(aim::heavy(&deck).then_some("heavy"));
+    let Twins { refusal, place, column, reason, length, records } = answer;
+    let asked = format!("{} {room}", hex(&deck));
+    let answered = format!("{refusal} {place} {column} {reason} {length} {}", hex(&records));
+    Case { asked, answered, refusal, marks }
+}
+
 fn half_case(chance: &mut Chance) -> Case {
     let packs = chance.one_in(2);
     let (n, m) = (chance.range(1, 16), chance.range(1, 16));
@@ -138,6 +156,10 @@ fn any_aim(chance: &mut Chance, kind: &str) -> usize {
     if kind == "deck" {
         return chance.pick(&[3, 3, 3, 4, 4, 7, 7]);
     }
+    if kind == "twins" {
+        let refused = [1, 2, 3, 4, 5, 6, 7, 8, 9, 10, 15, 15, 16, 16, 16];
+        return if chance.one_in(3) { chance.pick(&refused) } else { 0 };
+    }
     if chance.below(100) < 42 {
         return 0;
     }
@@ -155,6 +177,7 @@ fn case(chance: &mut Chance, kind: &str, large: bool) -> Case {
     let draw = match kind {
         "plan" => plan_case,
         "run" => run_case,
+        "twins" => twins_case,
         _ => deck_case,
     };
     if large && chance.one_in(10) {
@@ -193,8 +216,8 @@ fn main() {
         std::env::args().skip(1).partition(|argument| argument.starts_with("--"));
     let numbers = (plain.first().and_then(|s| s.parse().ok()), plain.get(1).and_then(|s| s.parse().ok()));
     let kind = plain.get(2).map_or("", String::as_str);
-    let ((Some(seed), Some(count)), "plan" | "run" | "deck" | "half") = (numbers, kind) else {
-        eprintln!("cases SEED COUNT plan|run|deck|half [--tally] [--large] [--ask]");
+    let ((Some(seed), Some(count)), "plan" | "run" | "deck" | "twins" | "half") = (numbers, kind) else {
+        eprintln!("cases SEED COUNT plan|run|deck|twins|half [--tally] [--large] [--ask]");
         std::process::exit(2);
     };
     let count: usize = count;

@@ -1,8 +1,8 @@
 //! The expected lines of case files: `expect FILE..`, one line for each case.
 //!
 //! A case is `NAME half pack|unpack SRC M`, `NAME deck DECK`, `NAME reel DECK REEL`,
-//! `NAME plan DECK ENTRIES` or `NAME run DECK REEL ROOM`; bytes are hex, or `xCOUNT:HH` for COUNT
-//! bytes HH, joined by `+`, and `-` for none; `#` starts a comment.
+//! `NAME plan DECK ENTRIES`, `NAME run DECK REEL ROOM` or `NAME twins DECK ROOM`; bytes are hex, or
+//! `xCOUNT:HH` for COUNT bytes HH, joined by `+`, and `-` for none; `#` starts a comment.
 
 #[path = "../expect/asked.rs"]
 mod asked;
@@ -12,7 +12,7 @@ mod lent;
 mod text;
 
 use asked::{asked, said};
-use lent::{plan_line, run_line};
+use lent::{plan_line, run_line, twins_line};
 use reference::plan::accepted;
 use reference::{blocks, pack, reel, unpack, Refused};
 use text::{bytes, hex};
@@ -59,6 +59,7 @@ fn expected(case: &str) -> String {
         ["reel", text, input] => reading(&bytes(text), &bytes(input)).unwrap_or_else(refused),
         ["plan", text, entries] => plan_line(&bytes(text), entries),
         ["run", text, input, room] => run_line(&bytes(text), &bytes(input), room.parse().expect("a room")),
+        ["twins", text, room] => twins_line(&bytes(text), room.parse().expect("a room")),
         _ => panic!("no case: {case}"),
     };
     format!("{} {answer}", words[0])

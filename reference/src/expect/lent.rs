@@ -1,16 +1,16 @@
-//! Plans and runs that are lent memory: it holds a pattern before the call, and a digest of all of it is told after.
+//! Plans, runs and twins that are lent memory: it holds a pattern before the call, and a digest of all of it is told after.
 
-use reference::{plan, plan_into, run, Entry, Planned, Ran};
+use reference::{plan, plan_into, run, twins, Entry, Planned, Ran, Twins};
 
 use crate::text::hex;
 
 /// The table that a plan is lent the first entries of.
 const ENTRIES: usize = 70;
 
-/// The output that a run is lent the first bytes of.
+/// The output that a run, or twins, is lent the first bytes of.
 const BYTES: usize = 70_000;
 
-/// The longest reel that is shown whole.
+/// The most written bytes that are shown.
 const SHOWN: usize = 64;
 
 /// The digest of numbers in order: d = (257 d + x + 1) mod 2,147,483,647, from 0.
@@ -49,25 +49,37 @@ pub fn plan_line(deck: &[u8], entries: &str) -> String {
     planned(answer, &digest(table.iter().flat_map(numbers)).to_string())
 }
 
-/// The reel that a finished run wrote, if it is short; nothing was written where it was refused.
-fn shown(refusal: usize, reel: &[u8]) -> String {
-    match (refusal, reel.len()) {
-        (0, ..=SHOWN) => hex(reel),
+/// What was written, if it is short; nothing was where it was refused.
+fn shown(refusal: usize, written: &[u8]) -> String {
+    match (refusal, written.len()) {
+        (0, ..=SHOWN) => hex(written),
         (0, _) => "..".to_string(),
         _ => "-".to_string(),
     }
 }
 
+/// The digest of the whole output, and what was written at its start.
+fn digest_and_shown(refusal: usize, written: &[u8]) -> String {
+    let mut output = output();
+    output[..written.len()].copy_from_slice(written);
+    let digest = digest(output.into_iter().map(usize::from));
+    format!("{digest} {}", shown(refusal, written))
+}
+
 /// The answer of a run with so many bytes of the output lent to it.
 pub fn run_line(deck: &[u8], reel: &[u8], room: usize) -> String {
     assert!(room <= BYTES, "a room over {BYTES}");
-    let ran = run(deck, reel, room);
-    let mut output = output();
-    output[..ran.reel.len()].copy_from_slice(&ran.reel);
-    let digest = digest(output.into_iter().map(usize::from));
-    let shown = shown(ran.refusal, &ran.reel);
-    let Ran { refusal, place, column, length, records, blocks, .. } = ran;
-    format!("{refusal} {place} {column} {length} {records} {blocks} {digest} {shown}")
+    let Ran { refusal, place, column, length, records, blocks, reel } = run(deck, reel, room);
+    let written = digest_and_shown(refusal, &reel);
+    format!("{refusal} {place} {column} {length} {records} {blocks} {written}")
+}
+
+/// The answer of twins with so many bytes of the output lent to them.
+pub fn twins_line(deck: &[u8], room: usize) -> String {
+    assert!(room <= BYTES, "a room over {BYTES}");
+    let Twins { refusal, place, column, reason, length, records } = twins(deck, room);
+    let written = digest_and_shown(refusal, &records);
+    format!("{refusal} {place} {column} {reason} {length} {written}")
 }
 
 #[cfg(test)]
@@ -120,11 +132,27 @@ mod tests {
         assert_eq!(run_line(FIRST, b"", 70_000), "11 0 0 0 0 0 293385196 -");
     }
 
+    /// The digest of what was written stands on the pattern behind it.
+    #[test]
+    fn twins_and_their_rooms() {
+        let six = b"// UTT TRF,FF,A=(8,16),B=(6,6)\n// FS 1,4,1/5,(P,4,2),5\n// END\n";
+        let written = [0, 0, 0, 0, 0xF0, 0xF0, 0xF0, 0xA0, 0, 0, 0, 0, 0xF1, 0xF0, 0xF0, 0xA0];
+        let after = written.into_iter().chain((16..70_000).map(|i| i % 251));
+        let line = format!("0 0 0 2 16 {} 00000000F0F0F0A000000000F1F0F0A0", digest(after));
+        assert_eq!(twins_line(six, 16), line);
+        assert_eq!(twins_line(six, 70_000), line);
+        assert_eq!(twins_line(six, 15), "15 16 0 0 0 293385196 -");
+        assert_eq!(twins_line(FIRST, 0), "16 0 0 0 0 293385196 -");
+        assert_eq!(twins_line(b"// U TC,x\n// END", 0), "3 1 9 0 0 293385196 -");
+        let long = b"// U TF,FF,A=(33,33),B=(1,1)\n// FS 1,1,1\n// END\n";
+        assert!(twins_line(long, 66).starts_with("0 0 0 1 66 ") && twins_line(long, 66).ends_with(" .."));
+    }
+
     #[test]
     fn reels_of_64_bytes_are_shown() {
         let copy = b"// U TC,FU,A=(99),B=(99)\n// END\n";
         let reel = |size: usize| reference::reel::write(&[vec![0xC1; size]]);
-        let last = |size| run_line(copy, &reel(size), 70_000).split(' ').last().map(str::to_string);
+        let last = |size| run_line(copy, &reel(size), 70_000).split(' ').next_back().map(str::to_string);
         assert_eq!(last(52), Some(hex(&reel(52))));
         assert_eq!(last(53), Some("..".to_string()));
     }
