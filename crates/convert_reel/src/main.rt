@@ -1,9 +1,6 @@
 // Converts a reel as a deck asks: convert_reel DECK REEL OUT. Prints one line: refusal, place, length, records, blocks. OUT is written only
 // where the run is finished. What is refused, what the plan of a finished run loses, and a file that cannot be read or written, is said in
 // plain words on standard error; such a file gives no line.
-mod given;
-mod output;
-
 ghost use mathlib.Core.Path.{_≡_};
 ghost use lib.ListN.{length};
 
@@ -28,7 +25,7 @@ fn convert(deck: &[u8], reel: &[u8], out: &[u8]) {
         return;
     }
     let n = ran.length;
-    if output::write(out, &room[..n]) {
+    if files::write(out, &room[..n]) {
         notices::line(&[0, 0, n, ran.records, ran.blocks]);
         notices::loss(plans::plan_deck(deck));
     }
@@ -36,12 +33,12 @@ fn convert(deck: &[u8], reel: &[u8], out: &[u8]) {
 
 fn convert_files(deck: &[u8], reel: &[u8], out: &[u8]) {
     let mut cards = io::large_buffer();
-    let read = given::deck(deck, &mut cards);
+    let read = files::deck(deck, &mut cards);
     if read.failed {
         return;
     }
     let mut blocks = reel_room();
-    let filled = given::reel(reel, &mut blocks);
+    let filled = files::reel(reel, &mut blocks);
     if filled.failed {
         return;
     }
@@ -57,11 +54,11 @@ fn convert_files(deck: &[u8], reel: &[u8], out: &[u8]) {
 
 fn convert_named() {
     let mut deck = io::buffer();
-    let n = given::name(1, &mut deck);
+    let n = files::name(1, &mut deck);
     let mut reel = io::buffer();
-    let m = given::name(2, &mut reel);
+    let m = files::name(2, &mut reel);
     let mut out = io::buffer();
-    let k = given::name(3, &mut out);
+    let k = files::name(3, &mut out);
     if n > 0 && m > 0 && k > 0 {
         convert_files(&deck[..n], &reel[..m], &out[..k]);
     }

@@ -8,8 +8,8 @@ use mir.Syntax.{w32, w64}
 use mir.Val.{toZ, ofZ}
 use mir.Facts.{fits-natAbs, sfits-toZ, fits-ofZ}
 use borrow.Author.Needs.{needs}
-use Rattle.convert_reel.proofs.output.process.Statement.{statement}
-use Rattle.convert_reel.proofs.output.process.Tie as tie
+use Rattle.files.proofs.output.process.Statement.{statement}
+use Rattle.files.proofs.output.process.Tie as tie
 
 not-below : (z : ℤ) → ltZ z (pos 0) ≡ false → T (nonNeg z)
 not-below (pos n) e = tt

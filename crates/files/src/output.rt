@@ -5,7 +5,7 @@ ghost use lib.ListN.{length};
 ghost use Rattle.io.specs.Counts.{Counts};
 
 // Puts the text into the room from a place on, as much of it as goes in, and answers where it ends.
-fn put(room: &mut [u8], from: usize, text: &[u8]) -> usize
+pub fn put(room: &mut [u8], from: usize, text: &[u8]) -> usize
     requires { ⌜ from ≤ length (now room) ⌝ }
     ensures { λ r. ⌜ Counts r (now (room .exit)) ⌝ }
 {
@@ -101,7 +101,7 @@ fn is_special(path: &[u8]) -> bool {
 }
 
 // Whether the file now holds these bytes. Otherwise what had its name still has it.
-pub(crate) fn write(path: &[u8], bytes: &[u8]) -> bool {
+pub fn write(path: &[u8], bytes: &[u8]) -> bool {
     if is_special(path) {
         notices::say(path);
         notices::say(b": is a device or a pipe, and no file takes its place\n");

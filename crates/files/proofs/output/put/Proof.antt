@@ -4,8 +4,8 @@ use mathlib.Core.Path.{_≡_}
 use lib.ListN.{length}
 use borrow.Author.Needs.{needs}
 use Rattle.io.proofs.Counting.{counts}
-use Rattle.convert_reel.proofs.output.put.Statement.{statement}
-use Rattle.convert_reel.proofs.output.put.Tie as tie
+use Rattle.files.proofs.output.put.Statement.{statement}
+use Rattle.files.proofs.output.put.Tie as tie
 
 abbrev Inv-loop : tie.InvT-loop
 Inv-loop room₀ from text i₀ room i = (from + i ≤ length room₀) × (length room ≡ length room₀)

@@ -4,7 +4,7 @@ use inputs::DeckRead;
 use inputs::Filled;
 
 // Puts the name that an argument gives into the room and answers its length, or 0 where it is no name.
-pub(crate) fn name(argument: usize, room: &mut [u8]) -> usize
+pub fn name(argument: usize, room: &mut [u8]) -> usize
     ensures { λ r. ⌜ Counts r (now (room .exit)) ⌝ }
 {
     let n = os::arg(argument, room);
@@ -26,7 +26,7 @@ fn open(path: &[u8]) -> i32 {
 }
 
 // The deck in a file.
-pub(crate) fn deck(path: &[u8], room: &mut [u8; 65536]) -> DeckRead
+pub fn deck(path: &[u8], room: &mut [u8; 65536]) -> DeckRead
     ensures { λ r. ⌜ Counts (r .length) (now (room .exit)) ⌝ }
 {
     let fd = open(path);
@@ -47,7 +47,7 @@ pub(crate) fn deck(path: &[u8], room: &mut [u8; 65536]) -> DeckRead
 }
 
 // The first bytes of a file, as many as the room takes.
-pub(crate) fn reel(path: &[u8], room: &mut [u8]) -> Filled
+pub fn reel(path: &[u8], room: &mut [u8]) -> Filled
     ensures { λ r. ⌜ Counts (r .length) (now (room .exit)) ⌝ }
 {
     let fd = open(path);

@@ -1,0 +1,10 @@
+// Files as programs use them: what their arguments name, a deck or a reel that is read, and a file that is written whole or not at all. What
+// fails is said on standard error.
+mod given;
+mod output;
+
+pub use given::deck;
+pub use given::name;
+pub use given::reel;
+pub use output::put;
+pub use output::write;
