@@ -1,6 +1,6 @@
 // What programs tell people: the line of numbers on standard output, and in plain words on standard error what was refused, where, and
 // what to look at, or what a plan loses. The words of refusals 1 to 10 stand in `deck`, what they say of a card with a column in `card`, and the words of 11 to
-// 15 in `reel`.
+// 15 in `reel`; 16, by which a plan that keeps has no twins, is said here.
 mod card;
 mod deck;
 mod reel;
@@ -14,7 +14,7 @@ pub fn say(text: &[u8]) {
     io::write_all(STDERR_FILENO, text);
 }
 
-fn number(n: usize) {
+pub fn number(n: usize) {
     io::print_decimal(STDERR_FILENO, n as u64);
 }
 
@@ -34,15 +34,20 @@ pub fn line(numbers: &[usize]) {
 }
 
 // Half 2i is the high half of data byte i, from 0; people count bytes from 1.
+pub fn half_of_byte(place: usize) {
+    if place % 2 == 0 {
+        say(b"the high half of byte ");
+    } else {
+        say(b"the low half of byte ");
+    }
+    number(place / 2 + 1);
+}
+
 fn half(place: usize) {
     say(b"half byte ");
     number(place);
-    if place % 2 == 0 {
-        say(b", the high half of byte ");
-    } else {
-        say(b", the low half of byte ");
-    }
-    number(place / 2 + 1);
+    say(b", ");
+    half_of_byte(place);
     say(b" of the input record");
 }
 
@@ -52,6 +57,8 @@ pub fn refused(deck: &[u8], refusal: usize, place: usize, column: usize) {
     number(refusal);
     if refusal < 11 {
         deck::explain(deck, refusal, place, column);
+    } else if refusal == 16 {
+        say(b": the plan keeps: no two records become alike, so there are no twins to show");
     } else {
         reel::explain(refusal, place);
     }
@@ -78,5 +85,6 @@ pub fn loss(plan: Planned) {
         let asked = plan.asked;
         let input = asked.input;
         lost(combinations::record_length(input), plan.lost);
+        say(b"'./bhexodana twins DECK' shows two such records\n");
     }
 }

@@ -1,0 +1,74 @@
+// Why the twins become alike, in words: the reason is that of the last field that reads the lost half.
+use crate::fields;
+use crate::fields::Side;
+use notices::half_of_byte;
+use notices::number;
+use notices::say;
+use terms::Asked;
+
+// The number of the last field that reads a half, or 0.
+fn last_reader(asked: Asked, half: usize) -> usize {
+    let fields = asked.fields;
+    fields::last_over(fields, asked.count, Side::Input, half / 2 + 1)
+}
+
+fn not_read(lost: usize) {
+    say(b"no field reads ");
+    half_of_byte(lost);
+}
+
+fn say_digits(count: usize) {
+    number(count);
+    if count == 1 {
+        say(b" digit");
+    } else {
+        say(b" digits");
+    }
+}
+
+fn dropped(asked: Asked, lost: usize) {
+    let reader = last_reader(asked, lost);
+    let fields = asked.fields;
+    fields::say_field(asked, reader);
+    say(b", has room for ");
+    say_digits(fields::digits(fields::numbered(fields, reader)));
+    say(b": the digit in ");
+    half_of_byte(lost);
+    say(b" is dropped");
+}
+
+// The field that covers the half writes its byte last, so that it comes behind the one that reads it.
+fn covered(asked: Asked, lost: usize) {
+    let reader = last_reader(asked, lost);
+    let fields = asked.fields;
+    let byte = fields::output_byte(fields::numbered(fields, reader), lost);
+    fields::say_field(asked, reader);
+    say(b", is the last that reads ");
+    half_of_byte(lost);
+    say(b"; it writes it to byte ");
+    number(byte);
+    say(b" of the output, and ");
+    fields::say_field(
+        asked,
+        fields::last_over(fields, asked.count, Side::Output, byte),
+    );
+    say(b", covers that");
+}
+
+fn tail(asked: Asked) {
+    let input = asked.input;
+    say(b"the tail, all data past the first ");
+    number(combinations::record_length(input));
+    say(b" bytes, is dropped: CV is not given");
+}
+
+// Says one of the reasons 1 to 4.
+pub(crate) fn explain(asked: Asked, reason: usize, lost: usize) {
+    match reason {
+        1 => not_read(lost),
+        2 => dropped(asked, lost),
+        3 => covered(asked, lost),
+        _ => tail(asked),
+    }
+    say(b"\n");
+}
