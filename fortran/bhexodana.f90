@@ -16,17 +16,21 @@ module bhexodana
     implicit none
     private
 
-    public :: plan_deck, plan_into, run_deck
-    public :: bhx_field, bhx_planned, bhx_ran
+    public :: plan_deck, plan_into, run_deck, show_twins
+    public :: bhx_field, bhx_planned, bhx_ran, bhx_twinned
 
-    ! The version of this interface. It rises when an answer or an entry gets another shape.
-    integer, parameter, public :: bhexodana_version = 2
+    ! The version of this interface. It rises when an answer or an entry gets another shape, and when one is added.
+    integer, parameter, public :: bhexodana_version = 3
 
     ! What a field does: bhx_field%kind.
     integer, parameter, public :: bhx_copy = 0, bhx_pack = 1, bhx_unpack = 2
 
-    ! A plan has at most so many fields, and a reel so many bytes.
-    integer, parameter, public :: bhx_most_fields = 64, bhx_most_reel = 65536
+    ! Why two records become alike: bhx_twinned%reason. No field reads the lost half byte; the last field that reads it has no place for it; a later
+    ! field is written over it; or the data past A's n are not carried.
+    integer, parameter, public :: bhx_never_read = 1, bhx_dropped = 2, bhx_covered = 3, bhx_tail = 4
+
+    ! A plan has at most so many fields, a reel so many bytes, and twins so many.
+    integer, parameter, public :: bhx_most_fields = 64, bhx_most_reel = 65536, bhx_most_twins = 8193
 
     ! A field of a plan: input bytes of the record from position r on become output bytes of the output record from position t on.
     ! For a copy both sizes are the same. Positions count from 1.
@@ -58,6 +62,15 @@ module bhexodana
         integer(c_int64_t) :: blocks = 0
     end type bhx_ran
 
+    ! What twins answer: the reason, and how many bytes of the output both records have. The first has length / 2 of them.
+    type, bind(c) :: bhx_twinned
+        integer(c_int64_t) :: refusal = 0
+        integer(c_int64_t) :: place = 0
+        integer(c_int64_t) :: column = 0
+        integer(c_int64_t) :: reason = 0
+        integer(c_int64_t) :: length = 0
+    end type bhx_twinned
+
     ! answer = plan_deck(deck): the plan of a deck.
     interface plan_deck
         module procedure plan_cards, plan_text, plan_bytes
@@ -72,6 +85,12 @@ module bhexodana
     interface run_deck
         module procedure run_cards, run_text, run_bytes
     end interface run_deck
+
+    ! call show_twins(deck, output, answer): two input records that the deck makes one stand in output(1:answer%length); the other bytes stay.
+    ! A plan that keeps has none: refusal 16.
+    interface show_twins
+        module procedure twins_of_cards, twins_of_text, twins_of_bytes
+    end interface show_twins
 
     ! A plan's answer as the library gives it.
     type, bind(c) :: raw_planned
@@ -104,6 +123,13 @@ module bhexodana
             integer(c_size_t), value :: deck_length, reel_length, room
             type(bhx_ran) :: answer
         end function raw_run
+
+        function raw_twins(deck, deck_length, output, room) bind(c, name="bhx_twins") result(answer)
+            import :: c_ptr, c_size_t, bhx_twinned
+            type(c_ptr), value :: deck, output
+            integer(c_size_t), value :: deck_length, room
+            type(bhx_twinned) :: answer
+        end function raw_twins
     end interface
 
     ! Lent where an array is empty: the library takes no null pointer.
@@ -177,6 +203,27 @@ contains
         answer = raw_run(address(deck), size(deck, kind=c_size_t), address(reel), size(reel, kind=c_size_t), &
             address(output), size(output, kind=c_size_t))
     end subroutine run_bytes
+
+    subroutine twins_of_cards(cards, output, answer)
+        character(len=*), intent(in) :: cards(:)
+        integer(int8), intent(inout), target, contiguous :: output(:)
+        type(bhx_twinned), intent(out) :: answer
+        call twins_of_bytes(bytes_of_cards(cards), output, answer)
+    end subroutine twins_of_cards
+
+    subroutine twins_of_text(text, output, answer)
+        character(len=*), intent(in) :: text
+        integer(int8), intent(inout), target, contiguous :: output(:)
+        type(bhx_twinned), intent(out) :: answer
+        call twins_of_bytes(bytes_of(text), output, answer)
+    end subroutine twins_of_text
+
+    subroutine twins_of_bytes(deck, output, answer)
+        integer(int8), intent(in), target, contiguous :: deck(:)
+        integer(int8), intent(inout), target, contiguous :: output(:)
+        type(bhx_twinned), intent(out) :: answer
+        answer = raw_twins(address(deck), size(deck, kind=c_size_t), address(output), size(output, kind=c_size_t))
+    end subroutine twins_of_bytes
 
     ! Where an array begins in memory.
     function address(bytes) result(place)

@@ -9,13 +9,13 @@
  *   No pointer may be null, also where its length is 0: lend any address then.
  *   What is lent in one call must not overlap: the deck, the reel, the output and the table are different memory.
  *   The table must be aligned as an array of bhx_field is.
- *   The calls that were measured used up to some 70 KB of stack.
- *   The deck and the reel are only read. A refused call leaves every byte of the output and every entry of the table as it was. A finished run
- *   leaves the bytes of the output past the length as they were, and a finished plan the entries past the field count.
+ *   The calls that were measured used up to some 80 KB of stack.
+ *   The deck and the reel are only read. A refused call leaves every byte of the output and every entry of the table as it was. Finished runs and
+ *   twins leave the bytes of the output past the length as they were, and a finished plan the entries past the field count.
  *
  * Refusals
  *   Every answer begins with a refusal, a place and a column. Refusal 0 says that the call finished; its place and column are 0, and the other numbers
- *   are what was asked for. Where it is 1 to 15 the other numbers are 0. The lowest number that applies is given, at its first place, and there at its
+ *   are what was asked for. Where it is 1 to 16 the other numbers are 0. The lowest number that applies is given, at its first place, and there at its
  *   lowest column:
  *
  *    1  a line is no card                                            card, from 1
@@ -34,8 +34,10 @@
  *   14  a record's output does not fit a block of B                  record, from 1 in the input
  *   15  run: the output reel is longer than the room, or than 65,536 bytes    its length
  *       plan: the table has fewer entries than the plan has fields            the field count
+ *       twins: the plan loses, and the room is too short for both records     the bytes needed
+ *   16  twins: the plan keeps, in any room: no two records become alike       0
  *
- *   A plan answers 1 to 10, and 15 where a table is lent; a run answers 1 to 15.
+ *   A plan answers 1 to 10, and 15 where a table is lent; a run answers 1 to 15; twins answer 1 to 10, 15 and 16.
  *
  *   12: each block obeys its rule by itself, wherever it stands. In FF it is a positive multiple of n bytes, at most m, so short blocks may stand inside a
  *   reel; in FV it has at most m or g bytes and is filled by its records, each with its length, and with fields at least n bytes of data in each; in FU
@@ -53,19 +55,28 @@
 #include <stddef.h>
 #include <stdint.h>
 
-/* The version of this interface. It rises when an answer or an entry gets another shape. */
-#define BHEXODANA_VERSION 2
+/* The version of this interface. It rises when an answer or an entry gets another shape, and when one is added. */
+#define BHEXODANA_VERSION 3
 
 /* What a field does: bhx_field.kind. */
 #define BHX_COPY 0
 #define BHX_PACK 1
 #define BHX_UNPACK 2
 
+/* Why two records become alike: bhx_twinned.reason. Where several fields read the lost half byte, it is that of the last one which reads it. */
+#define BHX_NEVER_READ 1 /* no field reads the lost half byte */
+#define BHX_DROPPED 2    /* the field has no place for it */
+#define BHX_COVERED 3    /* a later field is written over it */
+#define BHX_TAIL 4       /* the data past A's n are not carried */
+
 /* A plan has at most so many fields: a table of this many entries always has room. */
 #define BHX_MOST_FIELDS 64
 
 /* A reel has at most so many bytes: an output of this size has room for every reel that can be written. */
 #define BHX_MOST_REEL 65536
+
+/* Twins have at most so many bytes: an output of this size has room for both records, whatever the plan. */
+#define BHX_MOST_TWINS 8193
 
 #ifdef __cplusplus
 extern "C" {
@@ -100,6 +111,15 @@ typedef struct {
     uint64_t blocks;  /* how many blocks it has */
 } bhx_ran;
 
+/* What twins answer. */
+typedef struct {
+    uint64_t refusal; /* 0, or the number of the refusal */
+    uint64_t place;   /* where it was refused */
+    uint64_t column;  /* for 3, 4 and 7 the byte of the card, from 1; otherwise 0 */
+    uint64_t reason;  /* BHX_NEVER_READ, BHX_DROPPED, BHX_COVERED or BHX_TAIL */
+    uint64_t length;  /* how many bytes of the output both records have; the first has half of them, rounded down */
+} bhx_twinned;
+
 /* The plan of a deck. */
 bhx_planned bhx_plan(const uint8_t *deck, size_t deck_len);
 
@@ -108,6 +128,13 @@ bhx_planned bhx_plan_into(const uint8_t *deck, size_t deck_len, bhx_field *table
 
 /* Runs a deck over a reel: the reel that it gives is written from the first byte of the output on, which has room for so many bytes. */
 bhx_ran bhx_run(const uint8_t *deck, size_t deck_len, const uint8_t *reel, size_t reel_len, uint8_t *out, size_t room);
+
+/*
+ * Shows what the plan of a deck loses: two input records that it converts to the same output, one behind the other from the first byte of the output on,
+ * which has room for so many bytes. They are data only, A's n bytes each, and differ in the lost half byte alone; where the tail is lost the second is the
+ * first and a byte 00 behind it.
+ */
+bhx_twinned bhx_twins(const uint8_t *deck, size_t deck_len, uint8_t *out, size_t room);
 
 #ifdef __cplusplus
 }

@@ -9,7 +9,7 @@
 
 /* The build fails where a layout is another one. */
 #define HOLDS(name, test) typedef char name[(test) ? 1 : -1]
-HOLDS(version, BHEXODANA_VERSION == 2);
+HOLDS(version, BHEXODANA_VERSION == 3);
 HOLDS(field_size, sizeof(bhx_field) == 10);
 HOLDS(field_kind, offsetof(bhx_field, kind) == 0);
 HOLDS(field_r, offsetof(bhx_field, r) == 2);
@@ -30,6 +30,12 @@ HOLDS(ran_column, offsetof(bhx_ran, column) == 16);
 HOLDS(ran_length, offsetof(bhx_ran, length) == 24);
 HOLDS(ran_records, offsetof(bhx_ran, records) == 32);
 HOLDS(ran_blocks, offsetof(bhx_ran, blocks) == 40);
+HOLDS(twinned_size, sizeof(bhx_twinned) == 40);
+HOLDS(twinned_refusal, offsetof(bhx_twinned, refusal) == 0);
+HOLDS(twinned_place, offsetof(bhx_twinned, place) == 8);
+HOLDS(twinned_column, offsetof(bhx_twinned, column) == 16);
+HOLDS(twinned_reason, offsetof(bhx_twinned, reason) == 24);
+HOLDS(twinned_length, offsetof(bhx_twinned, length) == 32);
 HOLDS(length_size, sizeof(size_t) == 8);
 
 enum { GUARD = 64, ROOM = BHX_MOST_REEL + 16, ENTRIES = 70 };
@@ -141,6 +147,28 @@ static void refuses_run(const char *what, const char *cards, const uint8_t *s, s
                         uint64_t column)
 {
     ran(what, cards, s, s_len, room, refusal, place, column, s, 0, 0, 0);
+}
+
+static void twinned(const char *what, const char *cards, size_t room, uint64_t refusal, uint64_t place, uint64_t column, uint64_t reason, const uint8_t *now,
+                    uint64_t length)
+{
+    bhx_twinned t;
+    calls++;
+    fill(lent_out, before_out, sizeof lent_out);
+    t = bhx_twins((const uint8_t *)cards, strlen(cards), lent_out + GUARD, room);
+    check(t.refusal == refusal && t.place == place && t.column == column, what);
+    check(t.reason == reason && t.length == length, what);
+    check(stays(lent_out, before_out, sizeof lent_out, now, (size_t)length), what);
+}
+
+static void shows(const char *what, const char *cards, size_t room, uint64_t reason, const uint8_t *now, uint64_t length)
+{
+    twinned(what, cards, room, 0, 0, 0, reason, now, length);
+}
+
+static void refuses_twins(const char *what, const char *cards, size_t room, uint64_t refusal, uint64_t place, uint64_t column)
+{
+    twinned(what, cards, room, refusal, place, column, 0, empty_reel, 0);
 }
 
 static void plans(const char *what, const char *cards, size_t entries, bhx_planned want, const bhx_field *fields)
@@ -263,6 +291,66 @@ static void test_many_fields(void)
     plans("65 fields", cards, ENTRIES, over, NULL);
 }
 
+/* Each reason, with the bytes of both records: halves that a field permits only some values of have the lowest, as the zone F and the sign A. */
+static void test_twins(void)
+{
+    static const char unread[] = "// U TF,FF,A=(3,3),B=(2,2)\n// FS 1,1,1/3,1,2\n// END\n";
+    static const char covered[] = "// U TF,FF,A=(2,2),B=(2,2)\n// FS 1,(P,2,2),1/1,1,2\n// END\n";
+    static const char twice_read[] = "// U TF,FF,A=(2,2),B=(2,2)\n// FS 1,2,1/1,(U,2,1),1\n// END\n";
+    static const char tail[] = "// U TF,FV,A=(4,13),B=(3,11)\n// FS 1,(P,4,3),1\n// END\n";
+    static const uint8_t middle[6] = {0x00, 0x00, 0x00, 0x00, 0x10, 0x00};
+    static const uint8_t digits[16] = {0x00, 0x00, 0x00, 0x00, 0xF0, 0xF0, 0xF0, 0xA0, 0x00, 0x00, 0x00, 0x00, 0xF1, 0xF0, 0xF0, 0xA0};
+    static const uint8_t signs[4] = {0xF0, 0xA0, 0xF0, 0xB0};
+    static const uint8_t packed[4] = {0x00, 0x0A, 0x10, 0x0A};
+    static const uint8_t longer[9] = {0xF0, 0xF0, 0xF0, 0xA0, 0xF0, 0xF0, 0xF0, 0xA0, 0x00};
+    shows("never read", unread, 6, BHX_NEVER_READ, middle, 6);
+    shows("dropped", twins, 16, BHX_DROPPED, digits, 16);
+    shows("dropped, and more room", twins, ROOM, BHX_DROPPED, digits, 16);
+    shows("covered", covered, 4, BHX_COVERED, signs, 4);
+    shows("covered, and dropped by the last that reads it", twice_read, ROOM, BHX_DROPPED, packed, 4);
+    shows("the tail", tail, 9, BHX_TAIL, longer, 9);
+    refuses_twins("a byte too little", twins, 15, 15, 16, 0);
+    refuses_twins("room for one record", twins, 8, 15, 16, 0);
+    refuses_twins("no room", twins, 0, 15, 16, 0);
+    refuses_twins("a byte too little for the tail", tail, 8, 15, 9, 0);
+    refuses_twins("a plan that keeps", deck, ROOM, 16, 0, 0);
+    refuses_twins("a plan that keeps, and no room", deck, 0, 16, 0, 0);
+    refuses_twins("a copy", copies, 0, 16, 0, 0);
+    refuses_twins("no deck", "", ROOM, 2, 1, 0);
+    refuses_twins("nothing at all", "", 0, 2, 1, 0);
+    refuses_twins("a refused plan", barren, ROOM, 10, 0, 0);
+    refuses_twins("a parameter that stands twice", twice, ROOM, 4, 1, 14);
+    refuses_twins("a number outside its limits, and no room", small, 0, 7, 2, 15);
+}
+
+/* Records of 4,096 bytes: the tail, which needs the most room, and the lost half in the first byte and in the last. */
+static void test_long_twins(void)
+{
+    static const char tail[] = "// U TF,FV,A=(4096,4105),B=(4096,4104)\n// FS 1,4096,1\n// END\n";
+    static const char first[] = "// U TF,FF,A=(4096,4096),B=(4096,4096)\n// FS 2,4095,2\n// END\n";
+    static const char last[] = "// U TF,FF,A=(4096,4096),B=(4096,4096)\n// FS 1,4096,1/1,1,4096\n// END\n";
+    static uint8_t both[BHX_MOST_TWINS];
+    shows("the tail of 4,096 bytes", tail, BHX_MOST_TWINS, BHX_TAIL, both, 8193);
+    refuses_twins("a byte too little for it", tail, BHX_MOST_TWINS - 1, 15, 8193, 0);
+    both[4096] = 0x10;
+    shows("the first of 4,096 bytes", first, BHX_MOST_TWINS, BHX_NEVER_READ, both, 8192);
+    both[4096] = 0;
+    both[8191] = 0x10;
+    shows("the last of 4,096 bytes", last, 8192, BHX_COVERED, both, 8192);
+    refuses_twins("a byte too little for two of 4,096", last, 8191, 15, 8192, 0);
+}
+
+/* Both records in one block: a run gives the same output twice. */
+static void test_alike(void)
+{
+    static const uint8_t now[28] = {0, 0, 0, 2, 0, 0, 0, 16, 0, 0, 0, 22, 0, 0, 0, 28, 0, 0, 0, 0, 0, 0x0A, 0, 0, 0, 0, 0, 0x0A};
+    uint8_t both[28] = {0, 0, 0, 1, 0, 0, 0, 12, 0, 0, 0, 28};
+    bhx_twinned t = bhx_twins((const uint8_t *)twins, strlen(twins), both + 12, 16);
+    calls++;
+    check(t.refusal == 0 && t.length == 16, "twins for a run");
+    runs("the run of twins", twins, both, sizeof both, ROOM, now, 28, 2, 2);
+}
+
 int main(void)
 {
     test_runs();
@@ -270,6 +358,9 @@ int main(void)
     test_short_blocks();
     test_plans();
     test_many_fields();
+    test_twins();
+    test_long_twins();
+    test_alike();
     printf("%d calls, %d wrong\n", calls, wrong);
     return wrong ? 1 : 0;
 }

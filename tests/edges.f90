@@ -15,14 +15,18 @@ program edges
     character(len=*), parameter :: filled(2) = [character(len=40) :: "// U TR,FF,A=(2,4),B=(2,4)", "// END"]
     integer(int8), parameter :: short(30) = int([0, 0, 0, 3, 0, 0, 0, 20, 0, 0, 0, 24, 0, 0, 0, 26, 0, 0, 0, 30, &
         1, 2, 3, 4, 5, 6, 7, 8, 9, 10], int8)
+    character(len=*), parameter :: loses(3) = [character(len=40) :: &
+        "// UTT TRF,FF,A=(8,16),B=(6,6)", "// FS 1,4,1/5,(P,4,2),5", "// END"]
+    integer(int8), parameter :: both(16) = int([0, 0, 0, 0, -16, -16, -16, -96, 0, 0, 0, 0, -15, -16, -16, -96], int8)
     integer(int8), parameter :: none(0) = [integer(int8) ::]
     integer :: tested = 0, wrong = 0
     character(len=:), allocatable :: text
 
-    text = trim(cards(1)) // new_line("a") // trim(cards(2)) // new_line("a") // trim(cards(3))
+    text = lines(cards)
     call test_plans()
     call test_tables()
     call test_runs()
+    call test_twins()
     print "(i0, a, i0, a)", tested, " tests, ", wrong, " wrong"
 
 contains
@@ -110,5 +114,72 @@ contains
         call check(same_run(r, 0, 0, 0, 30, 2, 2) .and. all(output(1:60:2) == result) .and. all(output(2:60:2) == 77), &
             "arrays with gaps")
     end subroutine test_runs
+
+    logical function same_twins(t, refusal, place, column, reason, length)
+        type(bhx_twinned), intent(in) :: t
+        integer, intent(in) :: refusal, place, column, reason, length
+        same_twins = t%refusal == refusal .and. t%place == place .and. t%column == column .and. t%reason == reason &
+            .and. t%length == length
+    end function same_twins
+
+    ! Each reason, with the bytes of both records; a deck in each of its three ways.
+    subroutine test_twins()
+        character(len=*), parameter :: unread(3) = [character(len=40) :: &
+            "// U TF,FF,A=(3,3),B=(2,2)", "// FS 1,1,1/3,1,2", "// END"]
+        character(len=*), parameter :: covered(3) = [character(len=40) :: &
+            "// U TF,FF,A=(2,2),B=(2,2)", "// FS 1,(P,2,2),1/1,1,2", "// END"]
+        character(len=*), parameter :: tail(3) = [character(len=40) :: &
+            "// U TF,FV,A=(4,13),B=(3,11)", "// FS 1,(P,4,3),1", "// END"]
+        character(len=*), parameter :: longest(3) = [character(len=40) :: &
+            "// U TF,FV,A=(4096,4105),B=(4096,4104)", "// FS 1,4096,1", "// END"]
+        integer(int8) :: output(bhx_most_twins + 7)
+        type(bhx_twinned) :: t
+        output = 77
+        call show_twins(cards, output(1:0), t)
+        call check(same_twins(t, 16, 0, 0, 0, 0), "a plan that keeps, and no room")
+        call show_twins(text, output, t)
+        call check(same_twins(t, 16, 0, 0, 0, 0) .and. all(output == 77), "a plan that keeps")
+        call show_twins(loses, output(1:0), t)
+        call check(same_twins(t, 15, 16, 0, 0, 0), "twins and no room")
+        call show_twins(loses, output(1:15), t)
+        call check(same_twins(t, 15, 16, 0, 0, 0) .and. all(output == 77), "twins, a byte too little")
+        call show_twins(none, output, t)
+        call check(same_twins(t, 2, 1, 0, 0, 0) .and. all(output == 77), "twins of no bytes")
+        call show_twins("", output(1:0), t)
+        call check(same_twins(t, 2, 1, 0, 0, 0), "twins of nothing at all")
+        call show_twins(twice, output, t)
+        call check(same_twins(t, 4, 1, 14, 0, 0) .and. all(output == 77), "twins of a parameter that stands twice")
+        call show_twins(unread, output, t)
+        call check(same_twins(t, 0, 0, 0, bhx_never_read, 6) .and. all(output(1:6) == [0, 0, 0, 0, 16, 0]) &
+            .and. all(output(7:) == 77), "never read")
+        output = 77
+        call show_twins(loses, output(1:16), t)
+        call check(same_twins(t, 0, 0, 0, bhx_dropped, 16) .and. all(output(1:16) == both) .and. all(output(17:) == 77), "dropped")
+        output = 77
+        call show_twins(covered, output, t)
+        call check(same_twins(t, 0, 0, 0, bhx_covered, 4) .and. all(output(1:4) == [-16, -96, -16, -80]) &
+            .and. all(output(5:) == 77), "covered")
+        output = 77
+        call show_twins(tail, output, t)
+        call check(same_twins(t, 0, 0, 0, bhx_tail, 9) .and. all(output(1:9) == [-16, -16, -16, -96, -16, -16, -16, -96, 0]) &
+            .and. all(output(10:) == 77), "the tail")
+        output = 77
+        call show_twins(longest, output(1:bhx_most_twins - 1), t)
+        call check(same_twins(t, 15, 8193, 0, 0, 0) .and. all(output == 77), "the longest twins, a byte too little")
+        call show_twins(longest, output(1:bhx_most_twins), t)
+        call check(same_twins(t, 0, 0, 0, bhx_tail, 8193) .and. all(output(1:8193) == 0) .and. all(output(8194:) == 77), &
+            "the longest twins")
+        output = 77
+        call show_twins(transfer(lines(loses), none), output(1:64:2), t)
+        call check(same_twins(t, 0, 0, 0, bhx_dropped, 16) .and. all(output(1:32:2) == both) .and. all(output(2:64:2) == 77) &
+            .and. all(output(33:64:2) == 77), "twins into an array with gaps")
+    end subroutine test_twins
+
+    ! Cards as a text.
+    function lines(from) result(joined)
+        character(len=*), intent(in) :: from(3)
+        character(len=:), allocatable :: joined
+        joined = trim(from(1)) // new_line("a") // trim(from(2)) // new_line("a") // trim(from(3))
+    end function lines
 
 end program edges

@@ -54,6 +54,22 @@ static int plan(const char *deck)
     return 1;
 }
 
+/* Prints two records that a deck makes one. The first has half of the bytes. */
+static int show(const char *deck)
+{
+    static uint8_t both[BHX_MOST_TWINS];
+    bhx_twinned t = bhx_twins((const uint8_t *)deck, strlen(deck), both, sizeof both);
+    uint64_t i;
+    if (t.refusal != 0) {
+        printf("refused by %u at %u, column %u\n", (unsigned)t.refusal, (unsigned)t.place, (unsigned)t.column);
+        return 0;
+    }
+    for (i = 0; i < t.length; i++)
+        printf("%s%02X", i == 0 ? "twin 1: " : i == t.length / 2 ? "\ntwin 2: " : "", both[i]);
+    printf("\n");
+    return 1;
+}
+
 /* Runs a deck over the reel and prints the blocks that come out. */
 static int run(const char *deck)
 {
@@ -80,5 +96,5 @@ int main(void)
     if (!plan(keeps) || !run(keeps))
         return 1;
     printf("\n");
-    return plan(twins) && run(twins) ? 0 : 1;
+    return plan(twins) && show(twins) && run(twins) ? 0 : 1;
 }

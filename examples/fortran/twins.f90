@@ -23,6 +23,7 @@ program twins
     if (.not. run(keeps)) stop 1
     print "(a)", ""
     if (.not. planned(loses)) stop 1
+    if (.not. shown(loses)) stop 1
     if (.not. run(loses)) stop 1
 
 contains
@@ -50,6 +51,21 @@ contains
             print "(a, i0, a)", "makes twins: half byte ", answer%lost, " is lost"
         end if
     end function planned
+
+    ! Prints two records that a deck makes one. The first has half of the bytes.
+    logical function shown(deck)
+        character(len=*), intent(in) :: deck(:)
+        integer(int8) :: both(bhx_most_twins)
+        type(bhx_twinned) :: answer
+        call show_twins(deck, both, answer)
+        shown = answer%refusal == 0
+        if (.not. shown) then
+            print "(a, i0, a, i0, a, i0)", "refused by ", answer%refusal, " at ", answer%place, ", column ", answer%column
+            return
+        end if
+        print "(a, *(z2.2))", "twin 1: ", both(:answer%length / 2)
+        print "(a, *(z2.2))", "twin 2: ", both(answer%length / 2 + 1:answer%length)
+    end function shown
 
     ! Runs a deck over the reel and prints the blocks that come out.
     logical function run(deck)
