@@ -1,10 +1,10 @@
 -- An accepted plan is accepted from record 1 on too: R is only asked to be within its limits, and to be 1 for TC.
-use mathlib.Core.Path.{_≡_, refl}
+use mathlib.Core.Path.{refl}
 use Prim.Native.Nat.{ℕ}
 use native.Mathlib.Omega.{arith}
 use Rattle.rules.specs.Grammar.{Mode, Format, Size}
 use Rattle.rules.specs.Plan.{Plan, inputHalves, allowed}
-use Rattle.rules.specs.Rows.{Required, Within}
+use Rattle.rules.specs.Rows.{Required}
 use Rattle.rules.specs.Accepted.{Accepted}
 use Rattle.rules.specs.Lent.{zoneF}
 use Rattle.terms.specs.Meaning.{planIn, fieldsIn}

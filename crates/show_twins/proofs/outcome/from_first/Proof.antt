@@ -1,5 +1,4 @@
 -- An accepted plan is accepted with R as 1 too.
-use borrow.Author.Needs.{needs}
 use Rattle.show_twins.proofs.FirstLaws.{runnable-first}
 use Rattle.show_twins.proofs.outcome.from_first.Statement.{statement}
 use Rattle.show_twins.proofs.outcome.from_first.Tie as tie
