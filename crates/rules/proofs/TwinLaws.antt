@@ -26,7 +26,7 @@ use Rattle.rules.proofs.RecordLaws.{shape-of}
 use Rattle.rules.proofs.ListedLaws.{length-bytes-listed}
 use Rattle.rules.proofs.KeepingLaws.{lowest-passes, lowest-first, second-passes, second-first, lowests, raiseds, lowest-at, raised-here, alike, lowest-halves, raised-halves}
 use Rattle.rules.proofs.ConvertsLaws.{converted-of, held-least}
-use Rattle.rules.proofs.Twins.{lost-missing, plain-halves, Found, at-half, at-tail, second-tail, second-half, found-twins, lost-place}
+use Rattle.rules.proofs.Twins.{lost-missing, plain-halves, LostPair, at-half, at-tail, second-tail, second-half, lost-twins, lost-place}
 use Rattle.rules.proofs.Demand3.{same-first}
 
 -- a plan that loses has TF or TRF
@@ -115,7 +115,7 @@ module _ (p : Plan) (z : p .zone < 16) (ok : Accepted p) (k : keeps p ≡ false)
         go false b = omega (arith, leb-false _ (2 * recordLength (p .input)) b)
 
   pub shows-loss : Shows p (lostAt p) (firstTwin p) (secondTwin p)
-  shows-loss = go (found-twins p z ok k)
+  shows-loss = go (lost-twins p z ok k)
     where
       made : (r s : List ℕ) → r ≡ firstTwin p → s ≡ secondTwin p → converts p r ≡ true → converts p s ≡ true → outRecord p r ≡ outRecord p s
           → Differ p (lostAt p) (firstTwin p) (secondTwin p)
@@ -133,7 +133,7 @@ module _ (p : Plan) (z : p .zone < 16) (ok : Accepted p) (k : keeps p ≡ false)
             shortest = short;
           }
 
-      go : Found p → Shows p (lostAt p) (firstTwin p) (secondTwin p)
+      go : LostPair p → Shows p (lostAt p) (firstTwin p) (secondTwin p)
       go (at-half l none t er es) =
           made (t .r) (t .s) er es (t .r-converts) (t .s-converts) (t .outputs) (half-differs l)
           (λ x y cx cy o a. omega (arith, length-first p, length-second p l, long-enough x cx, long-enough y cy))

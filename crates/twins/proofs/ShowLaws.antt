@@ -35,7 +35,7 @@ use Rattle.keeping.proofs.Weighs.{fair-longest}
 use Rattle.plans.specs.Promise.{numbersIn, Holds, Plans}
 use Rattle.plans.specs.declared.Planned.{Planned}
 use Rattle.plans.proofs.FilledLaws.{refused-plan, accepted-plan}
-use Rattle.twins.specs.Promise.{raisedIn, Values, neededFor, recordsIn, WrittenInto, Loses, twinsOf, refusedTwins, fitting, ShownInto, TwinsInto}
+use Rattle.twins.specs.Promise.{raisedIn, Values, neededFor, recordsIn, WrittenInto, Loses, twinsOf, refusedTwins, fitting, ShownInto, TwinsWritten}
 use Rattle.twins.specs.declared.Twins.{Twins}
 
 -- ---- the fields of an accepted plan
@@ -169,10 +169,10 @@ module _ (deck before : List ℕ) (r : Planned) (w : Plans deck r) where
   unfolding twinsInto
   planned x e = ap (λ (y : Answer Plan). y >>= λ p. unless (not (keeps p)) 16 0 >> (unless (leb (length (twins p)) (length before)) 15 (length (twins p)) >> fine (shown p))) e
 
-  into-of : (x : Answer Shown) → twinsInto (length before) deck ≡ x → (t : Twins) (after : List ℕ) → t ≡ twinsOf (twinsAnswer x) → after ≡ twinsAfter before x → TwinsInto deck before t after
+  into-of : (x : Answer Shown) → twinsInto (length before) deck ≡ x → (t : Twins) (after : List ℕ) → t ≡ twinsOf (twinsAnswer x) → after ≡ twinsAfter before x → TwinsWritten deck before t after
   into-of x e t after a o = record { answer = a ∙ ap (λ (y : Answer Shown). twinsOf (twinsAnswer y)) (sym e); output = o ∙ ap (twinsAfter before) (sym e) }
 
-  pub twins-refused : (r .refusal ≡ 0 → ⊥) → TwinsInto deck before (refusedTwins (r .refusal) (r .place) (r .column)) before
+  pub twins-refused : (r .refusal ≡ 0 → ⊥) → TwinsWritten deck before (refusedTwins (r .refusal) (r .place) (r .column)) before
   unfolding _>>=_
   twins-refused h =
       let q = refused-plan deck r w h in
@@ -182,11 +182,11 @@ module _ (deck before : List ℕ) (r : Planned) (w : Plans deck r) where
     made : (p : Plan) × (plan deck ≡ fine p) × (numbersIn r ≡ planAnswer (fine p)) × Holds deck p (r .asked)
     made = accepted-plan deck r w z
 
-    pub twins-kept : (r .keeping ≡ 0 → ⊥) → TwinsInto deck before (refusedTwins 16 0 0) before
+    pub twins-kept : (r .keeping ≡ 0 → ⊥) → TwinsWritten deck before (refusedTwins 16 0 0) before
     unfolding _>>=_ unless _>>_
     twins-kept h = go (keeps (made .0)) refl
       where
-        go : (k : Bool) → keeps (made .0) ≡ k → TwinsInto deck before (refusedTwins 16 0 0) before
+        go : (k : Bool) → keeps (made .0) ≡ k → TwinsWritten deck before (refusedTwins 16 0 0) before
         go true k = into-of (refusedAt 16 0 0) (planned (fine (made .0)) (made .1) ∙ rw k refl) _ before refl refl
         go false k = absurd (h (ap (λ (a : PlanAnswer). a .keeping) (made .2) ∙ ap bit k))
 
@@ -197,7 +197,7 @@ module _ (deck before : List ℕ) (r : Planned) (w : Plans deck r) where
         go true k = absurd (omega (arith, sym (ap (λ (a : PlanAnswer). a .keeping) (made .2) ∙ ap bit k) ∙ e))
         go false k = record { loses = k; place = ap (λ (a : PlanAnswer). a .lost) (made .2) ∙ ap (λ (b : Bool). cond b 0 (lostAt (made .0))) k }
 
-    pub twins-shown : r .keeping ≡ 0 → (t : Twins) (after : List ℕ) → ShownInto (planIn zoneF (r .asked)) before t after → TwinsInto deck before t after
+    pub twins-shown : r .keeping ≡ 0 → (t : Twins) (after : List ℕ) → ShownInto (planIn zoneF (r .asked)) before t after → TwinsWritten deck before t after
     unfolding _>>=_ unless _>>_ fitting
     twins-shown e t after s =
         let k = loses-of e .loses in
@@ -208,5 +208,5 @@ module _ (deck before : List ℕ) (r : Planned) (w : Plans deck r) where
     plan-fair = made .3 .fair
 
 -- the promise allows one outcome alone
-pub only-one : (deck before : List ℕ) (r r′ : Twins) (after after′ : List ℕ) → TwinsInto deck before r after → TwinsInto deck before r′ after′ → (r ≡ r′) × (after ≡ after′)
+pub only-one : (deck before : List ℕ) (r r′ : Twins) (after after′ : List ℕ) → TwinsWritten deck before r after → TwinsWritten deck before r′ after′ → (r ≡ r′) × (after ≡ after′)
 only-one deck before r r′ after after′ w w′ = (w .answer ∙ sym (w′ .answer), w .output ∙ sym (w′ .output))

@@ -58,6 +58,6 @@ pub record ShownInto (p : Plan) (before : List ℕ) (r : Twins) (after : List �
   pub output : after ≡ twinsAfter before (fitting (length before) p)
 
 -- of a deck: the answer, and the lent output afterwards
-pub record TwinsInto (deck before : List ℕ) (r : Twins) (after : List ℕ) : Type 0 where
+pub record TwinsWritten (deck before : List ℕ) (r : Twins) (after : List ℕ) : Type 0 where
   pub answer : r ≡ twinsOf (twinsAnswer (twinsInto (length before) deck))
   pub output : after ≡ twinsAfter before (twinsInto (length before) deck)

@@ -12,7 +12,7 @@ ghost use Rattle.rules.specs.Twins.{listed, shows as showsBy, reasonOf, reasonB
 ghost use Rattle.terms.specs.Meaning.{fieldOf, planIn};
 ghost use Rattle.terms.specs.Fair.{PlanFair};
 ghost use Rattle.keeping.specs.Promise.{FairField, Fair};
-ghost use Rattle.twins.specs.Promise.{refusedTwins, raisedIn, Values, neededFor, recordsIn, WrittenInto, Loses, ShownInto, TwinsInto};
+ghost use Rattle.twins.specs.Promise.{refusedTwins, raisedIn, Values, neededFor, recordsIn, WrittenInto, Loses, ShownInto, TwinsWritten};
 use terms::Asked;
 use terms::Field;
 use terms::Kind;
@@ -187,7 +187,7 @@ fn show(asked: Asked, lost: usize, out: &mut [u8]) -> Twins
 
 // The two records of a deck whose plan loses. A plan that keeps is 16, before 15. A refusal changes no byte.
 pub fn twins_of(deck: &[u8], out: &mut [u8]) -> Twins
-    ensures { λ r. ⌜ TwinsInto (now (deck .entry)) (now (out .entry)) r (now (out .exit)) ⌝ }
+    ensures { λ r. ⌜ TwinsWritten (now (deck .entry)) (now (out .entry)) r (now (out .exit)) ⌝ }
 {
     let p = plans::plan_deck(deck);
     if p.refusal != 0 {

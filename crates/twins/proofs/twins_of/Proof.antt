@@ -1,7 +1,7 @@
 -- The deck's refusal where it is refused, 16 where its plan keeps, and else what its plan shows: by cases on the plan, as the rules go.
 use mathlib.Core.Path.{sym, subst}
 use denote.Ref.{now}
-use Rattle.twins.specs.Promise.{TwinsInto}
+use Rattle.twins.specs.Promise.{TwinsWritten}
 use Rattle.twins.specs.declared.Twins.{Twins}
 use Rattle.twins.proofs.ShowLaws.{twins-refused, twins-kept, loses-of, twins-shown, plan-fair}
 use borrow.Author.Needs.{needs}
@@ -23,7 +23,7 @@ returns : tie.Need-returns
 returns c =
     let a = c .before .before .before .before .before .before .args in
     let p = c .before .before .before .plan-deck in
-    subst (λ (t : Twins). TwinsInto (now (a .deck)) (now (a .out)) t (now (a .out))) (sym (c .refused .ensures))
+    subst (λ (t : Twins). TwinsWritten (now (a .deck)) (now (a .out)) t (now (a .out))) (sym (c .refused .ensures))
     (twins-refused (now (a .deck)) (now (a .out)) (p .result) (p .ensures) (c .before .if1 .taken))
 
 refused-requires-2 : tie.Need-refused-requires-2
@@ -33,7 +33,7 @@ returns-2 : tie.Need-returns-2
 returns-2 c =
     let a = c .before .before .before .before .before .before .before .before .args in
     let p = c .before .before .before .before .before .plan-deck in
-    subst (λ (t : Twins). TwinsInto (now (a .deck)) (now (a .out)) t (now (a .out))) (sym (c .refused2 .ensures))
+    subst (λ (t : Twins). TwinsWritten (now (a .deck)) (now (a .out)) t (now (a .out))) (sym (c .refused2 .ensures))
     (twins-kept (now (a .deck)) (now (a .out)) (p .result) (p .ensures) (c .before .before .before .if1 .left) (c .before .if2 .taken))
 
 show-requires : tie.Need-show-requires
