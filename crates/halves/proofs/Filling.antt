@@ -1,11 +1,11 @@
--- A loop that writes one list over another, from left to right and an element a turn: before turn j the first j are the new list's and the
--- others the old one's. It holds since each store is at the seam.
-use mathlib.Core.Path.{_≡_, refl, sym, _∙_}
+-- A loop that writes one list over another, an element a turn. From left to right, before turn j the first j are the new list's and the others
+-- the old one's; from right to left it is the other way round, the old list over the new one. It holds since each store is at the seam.
+use mathlib.Core.Path.{_≡_, refl, sym, ap, _∙_}
 use mathlib.Core.List.{List, _∷_, _++_, append-nil}
-use Prim.Native.Nat.{ℕ, suc, _+_, _≤_, _<_}
+use Prim.Native.Nat.{ℕ, suc, _+_, _-_, _≤_, _<_}
 use native.Mathlib.Numerals.{add-one}
 use native.Mathlib.Omega.{arith}
-use lib.ListN.{length, take, drop, getD, set, length-set, take-append-drop, drop-of-length-le}
+use lib.ListN.{length, take, drop, getD, set, length-set, drop-of-length-le}
 use lib.Seq.{take-all, take-suc, drop-cons, set-at, append-snoc, length-take-le}
 
 -- d is t over old as far as place j
@@ -14,9 +14,7 @@ pub record Filling (t old d : List ℕ) (j : ℕ) : Type 0 where
   pub is : d ≡ take j t ++ drop j old
   pub same : length d ≡ length old
 
--- a loop may start at a place up to which the two lists agree
-pub fill-from : (t old : List ℕ) (j : ℕ) → j ≤ length old → take j t ≡ take j old → Filling t old old j
-fill-from t old j h e = record { upto = h; is = rw e (sym (take-append-drop j old)); same = refl }
+-- ---- from left to right
 
 pub fill-start : (t old : List ℕ) → Filling t old old 0
 fill-start t old = record { upto = omega arith; is = refl; same = refl }
@@ -34,3 +32,29 @@ module _ {t old d : List ℕ} {j : ℕ} (long : length t ≡ length old) where
 
   pub fill-end : length old ≤ j → Filling t old d j → d ≡ t
   fill-end h f = f .is ∙ rw (take-all j t (omega arith), drop-of-length-le old h, append-nil) refl
+
+-- ---- from right to left: what stands from the seam on is the new list's right end
+
+pub left-start : (t old : List ℕ) → length t ≡ length old → Filling old t old (length old)
+left-start t old e =
+    let atEnd : length t ≤ length old = omega arith in
+    record { upto = omega arith; is = sym (rw (take-all (length old) old (omega arith), drop-of-length-le t atEnd, append-nil) refl); same = sym e }
+
+stored-left : (t old : List ℕ) (j : ℕ) → length t ≡ length old → j < length old → set (take (suc j) old ++ drop (suc j) t) j (getD t j 0) ≡ take j old ++ drop j t
+stored-left t old j e h =
+    rw (take-suc old j 0 h, append-snoc (take j old) (getD old j 0) (drop (suc j) t))
+    (set-at (take j old) (getD old j 0) (drop (suc j) t) (getD t j 0) j (length-take-le j old (omega arith))
+    ∙ rw (drop-cons t j 0 (omega arith)) refl)
+
+module _ {t old d : List ℕ} {j : ℕ} (long : length t ≡ length old) where
+  pub left-more : (b : ℕ) → 0 < j → b ≡ getD t (j - 1) 0 → Filling old t d j → Filling old t (set d (j - 1) b) (j - 1)
+  left-more b h e f =
+      let seam : j ≡ suc (j - 1) = omega arith in
+      record {
+        upto = omega (arith, f .upto);
+        is = rw (e, f .is) (ap (λ (i : ℕ). set (take i old ++ drop i t) (j - 1) (getD t (j - 1) 0)) seam ∙ stored-left t old (j - 1) long (omega (arith, f .upto)));
+        same = length-set d (j - 1) b ∙ f .same;
+      }
+
+  pub left-end : j ≤ 0 → Filling old t d j → d ≡ t
+  left-end h f = let first : j ≡ 0 = omega arith in f .is ∙ ap (λ (i : ℕ). take i old ++ drop i t) first

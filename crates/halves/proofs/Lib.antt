@@ -1,3 +1,3 @@
 pub mod Filling
 pub mod PromiseLaws
-mod RowLaws
+mod PackPlaces

@@ -3,7 +3,7 @@ ghost use mathlib.Core.Path.{_≡_};
 ghost use Prim.Native.Nat.{_+_, _*_, _-_, _/_, _%_, _≤_, _<_};
 ghost use lib.ListN.{length, getD};
 ghost use Rattle.rules.specs.Base.{within};
-ghost use Rattle.rules.specs.Halves.{halves, packed, value, packBytes, unpackBytes};
+ghost use Rattle.rules.specs.Halves.{halves, packBytes, unpackBytes};
 ghost use Rattle.rules.specs.Lent.{zoneF};
 ghost use Rattle.halves.specs.Promise.{bothAllowed, packedInto, unpackedInto};
 
@@ -24,41 +24,53 @@ fn both_allowed(n: usize, m: usize) -> bool
     allowed(n) && allowed(m)
 }
 
-// The halves of src packed into 16 bytes, the most that a field has. A smaller field ends as they do.
-fn row_of(src: &[u8]) -> [u8; 32]
-    requires { ⌜ (1 ≤ length (now src)) × (length (now src) ≤ 16) ⌝ }
-    ensures { λ r. ⌜ r ≡ packed value 16 (halves (now (src .entry))) ⌝ }
+// Two halves as a byte.
+fn pair(high: u8, low: u8) -> u8
+    requires { ⌜ (high < 16) × (low < 16) ⌝ }
+    ensures { λ r. ⌜ r ≡ 16 * high + low ⌝ }
 {
-    let mut row = [0u8; 32];
-    let last = src.len() - 1;
-    let mut i = 0;
-    while i < last {
-        row[30 - last + i] = src[i] % 16;
-        i += 1;
-    }
-    // The last byte's halves change places.
-    let byte = src[last];
-    row[30] = byte % 16;
-    row[31] = byte / 16;
-    row
+    high * 16 + low
 }
 
-// src packed into all of dst: the last halves of the row, two to a byte.
+// A byte whose halves have changed places.
+fn turned(byte: u8) -> u8
+    ensures { λ r. ⌜ r ≡ 16 * (byte % 16) + byte / 16 ⌝ }
+{
+    byte % 16 * 16 + byte / 16
+}
+
+// Byte i of src packed into m bytes. Going left from the last byte, on both sides, two digits make one byte.
+fn pack_at(src: &[u8], m: usize, i: usize) -> u8
+    requires { ⌜ (1 ≤ length (now src)) × (i < m) × (m ≤ 16) ⌝ }
+    ensures { λ r. ⌜ r ≡ getD (packBytes m (now (src .entry))) i 0 ⌝ }
+{
+    let n = src.len();
+    // So many halves of the field stand to its right; but for the sign they are digits.
+    let right = 2 * (m - 1 - i);
+    if right == 0 {
+        return turned(src[n - 1]);
+    }
+    if right < n {
+        return pair(src[n - 1 - right] % 16, src[n - right] % 16);
+    }
+    // The first digit may be left over. Past it the fill is 0.
+    if right == n {
+        return pair(0, src[0] % 16);
+    }
+    0
+}
+
+// src packed into all of dst, from the right end.
 fn put_packed(src: &[u8], dst: &mut [u8])
     requires { ⌜ (1 ≤ length (now src)) × (length (now src) ≤ 16) ⌝ }
     requires { ⌜ (1 ≤ length (now dst)) × (length (now dst) ≤ 16) ⌝ }
     ensures { λ _. ⌜ now (dst .exit) ≡ packBytes (length (now (dst .entry))) (now (src .entry)) ⌝ }
 {
-    let row = row_of(src);
     let m = dst.len();
-    let first = 32 - 2 * m;
-    let mut i = 0;
-    while i < m {
-        let at = first + 2 * i;
-        let high = row[at];
-        let low = row[at + 1];
-        dst[i] = high * 16 + low;
-        i += 1;
+    let mut i = m;
+    while 0 < i {
+        i -= 1;
+        dst[i] = pack_at(src, m, i);
     }
 }
 
@@ -69,13 +81,6 @@ pub fn pack(src: &[u8], dst: &mut [u8])
     if both_allowed(src.len(), dst.len()) {
         put_packed(src, dst);
     }
-}
-
-// A byte whose halves have changed places.
-fn turned(byte: u8) -> u8
-    ensures { λ r. ⌜ r ≡ 16 * (byte % 16) + byte / 16 ⌝ }
-{
-    byte % 16 * 16 + byte / 16
 }
 
 // The half of src at a place.

@@ -1,91 +1,55 @@
--- `halves::put_packed` meets its contract: before each turn the first i bytes of dst are those of the packed field, whose halves end the row.
---
-use Prim.Native.Nat.{ℕ, _+_, _-_, _*_, _<_}
+-- `halves::put_packed` meets its contract: what stands to the right of the place reached is already the right end of the packed field, for every size.
+use mathlib.Core.Path.{_∙_}
 use native.Mathlib.Omega.{arith}
 use borrow.Author.Needs.{needs}
-use lib.ListN.{length, getD}
+use lib.ListN.{length}
 use Rattle.rules.specs.Halves.{packBytes}
 use Rattle.rules.proofs.BytePlaces.{length-packBytes}
-use Rattle.rules.proofs.HalfBytes.{all-bytes}
-use Rattle.halves.proofs.Filling.{Filling, fill-start, fill-more, fill-end}
-use Rattle.halves.proofs.RowLaws.{row-half, row-byte}
+use Rattle.halves.proofs.Filling.{Filling, left-start, left-more, left-end}
 use Rattle.halves.proofs.put_packed.Statement.{statement}
 use Rattle.halves.proofs.put_packed.Tie as tie
 
+-- as far as place i dst is as it was, and from there on it is the packed field
 abbrev Inv-loop : tie.InvT-loop
-Inv-loop src dst₀ row m first i₀ dst i = Filling (packBytes (length dst₀) src) dst₀ dst i
+Inv-loop src dst₀ m i₀ dst i = Filling dst₀ (packBytes (length dst₀) src) dst i
 
 abbrev μ-loop : tie.MeasureT-loop
-μ-loop src dst₀ row m first i₀ dst i = length dst₀ - i
-
-row-of-requires : tie.Need-row-of-requires Inv-loop μ-loop
-row-of-requires c κs = search needs
-
-mul-first : tie.Need-mul-first Inv-loop μ-loop
-mul-first c = search needs
-
-sub-first : tie.Need-sub-first Inv-loop μ-loop
-sub-first c = search needs
+μ-loop src dst₀ m i₀ dst i = i
 
 loop-holds : tie.Need-loop-holds Inv-loop μ-loop
-loop-holds c = fill-start _ _
+loop-holds c =
+    let a = c .before .before .args in
+    left-start _ _ (length-packBytes (length (a .dst .now)) (a .src .now) (omega arith) (omega arith))
 
-mul-at : tie.Need-mul-at Inv-loop μ-loop
-mul-at c = search needs
+sub-i : tie.Need-sub-i Inv-loop μ-loop
+sub-i c = search needs
 
-add-at : tie.Need-add-at Inv-loop μ-loop
-add-at c = search needs
-
-array-read-high : tie.Need-array-read-high Inv-loop μ-loop
-array-read-high c = search needs
-
-add-low : tie.Need-add-low Inv-loop μ-loop
-add-low c = search needs
-
-array-read-low : tie.Need-array-read-low Inv-loop μ-loop
-array-read-low c = search needs
-
--- each element of the row is a half byte
-half : (c : tie.In-loop Inv-loop μ-loop) (g : ℕ) → g < 32 → getD (c .before .before .row-of .result) g 0 < 16
-half c g h =
-    let t = c .before .before in
-    let s = t .before .before .before .args .src .now in
-    rw (t .row-of .ensures) (row-half s (omega arith) (all-bytes s (λ i. omega (arith, t .before .before .shared-slice-known .given i))) g h)
-
-mul-dst : tie.Need-mul-dst Inv-loop μ-loop
-mul-dst c =
-    let at = 32 - 2 * length (c .before .before .before .before .before .args .dst .now) + 2 * c .before .loop .i in
-    omega (arith, half c at (omega arith))
-
-add-dst : tie.Need-add-dst Inv-loop μ-loop
-add-dst c =
-    let at = 32 - 2 * length (c .before .before .before .before .before .args .dst .now) + 2 * c .before .loop .i in
-    omega (arith, half c at (omega arith), half c (at + 1) (omega arith))
+pack-at-requires : tie.Need-pack-at-requires Inv-loop μ-loop
+pack-at-requires c κs =
+    let a = c .before .before .before .before .args in
+    (omega arith, omega (arith, c .before .loop .inv .upto, length-packBytes (length (a .dst .now)) (a .src .now) (omega arith) (omega arith)), omega arith)
 
 slice-write-dst : tie.Need-slice-write-dst Inv-loop μ-loop
 slice-write-dst c = search needs
-
-add-i : tie.Need-add-i Inv-loop μ-loop
-add-i c = search needs
 
 loop-less : tie.Need-loop-less Inv-loop μ-loop
 loop-less c = search needs
 
 loop-again : tie.Need-loop-again Inv-loop μ-loop
 loop-again c =
-    let t = c .before in
-    let a = t .before .before .before .before .args in
-    fill-more (length-packBytes (length (a .dst .now)) (a .src .now) (omega arith) (omega arith)) _ (omega arith)
-    (rw (t .before .row-of .ensures) (row-byte (a .src .now) (omega arith) (length (a .dst .now)) (t .loop .i) (omega arith) (omega arith)))
-    (t .loop .inv)
+    let t = c .before .before in
+    let a = t .before .before .before .args in
+    left-more (length-packBytes (length (a .dst .now)) (a .src .now) (omega arith) (omega arith)) _ (omega arith) (c .pack-at .ensures) (t .loop .inv)
 
 same-length : tie.Need-same-length Inv-loop μ-loop
-same-length c = c .before .loop .inv .same
+same-length c =
+    let a = c .before .before .before .before .args in
+    c .before .loop .inv .same ∙ length-packBytes (length (a .dst .now)) (a .src .now) (omega arith) (omega arith)
 
 returns : tie.Need-returns Inv-loop μ-loop
 returns c =
-    let a = c .before .before .before .before .before .args in
-    fill-end (length-packBytes (length (a .dst .now)) (a .src .now) (omega arith) (omega arith)) (omega arith) (c .before .loop .inv)
+    let a = c .before .before .before .before .args in
+    left-end (length-packBytes (length (a .dst .now)) (a .src .now) (omega arith) (omega arith)) (omega arith) (c .before .loop .inv)
 
 pub put-packed-spec : {M : Type 1} → statement M
 put-packed-spec =
@@ -93,19 +57,10 @@ put-packed-spec =
     (tie.spec
     Inv-loop
     μ-loop
-    row-of-requires
-    mul-first
-    sub-first
     loop-holds
-    mul-at
-    add-at
-    array-read-high
-    add-low
-    array-read-low
-    mul-dst
-    add-dst
+    sub-i
+    pack-at-requires
     slice-write-dst
-    add-i
     loop-less
     loop-again
     same-length
