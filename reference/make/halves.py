@@ -1,4 +1,4 @@
-"""Pack and unpack: the paper's cases, outside vectors, sizes at their limits."""
+"""Pack and unpack: the paper's cases, outside vectors, sizes at their limits; pack for all sizes, as an emulated System/370 has it."""
 from common import *
 
 def make():
@@ -63,4 +63,16 @@ def make():
     for i, line in enumerate(out):
         step, src, m, res = line.split()
         h('half-%d' % (i + 1), step, src, int(m), res)
+    return f
+
+
+def emulated():
+    """All sizes 1 to 16 by 1 to 16. What is expected is kept in system370.txt: what `tests/system370.py 370` printed."""
+    f = File('system370.txt', [
+        'Pack beside the PACK instruction of an emulated System/370, for all sizes 1 to 16 by 1 to 16: NAME half pack SOURCE M.',
+        'Of each two cases the first has zones, digits and a sign, the second any bytes.',
+    ])
+    for i, line in enumerate(open(os.path.join(HERE, 'system370.txt'))):
+        source, m, result = line.split()
+        f.case('system370-%d-to-%s-%s' % (len(source) // 2, m, ('zoned', 'any')[i % 2]), 'half pack %s %s' % (source, m), result)
     return f

@@ -11,7 +11,7 @@ def tally(subject, files, lines):
 
 
 of_manual = manual.make()
-files = [halves.make(), decks.lines(), decks.order(), decks.operands(), decks.limits(), columns.make(), of_manual, manual.drawn(), reels.edges(), reels.blocks(), reels.drawn(),
+files = [halves.make(), halves.emulated(), decks.lines(), decks.order(), decks.operands(), decks.limits(), columns.make(), of_manual, manual.drawn(), reels.edges(), reels.blocks(), reels.drawn(),
          plans.make(of_manual.decks), runs.make()] + drawn.make() + [twins.make()] + drawn.twins()
 names = set()
 stdout = []
