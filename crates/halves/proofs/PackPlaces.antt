@@ -4,7 +4,7 @@ use mathlib.Core.Path.{_≡_, sym, ap, ap₂, _∙_}
 use mathlib.Core.List.{List}
 use Prim.Native.Nat.{ℕ, _+_, _-_, _*_, _/_, _%_, _≤_, _<_}
 use native.Mathlib.Omega.{arith}
-use lib.ListN.{length, take, drop, getD, replicate, getD-replicate}
+use lib.ListN.{length, drop, getD, getD-replicate}
 use lib.Seq.{getD-drop, getD-take}
 use Rattle.rules.specs.Halves.{halves, packed, value, packBytes}
 use Rattle.rules.proofs.SizeLaws.{length-halves, length-packed}

@@ -1,9 +1,8 @@
 -- `halves::pack_at` meets its contract: each of its four answers is the byte that stands at such a distance from the right end.
 use mathlib.Core.Path.{sym, _∙_}
-use Prim.Native.Nat.{_+_, _-_, _*_}
+use Prim.Native.Nat.{_-_}
 use native.Mathlib.Omega.{arith}
 use borrow.Author.Needs.{needs}
-use lib.ListN.{length}
 use Rattle.halves.proofs.PackPlaces.{pack-last, pack-two, pack-one, pack-none}
 use Rattle.halves.proofs.pack_at.Statement.{statement}
 use Rattle.halves.proofs.pack_at.Tie as tie
