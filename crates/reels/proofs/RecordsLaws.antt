@@ -3,16 +3,20 @@ use mathlib.Core.Path.{_≡_, refl, ap, sym, _∙_, subst}
 use mathlib.Core.Bool.{Bool, true, false, cond}
 use mathlib.Core.List.{List, [], _∷_, map}
 use mathlib.Core.Option.{Option, none, some}
-use Prim.Native.Nat.{ℕ, suc, _+_, _-_, _≤_, _<_}
+use Prim.Native.Nat.{ℕ, zero, suc, _+_, _-_, _*_, _/_, _%_, _≤_, _<_}
+use native.Mathlib.Nat.{zero-mul, mod-zero, div-add-mod', div-le-self}
 use native.Mathlib.Omega.{arith}
 use lib.Dec.{leb, eqb}
 use lib.ListN.{length, length-map}
 use borrow.Author.Tests.{le-leb, lt-leb, eq-eqb, ne-eqb}
 use Rattle.rules.specs.Base.{every}
-use Rattle.rules.specs.Plan.{Plan, blockLength}
-use Rattle.rules.specs.Blocks.{Piece, withPiece, piecesIn, leastData, meets, dataOf, recordsOf, recordsIn}
+use Rattle.rules.specs.Grammar.{tf, tr, ff}
+use Rattle.rules.specs.Plan.{Plan, selects, blockLength}
+use Rattle.rules.specs.Blocks.{Piece, fixedFrom, withPiece, piecesIn, leastData, meets, dataOf, recordsOf, recordsIn}
 use Rattle.rules.specs.ReelPlaces.{piecesAt}
 use Rattle.terms.specs.Meaning.{formatOf}
+use Rattle.terms.specs.declared.Format.{Format}
+use Rattle.terms.specs.declared.Format.the-variants.{FF}
 use Rattle.reels.specs.Form.{planBy}
 use Rattle.reels.specs.Pieces.{startOf, pieceOf}
 use Rattle.reels.specs.Records.{countFrom, Counted, blockRead, Judged}
@@ -121,3 +125,52 @@ module _ (form : Form) (b : List ℕ) (full : 1 ≤ length b) where
 
   pub judged-no-start : length b ≤ form .m → startOf form b ≡ NoStart → Judged form b Breaks
   judged-no-start l s = record { is = sym (count-is ∙ rw (le-leb (length b) (form .m) l, s)); most = omega arith }
+
+-- ---- in FF the pieces of n bytes are counted by a division
+
+fixed-length : (n i k : ℕ) → length (fixedFrom n i k) ≡ k
+fixed-length n i zero = refl
+fixed-length n i (suc k) = ap suc (fixed-length n (i + n) k)
+
+fixed-least : (least n i k : ℕ) → least ≤ n → every (λ x. leb least (x .size)) (fixedFrom n i k) ≡ true
+fixed-least least n i zero l = refl
+fixed-least least n i (suc k) l = rw (le-leb least n l) (fixed-least least n (i + n) k l)
+
+count-fixed : (least n k : ℕ) → least ≤ n → 1 ≤ k → countFrom least 0 (some (fixedFrom n 0 k)) ≡ Records k
+count-fixed least n k l o =
+    rw (fixed-least least n 0 k l, fixed-length n 0 k) (rw (ne-eqb (0 + k) 0 (λ e. omega arith)) (ap Records (let z : 0 + k ≡ k = omega arith in z)))
+
+module _ (form : Form) (b : List ℕ) (f : form .format ≡ FF) (full : 1 ≤ length b) (short : length b ≤ form .m) where
+  least-fixed : 1 ≤ form .n → leastData (planBy form) ≤ form .n
+  unfolding leastData planBy
+  least-fixed l = go (form .selects)
+    where
+      go : (t : Bool) → cond (selects (cond t tf tr)) (form .n) 1 ≤ form .n
+      go true = omega arith
+      go false = l
+
+  fixed-is : blockRead (recordsIn (planBy form) b) ≡ countFrom (leastData (planBy form)) 0 (piecesIn ff (form .n) b)
+  unfolding recordsIn planBy
+  fixed-is =
+      count-meets (planBy form) b (piecesIn (formatOf (form .format)) (form .n) b)
+      ∙ rw (le-leb (length b) (form .m) short) (ap (λ (g : Format). countFrom (leastData (planBy form)) 0 (piecesIn (formatOf g) (form .n) b)) f)
+
+  pub divided-over : (length b % form .n ≡ 0 → ⊥) → Judged form b Breaks
+  divided-over z = record { is = sym (fixed-is ∙ rw (ne-eqb (length b % form .n) 0 z)); most = omega arith }
+
+  pub divided-none : form .n ≡ 0 → Judged form b Breaks
+  divided-none e = divided-over (λ z. let q : length b % form .n ≡ length b = ap (length b %_) e ∙ mod-zero (length b) in omega arith)
+
+  pub divided-even : (form .n ≡ 0 → ⊥) → length b % form .n ≡ 0 → Judged form b (Records (length b / form .n))
+  divided-even o z =
+      let n = form .n in
+      let k = length b / n in
+      let e : k * n ≡ length b = omega (arith, div-add-mod' (length b) n) in
+      record {
+        is = sym (fixed-is ∙ rw (eq-eqb (length b % n) 0 z) (count-fixed (leastData (planBy form)) n k (least-fixed (omega arith)) (some-piece k e)));
+        most = div-le-self (length b) n;
+      }
+    where
+      some-piece : (k : ℕ) → k * form .n ≡ length b → 1 ≤ k
+      some-piece zero e = absurd (omega (arith, zero-mul (form .n)))
+      some-piece (suc k) e = omega arith

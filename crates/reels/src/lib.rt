@@ -307,6 +307,35 @@ fn counted(form: Form, b: &[u8], from: Cursor) -> BlockRead
     }
 }
 
+// In FF: the pieces are counted by a division, as all have n bytes. No piece has none.
+fn divided(form: Form, b: &[u8]) -> BlockRead
+    requires { ⌜ form .format ≡ Format.FF ⌝ }
+    requires { ⌜ (1 ≤ length (now b)) × (length (now b) ≤ form .m) ⌝ }
+    ensures { λ r. ⌜ Judged form (now (b .entry)) r ⌝ }
+{
+    let n = form.n;
+    let size = b.len();
+    if n == 0 {
+        return BlockRead::Breaks;
+    }
+    if size % n != 0 {
+        return BlockRead::Breaks;
+    }
+    BlockRead::Records { count: size / n }
+}
+
+// The pieces of a block, from its start on.
+fn walked(form: Form, b: &[u8]) -> BlockRead
+    requires { ⌜ (1 ≤ length (now b)) × (length (now b) ≤ form .m) ⌝ }
+    ensures { λ r. ⌜ Judged form (now (b .entry)) r ⌝ }
+{
+    let from = start(form, b);
+    match from {
+        StartRead::From { cursor } => counted(form, b, cursor),
+        StartRead::NoStart => BlockRead::Breaks,
+    }
+}
+
 // Whether a block obeys its rule, wherever it stands: at most m (or g) bytes, and what it holds are records; and how many it has. No block of a reel is empty.
 fn rule(form: Form, b: &[u8]) -> BlockRead
     requires { ⌜ 1 ≤ length (now b) ⌝ }
@@ -315,10 +344,11 @@ fn rule(form: Form, b: &[u8]) -> BlockRead
     if b.len() > form.m {
         return BlockRead::Breaks;
     }
-    let from = start(form, b);
-    match from {
-        StartRead::From { cursor } => counted(form, b, cursor),
-        StartRead::NoStart => BlockRead::Breaks,
+    let format = form.format;
+    match format {
+        Format::FF => divided(form, b),
+        Format::FV => walked(form, b),
+        Format::FU => walked(form, b),
     }
 }
 

@@ -112,3 +112,4 @@ pub mod NumberLimits
 pub mod RunColumns
 pub mod ColumnTable
 pub mod ColumnSteps
+pub mod EvenLaws

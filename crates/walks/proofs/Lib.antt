@@ -5,3 +5,4 @@ pub mod WalkLaws
 pub mod AnswerLaws
 pub mod SizesLaws
 pub mod PromiseLaws
+pub mod FixedLaws

@@ -63,6 +63,10 @@ onwards form s (suc k) w = onRecord (recordOf form s w) w (λ next. onwards form
 unfoldable pub takenOf : Form → List ℕ → ℕ → Walk
 takenOf form s first = openedWalk (onwards form s (first - 1) (firstWalk form s))
 
+-- where record R starts in FF: all before it have n bytes each
+unfoldable pub fixedStart : Form → List ℕ → ℕ → ℕ
+fixedStart form s first = wordAt s 4 + (first - 1) * form .n
+
 -- ---- the places
 
 -- a place before a record: the block, from 0, the place in it, and whether the record counts as the first of its block

@@ -2,10 +2,10 @@
 // Document 01, "Blocks and records". The header and the rule of each block were asked when the reel was read: nothing is asked again here.
 ghost use mathlib.Core.Path.{_≡_};
 ghost use Prim.Native.Nat.{_+_, _≤_, _<_};
-ghost use lib.ListN.{length};
+ghost use lib.ListN.{length, drop};
 ghost use Rattle.rules.specs.Output.{cost};
 ghost use Rattle.terms.specs.Meaning.{formatOf};
-ghost use Rattle.walks.specs.Walking.{Starting, blockStart, behindOf, endIn, openedWalk};
+ghost use Rattle.walks.specs.Walking.{Starting, blockStart, behindOf, endIn, openedWalk, fixedStart};
 ghost use Rattle.walks.specs.Promise.{Sound, Standing, Begun, Told, Taken};
 use reels::Form;
 use terms::Format;
@@ -169,4 +169,24 @@ pub fn taken(form: Form, s: &[u8], first: usize) -> Walk
         }
     }
     opened(w)
+}
+
+// In FF the records stand one behind the other through all blocks: where record R starts, which may be past the reel's end.
+pub fn fixed_start(form: Form, s: &[u8], first: usize) -> usize
+    requires { ⌜ Sound form (now s) ⌝ }
+    requires { ⌜ (1 ≤ first) × (first ≤ 65536) ⌝ }
+    ensures { λ r. ⌜ r ≡ fixedStart form (now (s .entry)) first ⌝ }
+{
+    let from = reels::word(s, 4);
+    from + (first - 1) * form.n
+}
+
+// What stands from a place on; nothing stands past the end.
+pub fn rest(s: &[u8], from: usize) -> &[u8]
+    ensures { λ r. ⌜ now r ≡ drop from (now (s .entry)) ⌝ }
+{
+    if from < s.len() {
+        return &s[from..];
+    }
+    &s[..0]
 }

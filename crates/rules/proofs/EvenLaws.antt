@@ -1,0 +1,122 @@
+-- Records of equal length: in FF the data of the blocks joined is the records joined, each of n bytes, so that the records taken are the reel's data from a place on, cut
+-- every n bytes. By going along the blocks and their records.
+use mathlib.Core.Path.{_≡_, refl, ap, sym, _∙_, subst}
+use mathlib.Core.Bool.{Bool, true, false}
+use mathlib.Core.List.{List, [], _∷_, _++_, map}
+use mathlib.Core.Option.{Option, none, some, Option·none-ne-some, Option·some-injective}
+use Prim.Native.Nat.{ℕ, zero, suc, _+_, _-_, _*_, _/_, _%_, _≤_}
+use native.Mathlib.Nat.{suc-mul, zero-mul, div-add-mod'}
+use native.Mathlib.Omega.{arith}
+use lib.Dec.{eqb}
+use lib.ListN.{length, take, drop}
+use lib.Seq.{drop-nil, take-at, drop-at, drop-drop, drop-append-add}
+use borrow.Author.Tests.{eqb-true}
+use Rattle.rules.specs.Base.{joined}
+use Rattle.rules.specs.Answer.{fine}
+use Rattle.rules.specs.Places.{All, noMore, also, Both, none-left, both}
+use Rattle.rules.specs.Grammar.{Format, ff}
+use Rattle.rules.specs.Reel.{blockCount, isReel, blocksOf}
+use Rattle.rules.specs.Plan.{Plan, recordLength}
+use Rattle.rules.specs.Blocks.{Piece, fixedFrom, piecesIn, meets, dataOf, recordsOf, recordsIn, recordsFrom, takenFrom}
+use Rattle.rules.proofs.AllLaws.{all-append, all-drop, all-head, all-tail}
+use Rattle.rules.proofs.BlockSizes.{all-map}
+use Rattle.rules.proofs.AnswerLaws.{reads-fine}
+use Rattle.rules.proofs.PartLaws.{joined-append}
+use Rattle.rules.proofs.BlockLaws.{fixed-back, length-joined}
+use Rattle.rules.proofs.ReelLaws.{joined-blocks}
+use Rattle.rules.proofs.TakenLaws.{taken-joined}
+
+-- xs is records of n bytes each, one behind the other
+pub record Even (n : ℕ) (xs : List ℕ) (rs : List (List ℕ)) : Type 0 where
+  pub is : joined rs ≡ xs
+  pub each : All (λ r. length r ≡ n) rs
+
+-- the first of them, and the others
+pub record Next (n : ℕ) (xs : List ℕ) (rs : List (List ℕ)) : Type 0 where
+  pub more : List (List ℕ)
+  pub is : rs ≡ take n xs ∷ more
+  pub left : Even n (drop n xs) more
+
+module _ {n : ℕ} where
+  pub even-size : {xs : List ℕ} {rs : List (List ℕ)} → Even n xs rs → length xs ≡ length rs * n
+  even-size e = ap length (sym (e .is)) ∙ length-joined n (e .each)
+
+  pub even-next : {xs : List ℕ} (rs : List (List ℕ)) → Even n xs rs → 1 ≤ length xs → Next n xs rs
+  even-next [] e l = absurd (omega (arith, ap length (e .is)))
+  even-next {xs} (r ∷ rs) e l =
+      let h = all-head (e .each) in
+      record {
+        more = rs;
+        is = ap (_∷ rs) (sym (ap (take n) (sym (e .is)) ∙ take-at r (joined rs) n h));
+        left = record { is = sym (ap (drop n) (sym (e .is)) ∙ drop-at r (joined rs) n h); each = all-tail (e .each) };
+      }
+
+  pub even-end : {xs : List ℕ} (rs : List (List ℕ)) → 1 ≤ n → Even n xs rs → length xs ≡ 0 → rs ≡ []
+  even-end [] s e l = refl
+  even-end (r ∷ rs) s e l = absurd (omega (arith, even-size e, suc-mul (length rs) n))
+
+  pub even-append : {xs ys : List ℕ} {rs us : List (List ℕ)} → Even n xs rs → Even n ys us → Even n (xs ++ ys) (rs ++ us)
+  even-append {xs} {ys} {rs} {us} e f =
+      record { is = joined-append rs us ∙ ap (_++ joined us) (e .is) ∙ ap (xs ++_) (f .is); each = all-append (e .each) (f .each) }
+
+  joined-drop : (k : ℕ) {rs : List (List ℕ)} → All (λ r. length r ≡ n) rs → joined (drop k rs) ≡ drop (k * n) (joined rs)
+  joined-drop zero {rs} a = ap (λ (i : ℕ). drop i (joined rs)) (sym (zero-mul n))
+  joined-drop (suc k) noMore = sym (drop-nil (suc k * n))
+  joined-drop (suc k) (also {x = r} {xs = rs} h a) =
+      joined-drop k a
+      ∙ sym (drop-append-add r (joined rs) (k * n))
+      ∙ ap (λ (i : ℕ). drop i (r ++ joined rs)) (let z : length r + k * n ≡ suc k * n = omega (arith, suc-mul k n) in z)
+
+  -- without the first k of them
+  pub even-drop : (k : ℕ) {xs : List ℕ} {rs : List (List ℕ)} → Even n xs rs → Even n (drop (k * n) xs) (drop k rs)
+  even-drop k e = record { is = joined-drop k (e .each) ∙ ap (drop (k * n)) (e .is); each = all-drop k (e .each) }
+
+-- ---- FF
+
+module _ (p : Plan) (t : p .format ≡ ff) where
+  block-even : (b : List ℕ) (rs : List (List ℕ)) → recordsIn p b ≡ some rs → Even (recordLength (p .input)) b rs
+  unfolding recordsIn
+  block-even b rs e = go (eqb (length b % n) 0) refl (ap (λ (f : Format). recordsOf p b (piecesIn f n b)) (sym t) ∙ e)
+    where
+      n : ℕ
+      n = recordLength (p .input)
+
+      cut : (m : Bool) → meets p b (fixedFrom n 0 (length b / n)) ≡ m → recordsOf p b (some (fixedFrom n 0 (length b / n))) ≡ some rs → map (dataOf b) (fixedFrom n 0 (length b / n)) ≡ rs
+      cut true m d = Option·some-injective _ rs (rw m at d)
+      cut false m d = absurd (Option·none-ne-some rs (rw m at d))
+
+      go : (q : Bool) → eqb (length b % n) 0 ≡ q → recordsOf p b (piecesIn ff n b) ≡ some rs → Even n b rs
+      go false q d = absurd (Option·none-ne-some rs (rw q at d))
+      go true q d =
+          let z = eqb-true (length b % n) 0 q in
+          let k = fixed-back b n 0 (length b / n) (omega (arith, div-add-mod' (length b) n)) in
+          subst (Even n b) (cut (meets p b (fixedFrom n 0 (length b / n))) refl (rw q at d)) (record { is = k .0; each = all-map (dataOf b) (k .1) })
+
+  blocks-both : (i : ℕ) (bs : List (List ℕ)) (recs : List (List (List ℕ))) → recordsFrom p i bs ≡ fine recs → Both (Even (recordLength (p .input))) bs recs
+  blocks-both i bs recs e = go (reads-fine 12 (recordsIn p) i bs recs e)
+    where
+      go : {bs : List (List ℕ)} {recs : List (List (List ℕ))} → Both (λ b rs. recordsIn p b ≡ some rs) bs recs → Both (Even (recordLength (p .input))) bs recs
+      go none-left = none-left
+      go (both {x = b} {y = rs} d h) = both (block-even b rs d) (go h)
+
+  -- each block is its records
+  pub blocks-even : (s : List ℕ) (recs : List (List (List ℕ))) → recordsFrom p 1 (blocksOf s) ≡ fine recs → Both (Even (recordLength (p .input))) (blocksOf s) recs
+  blocks-even s recs e = blocks-both 1 (blocksOf s) recs e
+
+  joined-even : {bs : List (List ℕ)} {recs : List (List (List ℕ))} → Both (Even (recordLength (p .input))) bs recs → Even (recordLength (p .input)) (joined bs) (joined recs)
+  joined-even none-left = record { is = refl; each = noMore }
+  joined-even (both e h) = even-append e (joined-even h)
+
+  -- the blocks' data joined is the records joined
+  pub data-even : (s : List ℕ) (recs : List (List (List ℕ))) → isReel s ≡ true → recordsFrom p 1 (blocksOf s) ≡ fine recs
+      → Even (recordLength (p .input)) (drop (4 * blockCount s + 8) s) (joined recs)
+  data-even s recs r e = subst (λ (x : List ℕ). Even (recordLength (p .input)) x (joined recs)) (joined-blocks s r) (joined-even (blocks-even s recs e))
+
+  -- and so are those from number `first` on, from the place where that one starts
+  pub taken-even : (s : List ℕ) (recs : List (List (List ℕ))) → isReel s ≡ true → recordsFrom p 1 (blocksOf s) ≡ fine recs → (first : ℕ)
+      → Even (recordLength (p .input)) (drop (4 * blockCount s + 8 + (first - 1) * recordLength (p .input)) s) (joined (takenFrom first recs))
+  taken-even s recs r e first =
+      let k = first - 1 in
+      let n = recordLength (p .input) in
+      subst (λ (x : List ℕ). Even n x (joined (takenFrom first recs))) (drop-drop (k * n) (4 * blockCount s + 8) s)
+      (subst (Even n (drop (k * n) (drop (4 * blockCount s + 8) s))) (sym (taken-joined first recs)) (even-drop k (data-even s recs r e)))

@@ -1,0 +1,47 @@
+-- In FF the records from R on are what stands from the place where R starts, cut every n bytes. By the blocks' data, which joined is the records joined.
+use mathlib.Core.Path.{_≡_, ap, sym, _∙_, subst}
+use mathlib.Core.List.{List, []}
+use Prim.Native.Nat.{ℕ, _+_, _-_, _*_, _≤_}
+use native.Mathlib.Nat.{mul-le-mul}
+use native.Mathlib.Omega.{arith}
+use lib.ListN.{length, take, drop, length-drop, drop-of-length-le}
+use lib.Seq.{take-all}
+use Rattle.rules.specs.Base.{joined}
+use Rattle.rules.specs.Grammar.{ff}
+use Rattle.rules.specs.Plan.{Plan, recordLength}
+use Rattle.rules.specs.Reel.{blockCount}
+use Rattle.rules.specs.Blocks.{takenFrom}
+use Rattle.rules.specs.ReelPlaces.{wordAt}
+use Rattle.rules.proofs.EvenLaws.{Even, taken-even}
+use Rattle.rules.proofs.MeasureLaws.{record-high}
+use Rattle.rules.proofs.ReelSteps.{offset-first}
+use Rattle.reels.specs.declared.Form.{Form}
+use Rattle.reels.specs.Form.{FormIs}
+use Rattle.walks.specs.Walking.{fixedStart}
+use Rattle.walks.specs.Promise.{Good, Sound}
+
+pub start-of : (form : Form) (s : List ℕ) (first a : ℕ) → a ≡ wordAt s 4 → a + (first - 1) * form .n ≡ fixedStart form s first
+unfolding fixedStart
+start-of form s first a e = ap (λ (x : ℕ). x + (first - 1) * form .n) e
+
+pub rest-there : (s : List ℕ) (from : ℕ) → take (length s - from) (drop from s) ≡ drop from s
+rest-there s from = take-all (length s - from) (drop from s) (omega (arith, length-drop from s))
+
+pub rest-none : (s : List ℕ) (from : ℕ) → length s ≤ from → [] ≡ drop from s
+rest-none s from l = sym (drop-of-length-le s {i = from} l)
+
+-- the product is far from wrapping
+pub start-small : {form : Form} {s : List ℕ} → Sound form s → (k : ℕ) → k ≤ 65536 → k * form .n ≤ 65536 * 32760
+start-small {form} x k l =
+    let n : form .n ≤ 32760 = omega (arith, x .form-is .n, record-high (x .p .format) (x .p .input) (x .good .accepted .input)) in
+    mul-le-mul l n
+
+module _ {form : Form} {s : List ℕ} {p : Plan} {recs : List (List (List ℕ))} (f : FormIs form p) (g : Good p s recs) where
+  -- where R starts, behind the header
+  pub start-is : (first : ℕ) → fixedStart form s first ≡ 4 * blockCount s + 8 + (first - 1) * recordLength (p .input)
+  unfolding fixedStart
+  start-is first = ap (λ (a : ℕ). a + (first - 1) * form .n) (offset-first s (g .reel)) ∙ ap (λ (n : ℕ). 4 * blockCount s + 8 + (first - 1) * n) (f .n)
+
+  pub fixed-taken : p .format ≡ ff → (first : ℕ) → Even (recordLength (p .input)) (drop (fixedStart form s first) s) (joined (takenFrom first recs))
+  fixed-taken t first =
+      subst (λ (a : ℕ). Even (recordLength (p .input)) (drop a s) (joined (takenFrom first recs))) (sym (start-is first)) (taken-even p t s recs (g .reel) (g .records) first)
