@@ -13,6 +13,7 @@ pub mod CardsOutcome
 pub mod BarrenOutcome
 pub mod FillLaws
 pub mod FillSteps
+pub mod EvenFilling
 pub mod FitSteps
 pub mod BlockWords
 pub mod BlockSizes
