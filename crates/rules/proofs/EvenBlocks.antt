@@ -1,0 +1,173 @@
+-- TF with records of equal length: one output block for each input block that has a record left. Where it ends follows from where the input block ends, since both hold the
+-- same number of records. By going along the blocks, with the records still to skip, or those since the first that is taken.
+use mathlib.Core.Path.{_≡_, refl, ap, ap₂, sym, _∙_}
+use mathlib.Core.Bool.{Bool, true, false, cond}
+use mathlib.Core.List.{List, [], _∷_, _++_, map, append-nil}
+use Prim.Native.Nat.{ℕ, suc, _+_, _-_, _*_, _/_, _≤_, _<_}
+use native.Mathlib.Nat.{zero-mul, one-mul, suc-mul, add-mul, mul-le-mul-right, div-eq-of-eq-mul-left}
+use native.Mathlib.Omega.{arith}
+use lib.Dec.{ltb, leb}
+use lib.ListN.{length, drop, length-drop, length-map, drop-of-length-le}
+use lib.Seq.{slice, length-slice}
+use borrow.Author.Tests.{ltb-true, leb-true, leb-false, lt-ltb, le-ltb}
+use Rattle.rules.specs.Base.{joined}
+use Rattle.rules.specs.Places.{All, also, Both, none-left, both}
+use Rattle.rules.specs.Grammar.{Format, ff}
+use Rattle.rules.specs.Plan.{Plan, recordLength}
+use Rattle.rules.specs.Reel.{word, rising, cut, firstOffset, offsets, isReel, blocksOf, ends}
+use Rattle.rules.specs.Blocks.{takenAfter}
+use Rattle.rules.specs.Output.{blockOf, nonEmpty}
+use Rattle.rules.specs.RunRows.{Holds}
+use Rattle.rules.specs.Accepted.{Accepted}
+use Rattle.rules.proofs.Tests.{and-left, and-right}
+use Rattle.rules.proofs.AllLaws.{all-drop}
+use Rattle.rules.proofs.ReelLaws.{header-is, rising-most}
+use Rattle.rules.proofs.BlockSizes.{all-map}
+use Rattle.rules.proofs.BlockLaws.{length-joined}
+use Rattle.rules.proofs.Never.{fixed-in}
+
+-- ---- where blocks end
+
+-- where each block ends, where the first starts at a, as the words of a header
+abbrev pub behindEach : ℕ → List (List ℕ) → List ℕ
+behindEach a [] = []
+behindEach a (b ∷ bs) = word (a + length b) ++ behindEach (a + length b) bs
+
+pub ends-first : (a : ℕ) (bs : List (List ℕ)) → ends a bs ≡ word a ++ behindEach a bs
+ends-first a [] = sym (append-nil (word a))
+ends-first a (b ∷ bs) = ap (word a ++_) (ends-first (a + length b) bs)
+
+-- and as numbers
+abbrev pub endsAfter : ℕ → List (List ℕ) → List ℕ
+endsAfter a [] = []
+endsAfter a (b ∷ bs) = (a + length b) ∷ endsAfter (a + length b) bs
+
+after-cut : (s : List ℕ) (a : ℕ) (os : List ℕ) → rising (length s) a os ≡ true → os ≡ endsAfter a (cut s a os)
+after-cut s a [] r = refl
+after-cut s a (o ∷ os) r =
+    let l = ltb-true a o (and-left (ltb a o) _ r) in
+    let q = and-right (ltb a o) _ r in
+    let e : o ≡ a + length (slice a o s) = omega (arith, length-slice a o s (rising-most (length s) o os q)) in
+    ap₂ _∷_ e (after-cut s o os q ∙ ap (λ (n : ℕ). endsAfter n (cut s o os)) e)
+
+-- the offsets of a reel behind its first are those at which its blocks end
+pub offsets-after : (s : List ℕ) → isReel s ≡ true → offsets s ≡ endsAfter (firstOffset s) (blocksOf s)
+unfolding blocksOf
+offsets-after s e = after-cut s (firstOffset s) (offsets s) (header-is s e .rises)
+
+-- ---- those of the blocks that have a record left
+
+-- of the offsets at which input blocks end, each that is behind `from` ends an output block: its records from there on have n bytes each, and their outputs w
+abbrev pub endsBehind : (n w from to : ℕ) → List ℕ → List ℕ
+endsBehind n w from to [] = []
+endsBehind n w from to (o ∷ os) = let rest = endsBehind n w from to os in cond (ltb from o) (word (to + (o - from) / n * w) ++ rest) rest
+
+-- how many these are
+abbrev pub countBehind : ℕ → List ℕ → ℕ
+countBehind from [] = 0
+countBehind from (o ∷ os) = let rest = countBehind from os in cond (ltb from o) (suc rest) rest
+
+-- a block is its records, one or more, each of n bytes
+pub record OfRecords (n : ℕ) (b : List ℕ) (rs : List (List ℕ)) : Type 0 where
+  pub is : joined rs ≡ b
+  pub some : rs ≡ [] → ⊥
+  pub each : All (λ r. length r ≡ n) rs
+
+-- the blocks of A in FF are such
+pub fixed-records : (p : Plan) → Accepted p → p .format ≡ ff → {bs : List (List ℕ)} {recs : List (List (List ℕ))} → Holds p bs recs
+    → Both (OfRecords (recordLength (p .input))) bs recs
+fixed-records p ok t none-left = none-left
+fixed-records p ok t (both {y = rs} v h) =
+    both (record { is = sym (v .is ∙ ap (λ (f : Format). blockOf f rs) t); some = v .some; each = fixed-in p ok t (v .records) }) (fixed-records p ok t h)
+
+module _ (n : ℕ) (least : 1 ≤ n) where
+  -- a block of i records ends at e: all of them are skipped, or some are left
+  data Step (from k i e : ℕ) : Type 0 where
+    skipped : i ≤ k → e ≤ from → (k - i) * n ≡ from - e → Step from k i e
+    left : k < i → from < e → (k - i) * n ≡ from - e → Step from k i e
+
+  step : (from a k i e : ℕ) → 1 ≤ i → e ≡ a + i * n → k * n ≡ from - a → Step from k i e
+  step from a k i e l q s = go (leb i k) refl
+    where
+      go : (t : Bool) → leb i k ≡ t → Step from k i e
+      go true t =
+          let m = leb-true i k t in
+          let p : 1 * n ≤ i * n = mul-le-mul-right n l in
+          let z : (k - i + i) * n ≡ k * n = ap (λ (x : ℕ). x * n) (let z : k - i + i ≡ k = omega arith in z) in
+          skipped m (omega (arith, mul-le-mul-right {m = i} {n = k} n m, one-mul n)) (omega (arith, add-mul (k - i) i n))
+      go false t =
+          let m = leb-false i k t in
+          let p : suc k * n ≤ i * n = mul-le-mul-right n m in
+          let z : (k - i) * n ≡ 0 * n = ap (λ (x : ℕ). x * n) (let z : k - i ≡ 0 = omega arith in z) in
+          left m (omega (arith, suc-mul k n)) (omega (arith, suc-mul k n, zero-mul n))
+
+  -- where some are left, so many records were taken since the first that is
+  since : (from a k j i e : ℕ) → e ≡ a + i * n → k * n ≡ from - a → j * n ≡ a - from → k < i → (j + (i - k)) * n ≡ e - from
+  since from a k j i e q s t l =
+      let z : (i - k + k) * n ≡ i * n = ap (λ (x : ℕ). x * n) (let z : i - k + k ≡ i = omega arith in z) in
+      omega (arith, add-mul j (i - k) n, add-mul (i - k) k n)
+
+  block-end : (a : ℕ) {b : List ℕ} {rs : List (List ℕ)} → OfRecords n b rs → a + length b ≡ a + length rs * n
+  block-end a v = omega (arith, ap length (v .is), length-joined n (v .each))
+
+  any-record : {b : List ℕ} {rs : List (List ℕ)} → OfRecords n b rs → 1 ≤ length rs
+  any-record {rs = []} v = absurd (v .some refl)
+  any-record {rs = r ∷ rs} v = omega arith
+
+  block-step : (from a k : ℕ) {b : List ℕ} {rs : List (List ℕ)} → OfRecords n b rs → k * n ≡ from - a → Step from k (length rs) (a + length b)
+  block-step from a k v s = step from a k _ _ (any-record v) (block-end a v) s
+
+  module _ (out : List ℕ → List ℕ) where
+    outs : ℕ → List (List (List ℕ)) → List (List (List ℕ))
+    outs k recs = map (map out) (takenAfter k recs)
+
+    none-left-of : (k : ℕ) (rs : List (List ℕ)) (recs : List (List (List ℕ))) → length rs ≤ k → nonEmpty (outs k (rs ∷ recs)) ≡ nonEmpty (outs (k - length rs) recs)
+    unfolding outs
+    none-left-of k rs recs l = rw (drop-of-length-le rs l)
+
+    some-left-of : (k : ℕ) (rs : List (List ℕ)) (recs : List (List (List ℕ))) → k < length rs
+        → nonEmpty (outs k (rs ∷ recs)) ≡ map out (drop k rs) ∷ nonEmpty (outs (k - length rs) recs)
+    unfolding outs
+    some-left-of k rs recs l = go (map out (drop k rs)) (omega (arith, length-map (drop k rs) out, length-drop k rs))
+      where
+        go : (b : List (List ℕ)) → 1 ≤ length b → nonEmpty (b ∷ outs (k - length rs) recs) ≡ b ∷ nonEmpty (outs (k - length rs) recs)
+        go [] m = absurd (omega arith)
+        go (r ∷ b) m = refl
+
+    -- how many output blocks there are: one for each input block that ends behind the first record that is taken
+    pub taken-count : (from a k : ℕ) {bs : List (List ℕ)} {recs : List (List (List ℕ))} → Both (OfRecords n) bs recs → k * n ≡ from - a
+        → length (nonEmpty (map (map out) (takenAfter k recs))) ≡ countBehind from (endsAfter a bs)
+    unfolding outs
+    taken-count from a k none-left s = refl
+    taken-count from a k (both {x = b} {y = rs} {xs = bs} {ys = recs} v h) s =
+        go (λ t. taken-count from (a + length b) (k - length rs) h t) (block-step from a k v s)
+      where
+        go : ((k - length rs) * n ≡ from - (a + length b) → length (nonEmpty (outs (k - length rs) recs)) ≡ countBehind from (endsAfter (a + length b) bs))
+            → Step from k (length rs) (a + length b) → length (nonEmpty (outs k (rs ∷ recs))) ≡ countBehind from (endsAfter a (b ∷ bs))
+        go later (skipped l e t) = ap length (none-left-of k rs recs l) ∙ rw (le-ltb from (a + length b) e) (later t)
+        go later (left l e t) = ap length (some-left-of k rs recs l) ∙ rw (lt-ltb from (a + length b) e) (ap suc (later t))
+
+    -- where they end: each after as many outputs as its input block ends records behind the first that is taken
+    pub taken-ends : (w from to a k j : ℕ) {bs : List (List ℕ)} {recs : List (List (List ℕ))} → Both (OfRecords n) bs recs → All (All (λ r. length (out r) ≡ w)) recs
+        → k * n ≡ from - a → j * n ≡ a - from
+        → behindEach (to + j * w) (map joined (nonEmpty (map (map out) (takenAfter k recs)))) ≡ endsBehind n w from to (endsAfter a bs)
+    unfolding outs
+    taken-ends w from to a k j none-left o s t = refl
+    taken-ends w from to a k j (both {x = b} {y = rs} {xs = bs} {ys = recs} v h) (also m o) s t =
+        go (λ j′ s′ t′. taken-ends w from to (a + length b) (k - length rs) j′ h o s′ t′) (block-step from a k v s)
+      where
+        go : ((j′ : ℕ) → (k - length rs) * n ≡ from - (a + length b) → j′ * n ≡ a + length b - from
+            → behindEach (to + j′ * w) (map joined (nonEmpty (outs (k - length rs) recs))) ≡ endsBehind n w from to (endsAfter (a + length b) bs))
+            → Step from k (length rs) (a + length b)
+            → behindEach (to + j * w) (map joined (nonEmpty (outs k (rs ∷ recs)))) ≡ endsBehind n w from to (endsAfter a (b ∷ bs))
+        go later (skipped l u s′) =
+            ap (λ (z : List (List (List ℕ))). behindEach (to + j * w) (map joined z)) (none-left-of k rs recs l) ∙ rw (le-ltb from (a + length b) u) (later j s′ (omega arith))
+        go later (left l u s′) =
+            let taken = j + (length rs - k) in
+            let t′ : taken * n ≡ a + length b - from = since from a k j (length rs) (a + length b) (block-end a v) s t l in
+            let size : length (joined (map out (drop k rs))) ≡ (length rs - k) * w =
+            length-joined w (all-map out (all-drop k m)) ∙ ap (λ (i : ℕ). i * w) (length-map (drop k rs) out ∙ length-drop k rs) in
+            let there : to + j * w + length (joined (map out (drop k rs))) ≡ to + taken * w = omega (arith, size, add-mul j (length rs - k) w) in
+            ap (λ (z : List (List (List ℕ))). behindEach (to + j * w) (map joined z)) (some-left-of k rs recs l)
+            ∙ ap (λ (p : ℕ). word p ++ behindEach p (map joined (nonEmpty (outs (k - length rs) recs)))) there
+            ∙ rw (lt-ltb from (a + length b) u, div-eq-of-eq-mul-left least (sym t′)) (ap (word (to + taken * w) ++_) (later taken s′ t′))
