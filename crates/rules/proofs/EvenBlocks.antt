@@ -12,19 +12,15 @@ use lib.Seq.{slice, length-slice}
 use borrow.Author.Tests.{ltb-true, leb-true, leb-false, lt-ltb, le-ltb}
 use Rattle.rules.specs.Base.{joined}
 use Rattle.rules.specs.Places.{All, also, Both, none-left, both}
-use Rattle.rules.specs.Grammar.{Format, ff}
-use Rattle.rules.specs.Plan.{Plan, recordLength}
 use Rattle.rules.specs.Reel.{word, rising, cut, firstOffset, offsets, isReel, blocksOf, ends}
 use Rattle.rules.specs.Blocks.{takenAfter}
-use Rattle.rules.specs.Output.{blockOf, nonEmpty}
-use Rattle.rules.specs.RunRows.{Holds}
-use Rattle.rules.specs.Accepted.{Accepted}
+use Rattle.rules.specs.Output.{nonEmpty}
 use Rattle.rules.proofs.Tests.{and-left, and-right}
 use Rattle.rules.proofs.AllLaws.{all-drop}
 use Rattle.rules.proofs.ReelLaws.{header-is, rising-most}
 use Rattle.rules.proofs.BlockSizes.{all-map}
 use Rattle.rules.proofs.BlockLaws.{length-joined}
-use Rattle.rules.proofs.Never.{fixed-in}
+use Rattle.rules.proofs.EvenLaws.{EvenBlock, even-size}
 
 -- ---- where blocks end
 
@@ -67,19 +63,6 @@ abbrev pub countBehind : ℕ → List ℕ → ℕ
 countBehind from [] = 0
 countBehind from (o ∷ os) = let rest = countBehind from os in cond (ltb from o) (suc rest) rest
 
--- a block is its records, one or more, each of n bytes
-pub record OfRecords (n : ℕ) (b : List ℕ) (rs : List (List ℕ)) : Type 0 where
-  pub is : joined rs ≡ b
-  pub some : rs ≡ [] → ⊥
-  pub each : All (λ r. length r ≡ n) rs
-
--- the blocks of A in FF are such
-pub fixed-records : (p : Plan) → Accepted p → p .format ≡ ff → {bs : List (List ℕ)} {recs : List (List (List ℕ))} → Holds p bs recs
-    → Both (OfRecords (recordLength (p .input))) bs recs
-fixed-records p ok t none-left = none-left
-fixed-records p ok t (both {y = rs} v h) =
-    both (record { is = sym (v .is ∙ ap (λ (f : Format). blockOf f rs) t); some = v .some; each = fixed-in p ok t (v .records) }) (fixed-records p ok t h)
-
 module _ (n : ℕ) (least : 1 ≤ n) where
   -- a block of i records ends at e: all of them are skipped, or some are left
   data Step (from k i e : ℕ) : Type 0 where
@@ -107,15 +90,11 @@ module _ (n : ℕ) (least : 1 ≤ n) where
       let z : (i - k + k) * n ≡ i * n = ap (λ (x : ℕ). x * n) (let z : i - k + k ≡ i = omega arith in z) in
       omega (arith, add-mul j (i - k) n, add-mul (i - k) k n)
 
-  block-end : (a : ℕ) {b : List ℕ} {rs : List (List ℕ)} → OfRecords n b rs → a + length b ≡ a + length rs * n
-  block-end a v = omega (arith, ap length (v .is), length-joined n (v .each))
+  block-end : (a : ℕ) {b : List ℕ} {rs : List (List ℕ)} → EvenBlock n b rs → a + length b ≡ a + length rs * n
+  block-end a v = omega (arith, even-size (v .even))
 
-  any-record : {b : List ℕ} {rs : List (List ℕ)} → OfRecords n b rs → 1 ≤ length rs
-  any-record {rs = []} v = absurd (v .some refl)
-  any-record {rs = r ∷ rs} v = omega arith
-
-  block-step : (from a k : ℕ) {b : List ℕ} {rs : List (List ℕ)} → OfRecords n b rs → k * n ≡ from - a → Step from k (length rs) (a + length b)
-  block-step from a k v s = step from a k _ _ (any-record v) (block-end a v) s
+  block-step : (from a k : ℕ) {b : List ℕ} {rs : List (List ℕ)} → EvenBlock n b rs → k * n ≡ from - a → Step from k (length rs) (a + length b)
+  block-step from a k v s = step from a k _ _ (v .some) (block-end a v) s
 
   module _ (out : List ℕ → List ℕ) where
     outs : ℕ → List (List (List ℕ)) → List (List (List ℕ))
@@ -135,7 +114,7 @@ module _ (n : ℕ) (least : 1 ≤ n) where
         go (r ∷ b) m = refl
 
     -- how many output blocks there are: one for each input block that ends behind the first record that is taken
-    pub taken-count : (from a k : ℕ) {bs : List (List ℕ)} {recs : List (List (List ℕ))} → Both (OfRecords n) bs recs → k * n ≡ from - a
+    pub taken-count : (from a k : ℕ) {bs : List (List ℕ)} {recs : List (List (List ℕ))} → Both (EvenBlock n) bs recs → k * n ≡ from - a
         → length (nonEmpty (map (map out) (takenAfter k recs))) ≡ countBehind from (endsAfter a bs)
     unfolding outs
     taken-count from a k none-left s = refl
@@ -148,7 +127,7 @@ module _ (n : ℕ) (least : 1 ≤ n) where
         go later (left l e t) = ap length (some-left-of k rs recs l) ∙ rw (lt-ltb from (a + length b) e) (ap suc (later t))
 
     -- where they end: each after as many outputs as its input block ends records behind the first that is taken
-    pub taken-ends : (w from to a k j : ℕ) {bs : List (List ℕ)} {recs : List (List (List ℕ))} → Both (OfRecords n) bs recs → All (All (λ r. length (out r) ≡ w)) recs
+    pub taken-ends : (w from to a k j : ℕ) {bs : List (List ℕ)} {recs : List (List (List ℕ))} → Both (EvenBlock n) bs recs → All (All (λ r. length (out r) ≡ w)) recs
         → k * n ≡ from - a → j * n ≡ a - from
         → behindEach (to + j * w) (map joined (nonEmpty (map (map out) (takenAfter k recs)))) ≡ endsBehind n w from to (endsAfter a bs)
     unfolding outs

@@ -1,9 +1,10 @@
 -- Records of equal length: in FF the data of the blocks joined is the records joined, each of n bytes, so that the records taken are the reel's data from a place on, cut
 -- every n bytes. By going along the blocks and their records.
+use mathlib.Core.Logic.{inl, inr}
 use mathlib.Core.Path.{_≡_, refl, ap, sym, _∙_, subst}
 use mathlib.Core.Bool.{Bool, true, false}
 use mathlib.Core.List.{List, [], _∷_, _++_, map}
-use mathlib.Core.Option.{Option, none, some, Option·none-ne-some, Option·some-injective}
+use mathlib.Core.Option.{some, Option·none-ne-some, Option·some-injective}
 use Prim.Native.Nat.{ℕ, zero, suc, _+_, _-_, _*_, _/_, _%_, _≤_}
 use native.Mathlib.Nat.{suc-mul, zero-mul, div-add-mod'}
 use native.Mathlib.Omega.{arith}
@@ -16,15 +17,20 @@ use Rattle.rules.specs.Answer.{fine}
 use Rattle.rules.specs.Places.{All, noMore, also, Both, none-left, both}
 use Rattle.rules.specs.Grammar.{Format, ff}
 use Rattle.rules.specs.Reel.{blockCount, isReel, blocksOf}
-use Rattle.rules.specs.Plan.{Plan, recordLength}
-use Rattle.rules.specs.Blocks.{Piece, fixedFrom, piecesIn, meets, dataOf, recordsOf, recordsIn, recordsFrom, takenFrom}
-use Rattle.rules.proofs.AllLaws.{all-append, all-drop, all-head, all-tail}
-use Rattle.rules.proofs.BlockSizes.{all-map}
+use Rattle.rules.specs.Plan.{Plan, recordLength, blockLength}
+use Rattle.rules.specs.Blocks.{Piece, fixedFrom, piecesIn, dataOf, recordsIn, recordsFrom, takenAfter, takenFrom}
+use Rattle.rules.specs.Output.{blockOf}
+use Rattle.rules.specs.Run.{fitting, outputs}
+use Rattle.rules.specs.RunRows.{RecordIs}
+use Rattle.rules.specs.Accepted.{Accepted}
+use Rattle.rules.proofs.AllLaws.{all-append, all-drop, all-head, all-tail, all-imply}
+use Rattle.rules.proofs.BlockSizes.{all-map, Reads, reads-exactly}
 use Rattle.rules.proofs.AnswerLaws.{reads-fine}
 use Rattle.rules.proofs.PartLaws.{joined-append}
 use Rattle.rules.proofs.BlockLaws.{fixed-back, length-joined}
 use Rattle.rules.proofs.ReelLaws.{joined-blocks}
 use Rattle.rules.proofs.TakenLaws.{taken-joined}
+use Rattle.rules.proofs.Never.{Taken, taken-drop, all-fit}
 
 -- xs is records of n bytes each, one behind the other
 pub record Even (n : ℕ) (xs : List ℕ) (rs : List (List ℕ)) : Type 0 where
@@ -73,44 +79,59 @@ module _ {n : ℕ} where
 
 -- ---- FF
 
+-- a block is its records, one or more, each of n bytes
+pub record EvenBlock (n : ℕ) (b : List ℕ) (rs : List (List ℕ)) : Type 0 where
+  pub even : Even n b rs
+  pub some : 1 ≤ length rs
+
 module _ (p : Plan) (t : p .format ≡ ff) where
-  block-even : (b : List ℕ) (rs : List (List ℕ)) → recordsIn p b ≡ some rs → Even (recordLength (p .input)) b rs
-  unfolding recordsIn
-  block-even b rs e = go (eqb (length b % n) 0) refl (ap (λ (f : Format). recordsOf p b (piecesIn f n b)) (sym t) ∙ e)
+  -- a block that was read
+  read-fixed : (b : List ℕ) (rs : List (List ℕ)) → recordsIn p b ≡ some rs → EvenBlock (recordLength (p .input)) b rs × (length b ≤ blockLength (p .input))
+  read-fixed b rs e = go (eqb (length b % n) 0) refl
     where
       n : ℕ
       n = recordLength (p .input)
 
-      cut : (m : Bool) → meets p b (fixedFrom n 0 (length b / n)) ≡ m → recordsOf p b (some (fixedFrom n 0 (length b / n))) ≡ some rs → map (dataOf b) (fixedFrom n 0 (length b / n)) ≡ rs
-      cut true m d = Option·some-injective _ rs (rw m at d)
-      cut false m d = absurd (Option·none-ne-some rs (rw m at d))
+      w : Reads p b rs
+      w = reads-exactly p b rs .0 e
 
-      go : (q : Bool) → eqb (length b % n) 0 ≡ q → recordsOf p b (piecesIn ff n b) ≡ some rs → Even n b rs
-      go false q d = absurd (Option·none-ne-some rs (rw q at d))
-      go true q d =
-          let z = eqb-true (length b % n) 0 q in
-          let k = fixed-back b n 0 (length b / n) (omega (arith, div-add-mod' (length b) n)) in
-          subst (Even n b) (cut (meets p b (fixedFrom n 0 (length b / n))) refl (rw q at d)) (record { is = k .0; each = all-map (dataOf b) (k .1) })
+      found : piecesIn ff n b ≡ some (w .pieces)
+      found = ap (λ (f : Format). piecesIn f n b) (sym t) ∙ w .found
 
-  blocks-both : (i : ℕ) (bs : List (List ℕ)) (recs : List (List (List ℕ))) → recordsFrom p i bs ≡ fine recs → Both (Even (recordLength (p .input))) bs recs
-  blocks-both i bs recs e = go (reads-fine 12 (recordsIn p) i bs recs e)
-    where
-      go : {bs : List (List ℕ)} {recs : List (List (List ℕ))} → Both (λ b rs. recordsIn p b ≡ some rs) bs recs → Both (Even (recordLength (p .input))) bs recs
-      go none-left = none-left
-      go (both {x = b} {y = rs} d h) = both (block-even b rs d) (go h)
+      any : (xs : List Piece) → (xs ≡ [] → ⊥) → 1 ≤ length (map (dataOf b) xs)
+      any [] o = absurd (o refl)
+      any (x ∷ xs) o = omega arith
+
+      made : (length b ≡ length b / n * n) → fixedFrom n 0 (length b / n) ≡ w .pieces → EvenBlock n b (map (dataOf b) (w .pieces))
+      made c i =
+          let k = fixed-back b n 0 (length b / n) c in
+          subst (λ (xs : List Piece). (xs ≡ [] → ⊥) → EvenBlock n b (map (dataOf b) xs)) i
+          (λ o. record { even = record { is = k .0; each = all-map (dataOf b) (k .1) }; some = any _ o }) (w .sizes .any)
+
+      go : (q : Bool) → eqb (length b % n) 0 ≡ q → EvenBlock n b rs × (length b ≤ blockLength (p .input))
+      go false q = absurd (Option·none-ne-some (w .pieces) (rw q at found))
+      go true q =
+          let z = eqb-true (length b % n) 0 q in (
+            subst (EvenBlock n b) (w .is) (made (omega (arith, div-add-mod' (length b) n)) (Option·some-injective _ (w .pieces) (rw q at found))),
+            w .sizes .most,
+          )
 
   -- each block is its records
-  pub blocks-even : (s : List ℕ) (recs : List (List (List ℕ))) → recordsFrom p 1 (blocksOf s) ≡ fine recs → Both (Even (recordLength (p .input))) (blocksOf s) recs
-  blocks-even s recs e = blocks-both 1 (blocksOf s) recs e
+  pub blocks-even : (i : ℕ) (bs : List (List ℕ)) (recs : List (List (List ℕ))) → recordsFrom p i bs ≡ fine recs → Both (EvenBlock (recordLength (p .input))) bs recs
+  blocks-even i bs recs e = go (reads-fine 12 (recordsIn p) i bs recs e)
+    where
+      go : {bs : List (List ℕ)} {recs : List (List (List ℕ))} → Both (λ b rs. recordsIn p b ≡ some rs) bs recs → Both (EvenBlock (recordLength (p .input))) bs recs
+      go none-left = none-left
+      go (both {x = b} {y = rs} d h) = both (read-fixed b rs d .0) (go h)
 
-  joined-even : {bs : List (List ℕ)} {recs : List (List (List ℕ))} → Both (Even (recordLength (p .input))) bs recs → Even (recordLength (p .input)) (joined bs) (joined recs)
+  joined-even : {bs : List (List ℕ)} {recs : List (List (List ℕ))} → Both (EvenBlock (recordLength (p .input))) bs recs → Even (recordLength (p .input)) (joined bs) (joined recs)
   joined-even none-left = record { is = refl; each = noMore }
-  joined-even (both e h) = even-append e (joined-even h)
+  joined-even (both e h) = even-append (e .even) (joined-even h)
 
   -- the blocks' data joined is the records joined
   pub data-even : (s : List ℕ) (recs : List (List (List ℕ))) → isReel s ≡ true → recordsFrom p 1 (blocksOf s) ≡ fine recs
       → Even (recordLength (p .input)) (drop (4 * blockCount s + 8) s) (joined recs)
-  data-even s recs r e = subst (λ (x : List ℕ). Even (recordLength (p .input)) x (joined recs)) (joined-blocks s r) (joined-even (blocks-even s recs e))
+  data-even s recs r e = subst (λ (x : List ℕ). Even (recordLength (p .input)) x (joined recs)) (joined-blocks s r) (joined-even (blocks-even 1 (blocksOf s) recs e))
 
   -- and so are those from number `first` on, from the place where that one starts
   pub taken-even : (s : List ℕ) (recs : List (List (List ℕ))) → isReel s ≡ true → recordsFrom p 1 (blocksOf s) ≡ fine recs → (first : ℕ)
@@ -120,3 +141,23 @@ module _ (p : Plan) (t : p .format ≡ ff) where
       let n = recordLength (p .input) in
       subst (λ (x : List ℕ). Even n x (joined (takenFrom first recs))) (drop-drop (k * n) (4 * blockCount s + 8) s)
       (subst (Even n (drop (k * n) (drop (4 * blockCount s + 8) s))) (sym (taken-joined first recs)) (even-drop k (data-even s recs r e)))
+
+  -- ---- refusal 14 never applies
+
+  taken-fixed : (b : List ℕ) (rs : List (List ℕ)) → recordsIn p b ≡ some rs → Taken p rs
+  taken-fixed b rs e =
+      let w = read-fixed b rs e in
+      record {
+        records = all-imply (λ r h. subst (λ (f : Format). RecordIs f p r) (sym t) h) (w .0 .even .each);
+        most = omega (arith, w .1, ap length (w .0 .even .is), ap (λ (f : Format). length (blockOf f rs)) t);
+      }
+
+  blocks-taken : (k : ℕ) {bs : List (List ℕ)} {recs : List (List (List ℕ))} → Both (λ b rs. recordsIn p b ≡ some rs) bs recs → All (Taken p) (takenAfter k recs)
+  blocks-taken k none-left = noMore
+  blocks-taken k (both {x = b} {y = rs} e h) = also (taken-drop p k rs (taken-fixed b rs e)) (blocks-taken (k - length rs) h)
+
+  -- each output fits
+  pub outputs-fit : Accepted p → (i : ℕ) (bs : List (List ℕ)) (recs : List (List (List ℕ))) → recordsFrom p i bs ≡ fine recs
+      → All (λ holds. holds ≡ true) (fitting (p .mode) p (outputs p recs))
+  unfolding takenFrom
+  outputs-fit ok i bs recs e = all-fit p ok (inr (inl t)) (blocks-taken (p .first - 1) (reads-fine 12 (recordsIn p) i bs recs e))
