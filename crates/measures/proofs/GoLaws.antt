@@ -22,16 +22,16 @@ use Rattle.walks.specs.declared.RecordRead.{RecordRead}
 use Rattle.walks.specs.declared.RecordRead.the-variants.{Record, End}
 use Rattle.walks.specs.Promise.{Walks, Sound, Standing, Passed, bytesLeft, Told, Taken}
 use Rattle.walks.proofs.PromiseLaws.{inside, lent-length, passed, ended}
-use Rattle.measures.specs.declared.Tally.{Tally}
+use Rattle.fillings.specs.declared.Tally.{Tally}
 use Rattle.measures.specs.declared.Measured.the-variants.{TooLong, Fits}
 use Rattle.tasks.specs.Promise.{formOf, lengthOf}
 use Rattle.tasks.proofs.LengthLaws.{length-most, out-length}
-use Rattle.measures.specs.Tallying.{tallyOf, Small}
+use Rattle.fillings.specs.Tallying.{tallyOf, Small}
 use Rattle.measures.specs.Promise.{Measuring, Measurable, fitAnswer, answerOf, measuredOf, Measures}
 use Rattle.measures.proofs.PromiseLaws.{measured-long, measured-fits}
 use Rattle.measures.proofs.FairLaws.{left-few, asks, first-high, s-short, sound, walks-first}
-use Rattle.measures.proofs.TestLaws.{stepOf, testsFrom, lengths, takenMarked, all-count, all-tests, all-totals}
-use Rattle.measures.proofs.TallyLaws.{measureOf, empty, tally-is, bounded, Grown, tally-grown}
+use Rattle.fillings.proofs.TestLaws.{stepOf, testsFrom, lengths, takenMarked, all-count, all-tests, all-totals}
+use Rattle.fillings.proofs.TallyLaws.{measureOf, empty, tally-is, bounded, Grown, tally-grown}
 
 -- ---- a turn, by any step
 

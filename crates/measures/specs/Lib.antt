@@ -1,2 +1,1 @@
 pub mod Promise
-pub mod Tallying

@@ -1,19 +1,9 @@
 // The two passes over the records that are taken, before anything is written: whether the halves of each are permitted (refusal 13), and whether the output of
 // each fits (refusal 14) with what the output reel measures. Document 01, "Blocks and records" and "Refusal numbers".
-ghost use mathlib.Core.Path.{_≡_};
-ghost use Prim.Native.Nat.{_≤_};
 ghost use Rattle.measures.specs.Promise.{Selected, FirstUnpermitted, Measurable, Measures};
-ghost use Rattle.measures.specs.Tallying.{overfillsOf, opensOf, tallyOf, Small};
-use terms::Mode;
+use fillings::Tally;
 use terms::Task;
 use walks::RecordRead;
-
-// What is tallied of the output along the way: so many blocks, the size of the last, and the bytes of all.
-struct Tally {
-    blocks: usize,
-    size: usize,
-    bytes: usize,
-}
 
 // The number of the first record whose output does not fit; or, where each fits, how many blocks, records and bytes the output reel has.
 pub enum Measured {
@@ -59,54 +49,6 @@ pub fn first_unpermitted(task: Task, fields: &[u16], s: &[u8]) -> usize
     }
 }
 
-// Whether no block is open, or a record does not fit behind the others.
-fn overfills(task: Task, tally: Tally, length: usize) -> bool
-    requires { ⌜ Small task tally length ⌝ }
-    ensures { λ r. ⌜ r ≡ overfillsOf (task .limit) (task .cost) tally length ⌝ }
-{
-    let blocks = tally.blocks;
-    let size = tally.size + (task.cost + length);
-    if blocks == 0 {
-        return true;
-    }
-    size > task.limit
-}
-
-// Whether a record opens a block: in TF where its input block begins, in TR and TRF where it does not fit behind the others.
-fn opens(task: Task, tally: Tally, begins: bool, length: usize) -> bool
-    requires { ⌜ Small task tally length ⌝ }
-    ensures { λ r. ⌜ r ≡ opensOf task tally begins length ⌝ }
-{
-    let mode = task.mode;
-    match mode {
-        Mode::TC => overfills(task, tally, length),
-        Mode::TF => begins,
-        Mode::TR => overfills(task, tally, length),
-        Mode::TRF => overfills(task, tally, length),
-    }
-}
-
-// One record more, whose output has this length.
-fn tallied(task: Task, tally: Tally, begins: bool, length: usize) -> Tally
-    requires { ⌜ Small task tally length ⌝ }
-    ensures { λ r. ⌜ r ≡ tallyOf task tally begins length ⌝ }
-{
-    let cost = task.cost;
-    let more = cost + length;
-    if opens(task, tally, begins, length) {
-        return Tally {
-            blocks: tally.blocks + 1,
-            size: cost + more,
-            bytes: tally.bytes + (cost + more),
-        };
-    }
-    Tally {
-        blocks: tally.blocks,
-        size: tally.size + more,
-        bytes: tally.bytes + more,
-    }
-}
-
 // Whether the output of each record taken fits, and what the output reel measures: a pass that holds three numbers and builds nothing.
 pub fn measure(task: Task, s: &[u8]) -> Measured
     requires { ⌜ Measurable task (now s) ⌝ }
@@ -132,7 +74,12 @@ pub fn measure(task: Task, s: &[u8]) -> Measured
                 begins,
                 next,
             } => {
-                let more = tallied(task, tally, begins, tasks::output_length(task, length));
+                let more = fillings::tallied(
+                    task,
+                    tally,
+                    begins,
+                    tasks::output_length(task, length),
+                );
                 if more.size >= over {
                     return Measured::TooLong { record: number };
                 }

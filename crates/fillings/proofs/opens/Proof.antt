@@ -2,10 +2,10 @@
 use mathlib.Core.Path.{ap, _∙_}
 use Rattle.rules.specs.Grammar.{tc, tf, tr, trf}
 use Rattle.terms.specs.Meaning.{modeOf}
-use Rattle.measures.proofs.TallyLaws.{opens-as}
+use Rattle.fillings.proofs.TallyLaws.{opens-as}
 use borrow.Author.Needs.{needs}
-use Rattle.measures.proofs.opens.Statement.{statement}
-use Rattle.measures.proofs.opens.Tie as tie
+use Rattle.fillings.proofs.opens.Statement.{statement}
+use Rattle.fillings.proofs.opens.Tie as tie
 
 enum-told : tie.Need-enum-told
 enum-told c = search needs

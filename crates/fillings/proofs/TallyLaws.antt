@@ -19,9 +19,9 @@ use Rattle.rules.proofs.MeasureLaws.{cost-high, record-high, block-high}
 use Rattle.rules.proofs.Never.{output-other}
 use Rattle.terms.specs.Meaning.{modeOf, TaskIs}
 use Rattle.terms.specs.declared.Task.{Task}
-use Rattle.measures.specs.declared.Tally.{Tally}
-use Rattle.measures.specs.Tallying.{overfillsOf, opensIn, tallyIn, opensOf, tallyOf}
-use Rattle.measures.proofs.TestLaws.{stepOf}
+use Rattle.fillings.specs.declared.Tally.{Tally}
+use Rattle.fillings.specs.Tallying.{overfillsOf, opensIn, tallyIn, opensOf, tallyOf}
+use Rattle.fillings.proofs.TestLaws.{stepOf}
 
 -- ---- whether a block is opened
 

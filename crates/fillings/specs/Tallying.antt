@@ -5,7 +5,7 @@ use lib.Dec.{ltb, eqb}
 use Rattle.rules.specs.Grammar.{Mode, tc, tf, tr, trf}
 use Rattle.terms.specs.Meaning.{modeOf}
 use Rattle.terms.specs.declared.Task.{Task}
-use Rattle.measures.specs.declared.Tally.{Tally}
+use Rattle.fillings.specs.declared.Tally.{Tally}
 
 -- no block is open, or a record whose output has n bytes does not fit behind the others
 unfoldable pub overfillsOf : ℕ → ℕ → Tally → ℕ → Bool

@@ -1,9 +1,9 @@
 -- One record more: it opens a block or goes behind those of the open one, and the numbers are those of the measure.
 use mathlib.Core.Path.{sym, _∙_}
-use Rattle.measures.proofs.TallyLaws.{tally-opens, tally-behind}
+use Rattle.fillings.proofs.TallyLaws.{tally-opens, tally-behind}
 use borrow.Author.Needs.{needs}
-use Rattle.measures.proofs.tallied.Statement.{statement}
-use Rattle.measures.proofs.tallied.Tie as tie
+use Rattle.fillings.proofs.tallied.Statement.{statement}
+use Rattle.fillings.proofs.tallied.Tie as tie
 
 add-more : tie.Need-add-more
 add-more c = search needs

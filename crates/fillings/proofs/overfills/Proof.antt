@@ -1,8 +1,8 @@
 -- A record overfills a block exactly if the size with it passes the limit: the two sums are compared.
-use Rattle.measures.proofs.TallyLaws.{over-first, over-later}
+use Rattle.fillings.proofs.TallyLaws.{over-first, over-later}
 use borrow.Author.Needs.{needs}
-use Rattle.measures.proofs.overfills.Statement.{statement}
-use Rattle.measures.proofs.overfills.Tie as tie
+use Rattle.fillings.proofs.overfills.Statement.{statement}
+use Rattle.fillings.proofs.overfills.Tie as tie
 
 add-size : tie.Need-add-size
 add-size c = search needs

@@ -1,0 +1,62 @@
+// Filling output blocks record by record: what is known along the way are three numbers, and they say whether a record opens a block. Measuring and writing both
+// go by these steps. Document 01, "Blocks and records".
+ghost use mathlib.Core.Path.{_≡_};
+ghost use Prim.Native.Nat.{_≤_};
+ghost use Rattle.fillings.specs.Tallying.{overfillsOf, opensOf, tallyOf, Small};
+use terms::Mode;
+use terms::Task;
+
+// What is tallied of the output along the way: so many blocks, the size of the last, and the bytes of all.
+pub struct Tally {
+    pub blocks: usize,
+    pub size: usize,
+    pub bytes: usize,
+}
+
+// Whether no block is open, or a record does not fit behind the others.
+fn overfills(task: Task, tally: Tally, length: usize) -> bool
+    requires { ⌜ Small task tally length ⌝ }
+    ensures { λ r. ⌜ r ≡ overfillsOf (task .limit) (task .cost) tally length ⌝ }
+{
+    let blocks = tally.blocks;
+    let size = tally.size + (task.cost + length);
+    if blocks == 0 {
+        return true;
+    }
+    size > task.limit
+}
+
+// Whether a record opens a block: in TF where its input block begins, in TR and TRF where it does not fit behind the others.
+fn opens(task: Task, tally: Tally, begins: bool, length: usize) -> bool
+    requires { ⌜ Small task tally length ⌝ }
+    ensures { λ r. ⌜ r ≡ opensOf task tally begins length ⌝ }
+{
+    let mode = task.mode;
+    match mode {
+        Mode::TC => overfills(task, tally, length),
+        Mode::TF => begins,
+        Mode::TR => overfills(task, tally, length),
+        Mode::TRF => overfills(task, tally, length),
+    }
+}
+
+// One record more, whose output has this length.
+pub fn tallied(task: Task, tally: Tally, begins: bool, length: usize) -> Tally
+    requires { ⌜ Small task tally length ⌝ }
+    ensures { λ r. ⌜ r ≡ tallyOf task tally begins length ⌝ }
+{
+    let cost = task.cost;
+    let more = cost + length;
+    if opens(task, tally, begins, length) {
+        return Tally {
+            blocks: tally.blocks + 1,
+            size: cost + more,
+            bytes: tally.bytes + (cost + more),
+        };
+    }
+    Tally {
+        blocks: tally.blocks,
+        size: tally.size + more,
+        bytes: tally.bytes + more,
+    }
+}
