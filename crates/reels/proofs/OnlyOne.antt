@@ -2,10 +2,11 @@
 use mathlib.Core.Path.{_≡_, sym, _∙_}
 use mathlib.Core.List.{List}
 use Prim.Native.Nat.{ℕ}
+use Rattle.rules.specs.Halves.{over}
+use Rattle.rules.specs.Output.{lengthWord}
 use Rattle.rules.specs.Reel.{word}
 use Rattle.rules.specs.ReelPlaces.{wordAt}
 use Rattle.reels.specs.Header.{headerOf, partAt}
-use Rattle.reels.specs.Words.{written, lengthWritten}
 use Rattle.reels.specs.Pieces.{startOf, pieceOf}
 use Rattle.reels.specs.Records.{Judged, ReadAs}
 use Rattle.reels.specs.declared.Form.{Form}
@@ -40,8 +41,8 @@ only-one-rule form b r r′ j j′ = only-one (j .is) (j′ .is)
 pub only-one-read-reel : (form : Form) (s : List ℕ) (r r′ : ReelRead) → ReadAs form s r → ReadAs form s r′ → r ≡ r′
 only-one-read-reel form s r r′ w w′ = answer-once r r′ (only-one (w .is) (w′ .is))
 
-pub only-one-put-word : (at value : ℕ) (out x x′ : List ℕ) → x ≡ written at (word value) out → x′ ≡ written at (word value) out → x ≡ x′
+pub only-one-put-word : (at value : ℕ) (out x x′ : List ℕ) → x ≡ over at (word value) out → x′ ≡ over at (word value) out → x ≡ x′
 only-one-put-word at value out x x′ = only-one
 
-pub only-one-put-length-word : (at length : ℕ) (out x x′ : List ℕ) → x ≡ lengthWritten at length out → x′ ≡ lengthWritten at length out → x ≡ x′
+pub only-one-put-length-word : (at length : ℕ) (out x x′ : List ℕ) → x ≡ over at (lengthWord length) out → x′ ≡ over at (lengthWord length) out → x ≡ x′
 only-one-put-length-word at length out x x′ = only-one

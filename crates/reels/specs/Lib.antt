@@ -1,5 +1,4 @@
 pub mod Header
-pub mod Words
 pub mod Form
 pub mod Pieces
 pub mod Records

@@ -4,10 +4,11 @@ ghost use mathlib.Core.Path.{_≡_};
 ghost use mathlib.Core.List.{[], _∷_};
 ghost use Prim.Native.Nat.{_+_, _≤_, _<_};
 ghost use lib.ListN.{length, drop};
+ghost use Rattle.rules.specs.Halves.{over};
 ghost use Rattle.rules.specs.Blocks.{leastData};
+ghost use Rattle.rules.specs.Output.{lengthWord};
 ghost use Rattle.rules.specs.Reel.{word};
 ghost use Rattle.rules.specs.ReelPlaces.{wordAt};
-ghost use Rattle.reels.specs.Words.{written, lengthWritten};
 ghost use Rattle.reels.specs.Header.{headerOf, partAt};
 ghost use Rattle.reels.specs.Form.{planBy};
 ghost use Rattle.reels.specs.Pieces.{lengthOf, variableStart, startOf, fixedPiece, variablePiece, pieceOf};
@@ -386,17 +387,11 @@ pub fn read_reel(form: Form, s: &[u8]) -> ReelRead
     }
 }
 
-// Four bytes from a place on; where they are not all inside, nothing.
+// Four bytes from a place on.
 fn put_four(out: &mut [u8], at: usize, a: u8, b: u8, c: u8, d: u8)
-    ensures { λ _. ⌜ now (out .exit) ≡ written at (a ∷ b ∷ c ∷ d ∷ []) (now (out .entry)) ⌝ }
+    requires { ⌜ at + 4 ≤ length (now out) ⌝ }
+    ensures { λ _. ⌜ now (out .exit) ≡ over at (a ∷ b ∷ c ∷ d ∷ []) (now (out .entry)) ⌝ }
 {
-    let end = out.len();
-    if end < 4 {
-        return;
-    }
-    if at > end - 4 {
-        return;
-    }
     out[at] = a;
     out[at + 1] = b;
     out[at + 2] = c;
@@ -405,7 +400,8 @@ fn put_four(out: &mut [u8], at: usize, a: u8, b: u8, c: u8, d: u8)
 
 // A big-endian 32-bit number from a place on.
 pub fn put_word(out: &mut [u8], at: usize, value: usize)
-    ensures { λ _. ⌜ now (out .exit) ≡ written at (word value) (now (out .entry)) ⌝ }
+    requires { ⌜ at + 4 ≤ length (now out) ⌝ }
+    ensures { λ _. ⌜ now (out .exit) ≡ over at (word value) (now (out .entry)) ⌝ }
 {
     let a = (value / 0x1000000 % 256) as u8;
     let b = (value / 0x10000 % 256) as u8;
@@ -415,13 +411,12 @@ pub fn put_word(out: &mut [u8], at: usize, value: usize)
 }
 
 // A length of a record or block in FV: 2 bytes, and 2 zero bytes.
-pub fn put_length_word(out: &mut [u8], at: usize, length: usize)
-    ensures { λ _. ⌜ now (out .exit) ≡ lengthWritten at length (now (out .entry)) ⌝ }
+pub fn put_length_word(out: &mut [u8], at: usize, size: usize)
+    requires { ⌜ at + 4 ≤ length (now out) ⌝ }
+    requires { ⌜ size < 65536 ⌝ }
+    ensures { λ _. ⌜ now (out .exit) ≡ over at (lengthWord size) (now (out .entry)) ⌝ }
 {
-    if length > 65535 {
-        return;
-    }
-    let a = (length / 256) as u8;
-    let b = (length % 256) as u8;
+    let a = (size / 256) as u8;
+    let b = (size % 256) as u8;
     put_four(out, at, a, b, 0, 0);
 }

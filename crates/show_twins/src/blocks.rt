@@ -18,8 +18,8 @@ fn put_words(format: Format, length: usize, room: &mut [u8]) -> usize
 {
     match format {
         Format::FV => {
-            reels::put_length_word(room, 0, length + 8);
-            reels::put_length_word(room, 4, length + 4);
+            room::put_length_word(room, 0, length + 8);
+            room::put_length_word(room, 4, length + 4);
             8
         }
         Format::FF => 0,
@@ -70,7 +70,7 @@ fn add(room: &mut [u8], ends: Ends, block: &[u8]) -> Ends {
     if block.len() == 0 {
         return ends;
     }
-    reels::put_word(room, ends.offsets, ends.blocks);
+    room::put_word(room, ends.offsets, ends.blocks);
     Ends {
         offsets: next(ends.offsets),
         blocks: room::put(room, ends.blocks, block),
@@ -103,14 +103,14 @@ fn join(copies: usize, block: &[u8], last: &[u8], room: &mut [u8]) -> usize
     requires { ⌜ copies ≤ 65524 ⌝ }
 {
     let k = count(copies, last);
-    reels::put_word(room, 0, k);
+    room::put_word(room, 0, k);
     let begun = Ends {
         offsets: 4,
         blocks: 4 * k + 8,
     };
     let copied = add_copies(room, begun, block, copies);
     let done = add(room, copied, last);
-    reels::put_word(room, done.offsets, done.blocks);
+    room::put_word(room, done.offsets, done.blocks);
     done.blocks
 }
 

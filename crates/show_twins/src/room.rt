@@ -8,6 +8,22 @@ pub(crate) fn put(room: &mut [u8], from: usize, bytes: &[u8]) -> usize {
     files::put(room, from, bytes)
 }
 
+// Puts a big-endian 32-bit number into the room; where its four bytes are not all inside, nothing.
+pub(crate) fn put_word(room: &mut [u8], at: usize, value: usize) {
+    if room.len() < 4 || room.len() - 4 < at {
+        return;
+    }
+    reels::put_word(room, at, value);
+}
+
+// Puts the word of a length into the room; where its four bytes are not all inside, or 2 bytes do not hold the length, nothing.
+pub(crate) fn put_length_word(room: &mut [u8], at: usize, size: usize) {
+    if 65535 < size || room.len() < 4 || room.len() - 4 < at {
+        return;
+    }
+    reels::put_length_word(room, at, size);
+}
+
 // The first bytes of the room; none where there are not so many.
 pub(crate) fn front(room: &[u8], length: usize) -> &[u8] {
     if room.len() < length {

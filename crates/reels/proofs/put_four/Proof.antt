@@ -1,16 +1,10 @@
--- Four stores, where the four bytes are inside.
+-- Four stores, and the four bytes are inside.
 use borrow.Author.Needs.{needs}
 use native.Mathlib.Omega.{arith}
 use lib.ListN.{length-set}
-use Rattle.reels.proofs.WordsLaws.{written-outside, four-written}
+use Rattle.reels.proofs.WordsLaws.{four-over}
 use Rattle.reels.proofs.put_four.Statement.{statement}
 use Rattle.reels.proofs.put_four.Tie as tie
-
-returns : tie.Need-returns
-returns c = written-outside _ _ _ (omega arith)
-
-returns-2 : tie.Need-returns-2
-returns-2 c = written-outside _ _ _ (omega arith)
 
 slice-write-out : tie.Need-slice-write-out
 slice-write-out c = search needs
@@ -36,15 +30,13 @@ slice-write-out-4 c = simp length-set (omega arith)
 same-length : tie.Need-same-length
 same-length c = search needs
 
-returns-3 : tie.Need-returns-3
-returns-3 c = four-written _ _ _ _ _ _ (omega arith)
+returns : tie.Need-returns
+returns c = four-over _ _ _ _ _ _ (omega arith)
 
 pub put-four-spec : {M : Type 1} → statement M
 put-four-spec =
     tie.close
     (tie.spec
-    returns
-    returns-2
     slice-write-out
     add-out
     slice-write-out-2
@@ -53,4 +45,4 @@ put-four-spec =
     add-out-3
     slice-write-out-4
     same-length
-    returns-3)
+    returns)

@@ -1,12 +1,9 @@
 -- The two bytes of the length and two zero bytes are its word.
 use mathlib.Core.Path.{_∙_}
 use borrow.Author.Needs.{needs}
-use Rattle.reels.proofs.WordsLaws.{four-length, length-too-high}
+use Rattle.reels.proofs.WordsLaws.{four-length}
 use Rattle.reels.proofs.put_length_word.Statement.{statement}
 use Rattle.reels.proofs.put_length_word.Tie as tie
-
-returns : tie.Need-returns
-returns c = length-too-high _ _ _ (c .if1 .taken)
 
 cast-a : tie.Need-cast-a
 cast-a c = search needs
@@ -20,9 +17,9 @@ put-four-requires c κs = search needs
 same-length : tie.Need-same-length
 same-length c = search needs
 
-returns-2 : tie.Need-returns-2
-returns-2 c = c .before .before .put-four .ensures ∙ four-length _ _ _ (c .before .before .before .before .if1 .left)
+returns : tie.Need-returns
+returns c = c .before .before .put-four .ensures ∙ four-length _ _ _
 
 pub put-length-word-spec : {M : Type 1} → statement M
 put-length-word-spec =
-    tie.close (tie.spec returns cast-a cast-b put-four-requires same-length returns-2)
+    tie.close (tie.spec cast-a cast-b put-four-requires same-length returns)
