@@ -115,3 +115,4 @@ pub mod RunColumns
 pub mod ColumnTable
 pub mod ColumnSteps
 pub mod EvenLaws
+pub mod EvenOutput
