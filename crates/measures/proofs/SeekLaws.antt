@@ -40,7 +40,7 @@ pub record Lent (fields : List ℕ) (p : Plan) : Type 0 where
   pub zone : p .zone ≡ zoneF
   pub selecting : selects (p .mode) ≡ true
 
-lent-of : {task : Task} {fields s : List ℕ} {p : Plan} {recs : List (List (List ℕ))} → Selecting task fields s p recs → Lent fields p
+pub lent-of : {task : Task} {fields s : List ℕ} {p : Plan} {recs : List (List (List ℕ))} → Selecting task fields s p recs → Lent fields p
 lent-of x = record { flat = x .flat; zone = x .zone; selecting = x .selecting }
 
 module _ {fields : List ℕ} {p : Plan} (ok : Accepted p) (x : Lent fields p) where
@@ -50,7 +50,7 @@ module _ {fields : List ℕ} {p : Plan} (ok : Accepted p) (x : Lent fields p) wh
   long : (r : List ℕ) → leastData p ≤ length r → recordLength (p .input) ≤ length r
   long r l = omega (arith, least-selects p (x .selecting))
 
-  readable : (r : List ℕ) → leastData p ≤ length r → Readable fields (length r)
+  pub readable : (r : List ℕ) → leastData p ≤ length r → Readable fields (length r)
   readable r l =
       record {
         a = recordLength (p .input);
@@ -59,7 +59,7 @@ module _ {fields : List ℕ} {p : Plan} (ok : Accepted p) (x : Lent fields p) wh
         long = long r l;
       }
 
-  permits-is : (r : List ℕ) (t : Bool) → Permits fields r t → leastData p ≤ length r → permits p r ≡ t
+  pub permits-is : (r : List ℕ) (t : Bool) → Permits fields r t → leastData p ≤ length r → permits p r ≡ t
   unfolding Permits
   permits-is r t f l = permits-halves p (x .selecting) zoneF (x .zone) r ∙ sym (f (p .fields) _ _ fair-fields (long r l))
 

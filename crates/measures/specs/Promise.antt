@@ -2,8 +2,8 @@
 use mathlib.Core.Path.{_≡_}
 use mathlib.Core.Bool.{true, false}
 use mathlib.Core.List.{List, map}
-use Prim.Native.Nat.{ℕ, zero, suc}
-use lib.ListN.{length}
+use Prim.Native.Nat.{ℕ, zero, suc, _*_, _≤_}
+use lib.ListN.{length, drop}
 use Rattle.rules.specs.Base.{joined}
 use Rattle.rules.specs.Answer.{Answer, fine, refused, _>>_, each}
 use Rattle.rules.specs.Plan.{Plan, selects, isTC}
@@ -13,9 +13,12 @@ use Rattle.rules.specs.Output.{permits, blockOf}
 use Rattle.rules.specs.Run.{fitting, outputs, outputBlocks}
 use Rattle.rules.specs.Lent.{zoneF}
 use Rattle.terms.specs.declared.Task.{Task}
+use Rattle.terms.specs.declared.Format.the-variants.{FF}
 use Rattle.terms.specs.Meaning.{TaskIs}
 use Rattle.rows.specs.Flat.{flatOf}
 use Rattle.walks.specs.Promise.{Good}
+use Rattle.walks.specs.Walking.{fixedStart}
+use Rattle.tasks.specs.Promise.{formOf}
 use Rattle.measures.specs.declared.Measured.{Measured}
 use Rattle.measures.specs.declared.Measured.the-variants.{TooLong, Fits}
 
@@ -81,3 +84,17 @@ measuredOf p recs =
 -- the answer is that of the rules
 unfoldable pub Measures : Task → List ℕ → Measured → Type 0
 Measures task s r = (p : Plan) (recs : List (List (List ℕ))) → Measuring task s p recs → answerOf r ≡ measuredOf p recs
+
+-- ---- FF
+
+-- the plan is no copy, in FF, and so many records stand from this place on
+pub record FixedFrom (task : Task) (s : List ℕ) (from records : ℕ) : Type 0 where
+  pub some : Measurable task s
+  pub fixed : task .format ≡ FF
+  pub start : from ≡ fixedStart (formOf task) s (task .first)
+  pub all : length (drop from s) ≡ records * task .n
+
+-- so many blocks has the output
+pub record FixedBlocks (task : Task) (s : List ℕ) (r : ℕ) : Type 0 where
+  pub is : (p : Plan) (recs : List (List (List ℕ))) → Measuring task s p recs → r ≡ length (outputBlocks p recs)
+  pub few : r ≤ 131072

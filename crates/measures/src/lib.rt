@@ -1,7 +1,14 @@
 // The two passes over the records that are taken, before anything is written: whether the halves of each are permitted (refusal 13), and whether the output of
 // each fits (refusal 14) with what the output reel measures. Document 01, "Blocks and records" and "Refusal numbers".
-ghost use Rattle.measures.specs.Promise.{Selected, FirstUnpermitted, Measurable, Measures};
+ghost use mathlib.Core.Path.{_≡_};
+ghost use mathlib.Core.Bool.{true};
+ghost use Prim.Native.Nat.{_+_, _-_, _/_, _≤_};
+ghost use Rattle.rules.specs.Reel.{isReel, offsets};
+ghost use Rattle.rules.proofs.EvenBlocks.{countBehind};
+ghost use Rattle.measures.specs.Promise.{Selected, FirstUnpermitted, Measurable, Measures, FixedFrom, FixedBlocks};
 use fillings::Tally;
+use terms::Format;
+use terms::Mode;
 use terms::Task;
 use walks::RecordRead;
 
@@ -17,8 +24,8 @@ pub enum Measured {
     },
 }
 
-// The number of the first record taken of which a half is not permitted, or 0.
-pub fn first_unpermitted(task: Task, fields: &[u16], s: &[u8]) -> usize
+// The number of the first record taken of which a half is not permitted, or 0: along the walk.
+fn first_walked(task: Task, fields: &[u16], s: &[u8]) -> usize
     requires { ⌜ Selected task (now fields) (now s) ⌝ }
     ensures { λ r. ⌜ FirstUnpermitted task (now (fields .entry)) (now (s .entry)) r ⌝ }
 {
@@ -49,8 +56,8 @@ pub fn first_unpermitted(task: Task, fields: &[u16], s: &[u8]) -> usize
     }
 }
 
-// Whether the output of each record taken fits, and what the output reel measures: a pass that holds three numbers and builds nothing.
-pub fn measure(task: Task, s: &[u8]) -> Measured
+// Whether the output of each record taken fits, and what the output reel measures: along the walk, in a pass that holds three numbers and builds nothing.
+fn measure_walked(task: Task, s: &[u8]) -> Measured
     requires { ⌜ Measurable task (now s) ⌝ }
     ensures { λ r. ⌜ Measures task (now (s .entry)) r ⌝ }
 {
@@ -95,5 +102,110 @@ pub fn measure(task: Task, s: &[u8]) -> Measured
                 };
             }
         }
+    }
+}
+
+// In FF the records taken stand one behind the other, through all blocks.
+fn first_fixed(task: Task, fields: &[u16], s: &[u8]) -> usize
+    requires { ⌜ Selected task (now fields) (now s) ⌝ }
+    requires { ⌜ task .format ≡ Format.FF ⌝ }
+    ensures { λ r. ⌜ FirstUnpermitted task (now (fields .entry)) (now (s .entry)) r ⌝ }
+{
+    let n = task.n;
+    let first = task.first;
+    let from = walks::fixed_start(tasks::form_of(task), s, first);
+    let data = walks::rest(s, from);
+    let mut at = 0;
+    let mut number = first;
+    while at < data.len() {
+        let end = at + n;
+        if !records::permitted(fields, &data[at..end]) {
+            return number;
+        }
+        at = end;
+        number += 1;
+    }
+    0
+}
+
+// The number of the first record taken of which a half is not permitted, or 0.
+pub fn first_unpermitted(task: Task, fields: &[u16], s: &[u8]) -> usize
+    requires { ⌜ Selected task (now fields) (now s) ⌝ }
+    ensures { λ r. ⌜ FirstUnpermitted task (now (fields .entry)) (now (s .entry)) r ⌝ }
+{
+    let format = task.format;
+    match format {
+        Format::FF => first_fixed(task, fields, s),
+        Format::FV => first_walked(task, fields, s),
+        Format::FU => first_walked(task, fields, s),
+    }
+}
+
+// How many blocks of a reel end behind a place.
+fn blocks_behind(s: &[u8], from: usize) -> usize
+    requires { ⌜ isReel (now s) ≡ true ⌝ }
+    ensures { λ r. ⌜ r ≡ countBehind from (offsets (now (s .entry))) ⌝ }
+{
+    let count = reels::word(s, 0);
+    let mut blocks = 0;
+    let mut i = 0;
+    while i < count {
+        if from < reels::word(s, 4 * i + 8) {
+            blocks += 1;
+        }
+        i += 1;
+    }
+    blocks
+}
+
+// In FF: how many blocks so many records make, where they are filled: each but the last has as many as fit.
+fn blocks_filled(task: Task, records: usize) -> usize
+    requires { ⌜ (1 ≤ task .width) × (task .width ≤ task .limit) × (task .limit ≤ 65536) × (records ≤ 65536) ⌝ }
+    ensures { λ r. ⌜ r ≡ (records + task .limit / task .width - 1) / (task .limit / task .width) ⌝ }
+{
+    let most = task.limit / task.width;
+    (records + most - 1) / most
+}
+
+// In FF: how many blocks the records from a place on make. In TF each input block that ends behind it makes one.
+fn fixed_blocks(task: Task, s: &[u8], from: usize, records: usize) -> usize
+    requires { ⌜ FixedFrom task (now s) from records ⌝ }
+    ensures { λ r. ⌜ FixedBlocks task (now (s .entry)) r ⌝ }
+{
+    let mode = task.mode;
+    match mode {
+        Mode::TC => blocks_filled(task, records),
+        Mode::TF => blocks_behind(s, from),
+        Mode::TR => blocks_filled(task, records),
+        Mode::TRF => blocks_filled(task, records),
+    }
+}
+
+// In FF each output fits, and all have one length: the measure is found by dividing.
+fn measure_fixed(task: Task, s: &[u8]) -> Measured
+    requires { ⌜ Measurable task (now s) ⌝ }
+    requires { ⌜ task .format ≡ Format.FF ⌝ }
+    ensures { λ r. ⌜ Measures task (now (s .entry)) r ⌝ }
+{
+    let from = walks::fixed_start(tasks::form_of(task), s, task.first);
+    let records = walks::rest(s, from).len() / task.n;
+    let blocks = fixed_blocks(task, s, from, records);
+    Measured::Fits {
+        blocks,
+        records,
+        length: 4 * blocks + 8 + records * task.width,
+    }
+}
+
+// Whether the output of each record taken fits, and what the output reel measures.
+pub fn measure(task: Task, s: &[u8]) -> Measured
+    requires { ⌜ Measurable task (now s) ⌝ }
+    ensures { λ r. ⌜ Measures task (now (s .entry)) r ⌝ }
+{
+    let format = task.format;
+    match format {
+        Format::FF => measure_fixed(task, s),
+        Format::FV => measure_walked(task, s),
+        Format::FU => measure_walked(task, s),
     }
 }

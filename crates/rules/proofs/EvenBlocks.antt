@@ -63,6 +63,14 @@ abbrev pub countBehind : ℕ → List ℕ → ℕ
 countBehind from [] = 0
 countBehind from (o ∷ os) = let rest = countBehind from os in cond (ltb from o) (suc rest) rest
 
+pub count-most : (from : ℕ) (os : List ℕ) → countBehind from os ≤ length os
+count-most from [] = omega arith
+count-most from (o ∷ os) = go (ltb from o) (count-most from os)
+  where
+    go : (t : Bool) → countBehind from os ≤ length os → cond t (suc (countBehind from os)) (countBehind from os) ≤ suc (length os)
+    go true l = omega arith
+    go false l = omega arith
+
 module _ (n : ℕ) (least : 1 ≤ n) where
   -- a block of i records ends at e: all of them are skipped, or some are left
   data Step (from k i e : ℕ) : Type 0 where

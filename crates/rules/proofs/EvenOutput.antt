@@ -69,6 +69,10 @@ module _ (p : Plan) (ok : Accepted p) (t : p .format ≡ ff) (s : List ℕ) (r :
       ∙ joined-twice (outputBlocks p recs)
       ∙ ap joined (blocked-records (p .mode) p (outputs p recs) ∙ outs-are)
 
+  -- and as many records as are taken
+  pub output-count : length (joined (outputBlocks p recs)) ≡ length taken
+  output-count = ap length (blocked-records (p .mode) p (outputs p recs) ∙ outs-are) ∙ length-map taken (outRecord p)
+
   pub output-length : length (joined (map (outRecord p) taken)) ≡ length taken * w
   output-length = length-joined w outs-even ∙ ap (λ (k : ℕ). k * w) (length-map taken (outRecord p))
 

@@ -4,8 +4,8 @@ use borrow.Author.Needs.{needs}
 use Rattle.walks.specs.Promise.{bytesLeft}
 use Rattle.walks.proofs.PromiseLaws.{inside}
 use Rattle.measures.proofs.GoLaws.{Going, go-start, go-few, go-bytes, go-short, go-small, go-stop, go-more, go-end, go-limit, go-sound, go-stands}
-use Rattle.measures.proofs.measure.Statement.{statement}
-use Rattle.measures.proofs.measure.Tie as tie
+use Rattle.measures.proofs.measure_walked.Statement.{statement}
+use Rattle.measures.proofs.measure_walked.Tie as tie
 
 abbrev Inv-loop : tie.InvT-loop
 Inv-loop task s form first over walk₀ number₀ tally₀ walk number tally = Going task s walk number tally
@@ -75,8 +75,8 @@ add-t19 c = let g = go-bytes (c .before .before .before .before .before .before 
 returns-2 : tie.Need-returns-2 Inv-loop μ-loop
 returns-2 c = go-end (c .before .before .before .before .before .before .before .before .before .before .args .task) (c .before .before .before .before .before .before .before .before .form-of .ensures) (c .before .before .before .before .before .loop .inv) (c .before .before .before .before .«record» .ensures) (c .before .before .enum-told .given .1)
 
-pub measure-spec : {M : Type 1} → statement M
-measure-spec =
+pub measure-walked-spec : {M : Type 1} → statement M
+measure-walked-spec =
     tie.close
     (tie.spec
     Inv-loop

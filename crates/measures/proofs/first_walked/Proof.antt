@@ -5,8 +5,8 @@ use borrow.Author.Tests.{not-true, not-false}
 use Rattle.walks.specs.Promise.{bytesLeft}
 use Rattle.walks.proofs.PromiseLaws.{inside}
 use Rattle.measures.proofs.SeekLaws.{Seeking, seek-start, seek-more, seek-readable, seek-stop, seek-end, seek-few, seek-sound, seek-stands, seek-short}
-use Rattle.measures.proofs.first_unpermitted.Statement.{statement}
-use Rattle.measures.proofs.first_unpermitted.Tie as tie
+use Rattle.measures.proofs.first_walked.Statement.{statement}
+use Rattle.measures.proofs.first_walked.Tie as tie
 
 abbrev Inv-loop : tie.InvT-loop
 Inv-loop fields s form first w₀ number₀ w number = Seeking form first fields s w number
@@ -66,8 +66,8 @@ enum-told c = search needs
 returns-2 : tie.Need-returns-2 Inv-loop μ-loop
 returns-2 c = seek-end (c .before .before .before .before .before .before .before .before .args .task) (c .before .before .before .before .before .form-of .ensures) (c .before .before .before .loop .inv) (c .before .before .«record» .ensures) (c .enum-told .given .1)
 
-pub first-unpermitted-spec : {M : Type 1} → statement M
-first-unpermitted-spec =
+pub first-walked-spec : {M : Type 1} → statement M
+first-walked-spec =
     tie.close
     (tie.spec
     Inv-loop

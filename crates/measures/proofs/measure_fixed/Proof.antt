@@ -1,0 +1,65 @@
+-- By the place where R starts, what is left of the reel there, and the blocks that its records make.
+use mathlib.Core.Path.{_≡_, ap, _∙_}
+use native.Mathlib.Omega.{arith}
+use lib.ListN.{length}
+use borrow.Author.Needs.{needs}
+use Rattle.reels.specs.declared.Form.{Form}
+use Rattle.walks.specs.Walking.{fixedStart}
+use Rattle.tasks.specs.Promise.{formOf}
+use Rattle.measures.proofs.FairLaws.{asks, first-low, first-high, sound}
+use Rattle.measures.proofs.FixedSeek.{record-some}
+use Rattle.measures.proofs.FixedMeasure.{fixed-from, fixed-measures, bytes-small}
+use Rattle.measures.proofs.measure_fixed.Statement.{statement}
+use Rattle.measures.proofs.measure_fixed.Tie as tie
+
+form-of-requires : tie.Need-form-of-requires
+form-of-requires c κs = search needs
+
+fixed-start-requires : tie.Need-fixed-start-requires
+fixed-start-requires c κs =
+    let x = asks (c .form-of .ensures) (c .before .before .pre .0 .given .fair) in
+    (sound x, (first-low x, first-high x))
+
+rest-requires : tie.Need-rest-requires
+rest-requires c κs = search needs
+
+-- R starts where the plan's numbers say
+start : (c : tie.After-struct-known) → c .before .before .fixed-start .result ≡ fixedStart (formOf (c .before .before .before .before .before .args .task)) (c .before .before .before .before .before .args .s .now) (c .before .before .before .before .before .args .task .first)
+start c =
+    c .before .before .fixed-start .ensures ∙ ap (λ (f : Form). fixedStart f (c .before .before .before .before .before .args .s .now) (c .before .before .before .before .before .args .task .first)) (c .before .before .before .form-of .ensures)
+
+div-records : tie.Need-div-records
+div-records c = record-some (c .before .before .before .before .before .pre .0 .given .fair) (c .before .before .before .before .before .pre .1)
+
+fixed-blocks-requires : tie.Need-fixed-blocks-requires
+fixed-blocks-requires c κs = fixed-from (c .before .before .before .before .before .pre .0) (c .before .before .before .before .before .pre .1) (start c) _ (ap length (c .before .rest .ensures))
+
+mul-t8 : tie.Need-mul-t8
+mul-t8 c = search needs
+
+add-t9 : tie.Need-add-t9
+add-t9 c = search needs
+
+mul-t10 : tie.Need-mul-t10
+mul-t10 c = omega (arith, bytes-small (c .before .before .before .before .before .before .before .pre .0) (c .before .before .before .before .before .before .before .pre .1) (start (c .before .before)) _ (ap length (c .before .before .before .rest .ensures)))
+
+add-t11 : tie.Need-add-t11
+add-t11 c = omega (arith, c .before .fixed-blocks .ensures .few, bytes-small (c .before .before .before .before .before .before .before .pre .0) (c .before .before .before .before .before .before .before .pre .1) (start (c .before .before)) _ (ap length (c .before .before .before .rest .ensures)))
+
+returns : tie.Need-returns
+returns c = fixed-measures (c .before .before .before .before .before .before .before .pre .0) (c .before .before .before .before .before .before .before .pre .1) (start (c .before .before)) _ _ (ap length (c .before .before .before .rest .ensures)) (c .before .fixed-blocks .ensures)
+
+pub measure-fixed-spec : {M : Type 1} → statement M
+measure-fixed-spec =
+    tie.close
+    (tie.spec
+    form-of-requires
+    fixed-start-requires
+    rest-requires
+    div-records
+    fixed-blocks-requires
+    mul-t8
+    add-t9
+    mul-t10
+    add-t11
+    returns)
