@@ -1,27 +1,87 @@
--- Whether a record is permitted, walked field by field over the numbers of the fields. It holds since each field is read back from its numbers,
--- and a record is permitted exactly if each field may have its input.
-use mathlib.Core.Path.{_≡_, ap, sym, _∙_}
-use mathlib.Core.Bool.{Bool, true, false}
+-- Whether a record is permitted: of a field's input byte after byte, and of the record field after field. It holds since a kind asks the same of each
+-- byte but the last, and since a record is permitted exactly if each field may have its input.
+use mathlib.Core.Path.{_≡_, ap, ap₂, sym, subst, _∙_}
+use mathlib.Core.Bool.{Bool, true, false, _&&_, and-true}
 use mathlib.Core.List.{List}
-use Prim.Native.Nat.{ℕ, _+_, _-_, _*_, _≤_}
+use Prim.Native.Nat.{ℕ, _+_, _-_, _*_, _/_, _%_, _≤_, _<_}
 use native.Mathlib.Omega.{arith}
-use lib.ListN.{length, take, drop, drop-of-length-le}
+use lib.Dec.{eqb, leb}
+use lib.ListN.{length, take, drop, getD}
+use borrow.Author.Tests.{eq-eqb, ne-eqb, le-leb, leb-true}
 use Rattle.rules.specs.Base.{every}
 use Rattle.rules.specs.Places.{All, Byte}
-use Rattle.rules.specs.Halves.{halves, Kind as RuleKind, copy, inputSize, Field as RuleField}
-use Rattle.rules.specs.Permitted.{kindAllows, permitted}
+use Rattle.rules.specs.Halves.{halves, Kind as RuleKind, pack, unpack, inputSize, Field as RuleField}
+use Rattle.rules.specs.Permitted.{digit, sign, kindAllows}
 use Rattle.rules.specs.Output.{mayBe}
 use Rattle.rules.specs.Lent.{zoneF}
-use Rattle.rules.specs.RecordParts.{fieldInput}
-use Rattle.rules.proofs.AllLaws.{all-take, all-drop}
-use Rattle.rules.proofs.FieldTests.{copy-permitted, fields-tested}
+use Rattle.rules.specs.RecordParts.{Fits, fieldInput}
+use Rattle.rules.proofs.Tests.{within-of, within-high}
+use Rattle.rules.proofs.LentParts.{part-length}
+use Rattle.rules.proofs.PermittedLaws.{same-test}
+use Rattle.rules.proofs.FieldTests.{pack-byte-test, unpack-byte-test, bytes-step, bytes-end, copy-permitted, fields-tested}
 use Rattle.terms.specs.Meaning.{kindOf, fieldOf}
 use Rattle.terms.specs.declared.Kind.{Kind}
-use Rattle.terms.specs.declared.Kind.the-variants.{Copy}
 use Rattle.terms.specs.declared.Field.{Field}
-use Rattle.rows.specs.Flat.{fieldAt, FlatFair, Readable}
+use Rattle.rows.specs.Flat.{flatOf, kindAt, fieldAt, Readable}
 use Rattle.records.specs.Promise.{Permits}
-use Rattle.rows.proofs.FlatLaws.{input-of, fields-many, fields-left, fits-at}
+use Rattle.rows.proofs.FlatLaws.{input-of, fits-at}
+use Rattle.records.proofs.WalkLaws.{kind-of-row, kind-copy}
+
+-- ---- one byte
+
+-- from F0 on, up to F9 it is a digit with F before it
+pub zoned-test : (b : ℕ) → b < 256 → 240 ≤ b → leb b 249 ≡ (eqb (b / 16) zoneF && digit (b % 16))
+zoned-test b small low =
+    same-test (leb b 249) (digit (b % 16)) (λ t. within-of 0 9 (b % 16) (omega arith) (omega (arith, leb-true b 249 t))) (λ t. le-leb b 249 (omega (arith, within-high 0 9 (b % 16) t)))
+    ∙ sym (rw (eq-eqb (b / 16) zoneF (omega arith)))
+
+pub zone-missing : (b : ℕ) → b < 240 → (eqb (b / 16) zoneF && digit (b % 16)) ≡ false
+zone-missing b h = rw (ne-eqb (b / 16) zoneF (λ e. omega arith))
+
+-- ---- byte after byte
+
+-- both halves of byte i may be these
+abbrev pub byteMay : RuleKind → List ℕ → ℕ → Bool
+byteMay k s i = kindAllows zoneF k (2 * i) (getD s i 0 / 16) && kindAllows zoneF k (2 * i + 1) (getD s i 0 % 16)
+
+-- the bytes before place i pass: what is left to ask is of the others
+abbrev pub BytesLeft : RuleKind → List ℕ → ℕ → Type 0
+BytesLeft k s i = mayBe (kindAllows zoneF k) 0 (halves s) ≡ mayBe (kindAllows zoneF k) (2 * i) (halves (drop i s))
+
+module _ (k : RuleKind) (s : List ℕ) (i : ℕ) (known : BytesLeft k s i) (l : i < length s) where
+  pub bytes-more : byteMay k s i ≡ true → BytesLeft k s (i + 1)
+  bytes-more t = known ∙ bytes-step (kindAllows zoneF k) s i l ∙ rw t
+
+  pub bytes-fail : byteMay k s i ≡ false → mayBe (kindAllows zoneF k) 0 (halves s) ≡ false
+  bytes-fail t = known ∙ bytes-step (kindAllows zoneF k) s i l ∙ rw t
+
+  bytes-last : i + 1 ≡ length s → mayBe (kindAllows zoneF k) 0 (halves s) ≡ byteMay k s i
+  bytes-last e = known ∙ bytes-step (kindAllows zoneF k) s i l ∙ rw (bytes-end (kindAllows zoneF k) s (i + 1) (omega arith)) (and-true (byteMay k s i))
+
+module _ (s : List ℕ) (m i : ℕ) where
+  -- but for the last byte
+  pub pack-inner : i + 1 < length s → byteMay (pack (length s) m) s i ≡ (eqb (getD s i 0 / 16) zoneF && digit (getD s i 0 % 16))
+  pack-inner h = pack-byte-test zoneF (length s) m i (getD s i 0) (omega arith) ∙ rw (ne-eqb (i + 1) (length s) (λ e. omega arith))
+
+  pub unpack-inner : i + 1 < length s → byteMay (unpack (length s) m) s i ≡ (digit (getD s i 0 / 16) && digit (getD s i 0 % 16))
+  unpack-inner h = unpack-byte-test zoneF (length s) m i (getD s i 0) (omega arith) ∙ rw (ne-eqb (i + 1) (length s) (λ e. omega arith))
+
+  -- of the last
+  pub pack-end : BytesLeft (pack (length s) m) s i → i + 1 ≡ length s
+      → mayBe (kindAllows zoneF (pack (length s) m)) 0 (halves s) ≡ (sign (getD s (length s - 1) 0 / 16) && digit (getD s (length s - 1) 0 % 16))
+  pack-end known e =
+      bytes-last (pack (length s) m) s i known (omega arith) e
+      ∙ pack-byte-test zoneF (length s) m i (getD s i 0) (omega arith)
+      ∙ rw (eq-eqb (i + 1) (length s) e)
+      (ap (λ (j : ℕ). sign (getD s j 0 / 16) && digit (getD s j 0 % 16)) (let z : i ≡ length s - 1 = omega arith in z))
+
+  pub unpack-end : BytesLeft (unpack (length s) m) s i → i + 1 ≡ length s
+      → mayBe (kindAllows zoneF (unpack (length s) m)) 0 (halves s) ≡ (digit (getD s (length s - 1) 0 / 16) && sign (getD s (length s - 1) 0 % 16))
+  unpack-end known e =
+      bytes-last (unpack (length s) m) s i known (omega arith) e
+      ∙ unpack-byte-test zoneF (length s) m i (getD s i 0) (omega arith)
+      ∙ rw (eq-eqb (i + 1) (length s) e)
+      (ap (λ (j : ℕ). digit (getD s j 0 / 16) && sign (getD s j 0 % 16)) (let z : i ≡ length s - 1 = omega arith in z))
 
 -- ---- what a field reads
 
@@ -33,47 +93,47 @@ pub part-input : (f : Field) (r : List ℕ) → lentInput f r ≡ fieldInput (fi
 unfolding fieldInput fieldOf
 part-input f r = ap (λ (n : ℕ). take n (drop (f .r - 1) r)) (let z : f .r - 1 + f .input - (f .r - 1) ≡ inputSize (fieldOf f .kind) = omega (arith, input-of f) in z)
 
-a-copy : (f : Field) → f .kind ≡ Copy → fieldOf f .kind ≡ copy (f .input)
+-- a field reads some of its record
+pub record Reads (f : Field) (r : List ℕ) : Type 0 where
+  pub low : 1 ≤ f .r
+  pub some : 1 ≤ f .input
+  pub high : f .r - 1 + f .input ≤ length r
+
+pub reads-inside : {a b : ℕ} (f : Field) (r : List ℕ) → Fits a b (fieldOf f) → a ≤ length r → Reads f r
 unfolding fieldOf
-a-copy f e = ap (λ (k : Kind). kindOf k (f .input) (f .output)) e
+reads-inside f r h long =
+    record { low = h .r-low; some = omega (arith, h .input-low, input-of f); high = omega (arith, h .r-low, h .input-high, input-of f) }
 
--- a copy may read any
-pub copy-any : (f : Field) (r : List ℕ) → f .kind ≡ Copy → All Byte r → mayBe (kindAllows zoneF (fieldOf f .kind)) 0 (halves (fieldInput (fieldOf f) r)) ≡ true
-unfolding fieldInput
-copy-any f r e small =
-    ap (λ (k : RuleKind). mayBe (kindAllows zoneF k) 0 (halves (fieldInput (fieldOf f) r))) (a-copy f e)
-    ∙ copy-permitted zoneF (f .input) (fieldInput (fieldOf f) r) (all-take (inputSize (fieldOf f .kind)) (all-drop (fieldOf f .r - 1) small))
+pub reads-at : (xs r : List ℕ) (i : ℕ) → Readable xs (length r) → 5 * i + 5 ≤ length xs → (f : Field) → f ≡ fieldAt xs i → Reads f r
+reads-at xs r i k l f e = subst (λ (g : Field). Reads g r) (sym e) (reads-inside (fieldAt xs i) r (fits-at (k .fielded .fair) i l) (k .long))
 
--- ---- field by field
+pub length-input : (f : Field) (r : List ℕ) → Reads f r → length (lentInput f r) ≡ f .input
+length-input f r h = part-length (f .r - 1) (f .input) r (h .high)
 
 -- a field may read this record
 abbrev pub mayRead : List ℕ → RuleField → Bool
 mayRead r f = mayBe (kindAllows zoneF (f .kind)) 0 (halves (fieldInput f r))
 
--- the fields before place i may read the record: what is left to ask is of the others
-abbrev pub Checking : List ℕ → List ℕ → ℕ → Type 0
-Checking xs r i = (fs : List RuleField) (a b : ℕ) → FlatFair xs fs a b → a ≤ length r → mayBe (permitted zoneF fs) 0 (halves (take a r)) ≡ every (mayRead r) (drop i fs)
-
-pub check-start : (xs r : List ℕ) → All Byte r → Checking xs r 0
-check-start xs r small fs a b fair long = fields-tested zoneF a b r long small fs (fair .fits)
-
-module _ (xs r : List ℕ) (i : ℕ) (known : Checking xs r i) where
-  pub check-more : 5 * i + 5 ≤ length xs → mayRead r (fieldOf (fieldAt xs i)) ≡ true → Checking xs r (i + 1)
-  check-more l t fs a b fair long = known fs a b fair long ∙ rw (fields-left fs (fair .flat) i l, t)
-
-  pub check-fails : 5 * i + 5 ≤ length xs → mayRead r (fieldOf (fieldAt xs i)) ≡ false → Permits xs r false
-  unfolding Permits
-  check-fails l t fs a b fair long = sym (known fs a b fair long ∙ rw (fields-left fs (fair .flat) i l, t))
-
-  pub check-end : length xs ≤ 5 * i + 4 → Permits xs r true
-  unfolding Permits
-  check-end l fs a b fair long =
-      let all : length fs ≤ i = omega (arith, fields-many fs (fair .flat)) in
-      sym (known fs a b fair long ∙ ap (every (mayRead r)) (drop-of-length-le fs all))
-
--- what a field of the list reads lies inside the record
-pub reads-inside : (xs : List ℕ) (n i : ℕ) → Readable xs n → 5 * i + 5 ≤ length xs → (1 ≤ fieldAt xs i .r) × (fieldAt xs i .r + fieldAt xs i .input ≤ n + 1)
+-- what is asked of the part that is lent is asked of the field's input
+pub part-read : (xs r : List ℕ) (i : ℕ) (f : Field) → f ≡ fieldAt xs i → Reads f r
+    → mayBe (kindAllows zoneF (kindOf (kindAt (getD xs (5 * i) 0)) (length (lentInput f r)) (f .output))) 0 (halves (lentInput f r)) ≡ mayRead r (fieldOf (fieldAt xs i))
 unfolding fieldOf
-reads-inside xs n i k l =
-    let h = fits-at (k .fielded .fair) i l in
-    (omega (arith, h .r-low), omega (arith, h .input-high, k .long, input-of (fieldAt xs i)))
+part-read xs r i f e h =
+    ap₂ (λ (q : Kind) (n : ℕ). mayBe (kindAllows zoneF (kindOf q n (f .output))) 0 (halves (lentInput f r))) (sym (kind-of-row xs i) ∙ ap (λ (g : Field). g .kind) (sym e)) (length-input f r h)
+    ∙ ap (λ (x : List ℕ). mayBe (kindAllows zoneF (fieldOf f .kind)) 0 (halves x)) (part-input f r)
+    ∙ ap (λ (g : Field). mayRead r (fieldOf g)) e
+
+-- a copy may have any input
+pub copy-any : (k n m : ℕ) (x : List ℕ) → k ≡ 0 → All Byte x → mayBe (kindAllows zoneF (kindOf (kindAt k) n m)) 0 (halves x) ≡ true
+copy-any k n m x e small = rw (kind-copy k e) (copy-permitted zoneF n x small)
+
+-- ---- the record
+
+module _ (xs r : List ℕ) (small : All Byte r) where
+  pub permits-not : ((fs : List RuleField) → xs ≡ flatOf fs → every (mayRead r) fs ≡ false) → Permits xs r false
+  unfolding Permits
+  permits-not h fs a b fair long = sym (fields-tested zoneF a b r long small fs (fair .fits) ∙ h fs (fair .flat))
+
+  pub permits-all : ((fs : List RuleField) → xs ≡ flatOf fs → every (mayRead r) fs ≡ true) → Permits xs r true
+  unfolding Permits
+  permits-all h fs a b fair long = sym (fields-tested zoneF a b r long small fs (fair .fits) ∙ h fs (fair .flat))

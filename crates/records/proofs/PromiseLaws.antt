@@ -5,20 +5,31 @@ use mathlib.Core.Bool.{Bool, true}
 use mathlib.Core.List.{List, _++_}
 use Prim.Native.Nat.{ℕ, _≤_}
 use lib.ListN.{length, replicate}
+use borrow.Author.Tests.{leb-true}
 use Rattle.rules.specs.Halves.{Field, over}
 use Rattle.rules.specs.Plan.{Plan, selects, recordLength, allowed}
 use Rattle.rules.specs.Output.{permits, selected}
 use Rattle.rules.specs.Lent.{zoneF}
 use Rattle.rules.specs.Accepted.{Accepted}
+use Rattle.rules.specs.RecordParts.{writtenBytes}
 use Rattle.rules.proofs.AllLaws.{all-imply}
 use Rattle.rules.proofs.RecordLaws.{fits-of}
 use Rattle.rows.specs.Flat.{flatOf, FlatFair, Fielded, Readable}
-use Rattle.records.specs.Promise.{Permits, outBytes, Puts}
+use Rattle.records.specs.Promise.{Permits, reachOf, Covers, outBytes, Puts}
+use Rattle.records.proofs.CoverLaws.{covered-same}
 
 -- ---- an accepted plan
 
 pub fair-of : (p : Plan) → Accepted p → FlatFair (flatOf (p .fields)) (p .fields) (recordLength (p .input)) (recordLength (p .output))
 fair-of p ok = record { flat = refl; fits = fits-of p ok; sizes = all-imply (λ f w. w .kind) (ok .limits) }
+
+-- ---- fields that cover the output
+
+-- where the fields cover the output, it is all the same what they are written over
+pub covers-all : (xs : List ℕ) (n m : ℕ) (r x y : List ℕ) → n ≤ length r → Covers xs m true → (fs : List Field) → FlatFair xs fs n m → length x ≡ m → length y ≡ m
+    → writtenBytes zoneF fs r x ≡ writtenBytes zoneF fs r y
+unfolding Covers
+covers-all xs n m r x y long h fs fair lx ly = covered-same n m r long fs x y (fair .fits) lx ly (leb-true m (reachOf 0 fs) (sym (h fs (fair .flat))))
 
 -- ---- what the rules say
 
@@ -44,6 +55,10 @@ flatten-only-one fs k x y e g = e ∙ sym g
 pub permitted-only-one : (xs r : List ℕ) → Readable xs (length r) → (x y : Bool) → Permits xs r x → Permits xs r y → x ≡ y
 unfolding Permits
 permitted-only-one xs r k x y h g = let f = k .fielded in h (f .fields) _ _ (f .fair) (k .long) ∙ sym (g (f .fields) _ _ (f .fair) (k .long))
+
+pub covers-only-one : (fs : List Field) (m : ℕ) (x y : Bool) → Covers (flatOf fs) m x → Covers (flatOf fs) m y → x ≡ y
+unfolding Covers
+covers-only-one fs m x y h g = h fs refl ∙ sym (g fs refl)
 
 pub put-only-one : (xs : List ℕ) (n m : ℕ) (carries : Bool) (r old : List ℕ) → Fielded xs n m → (x y : List ℕ) → Puts xs n m carries r old x → Puts xs n m carries r old y → x ≡ y
 unfolding Puts

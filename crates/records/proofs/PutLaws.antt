@@ -1,103 +1,120 @@
 -- Writing the fields of a record over its output, field by field: what a field leaves in its own part, and that the fields over blanks, with
--- the tail behind them, are the output record of the rules.
+-- the tail behind them, are the output record of the rules. It holds since each part comes back in the place from which it was lent.
 use mathlib.Core.Path.{_≡_, refl, ap, ap₂, sym, subst, _∙_}
 use mathlib.Core.Bool.{Bool, true, false, cond}
 use mathlib.Core.List.{List, _++_, append-nil}
 use Prim.Native.Nat.{ℕ, _+_, _-_, _*_, _≤_}
 use native.Mathlib.Numerals.{add-one}
 use native.Mathlib.Omega.{arith}
-use lib.ListN.{length, take, drop, getD, replicate, length-replicate, length-drop}
+use lib.ListN.{length, take, drop, getD, replicate, length-replicate, length-drop, drop-of-length-le}
 use lib.Seq.{take-all}
 use borrow.Rule.Slice.PartMut.{putMid}
-use Rattle.rules.specs.Halves.{outputSize, Field as RuleField, over, halves, bytes, outHalves, value, packBytes, unpackBytes}
+use Rattle.rules.specs.Halves.{copy, pack, unpack, outputSize, Field as RuleField, over, halves, bytes, outHalves, value}
 use Rattle.rules.specs.Rows.{KindWithin}
 use Rattle.rules.specs.Lent.{zoneF}
-use Rattle.rules.specs.RecordParts.{Fits, convertedBytes, fieldInput, fieldBytes, writtenBytes}
+use Rattle.rules.specs.RecordParts.{Fits, convertedBytes, fieldBytes, writtenBytes}
 use Rattle.rules.proofs.AllLaws.{all-imply}
 use Rattle.rules.proofs.PlaceLaws.{over-behind}
-use Rattle.rules.proofs.FieldSteps.{writtenBytes-step, length-fieldBytes, length-writtenBytes, written-rest, out-bytes}
+use Rattle.rules.proofs.FieldSteps.{writtenBytes-step, length-fieldBytes, length-writtenBytes, out-bytes}
 use Rattle.rules.proofs.LentParts.{part-length, part-over, front-over}
 use Rattle.terms.specs.Meaning.{kindOf, fieldOf}
 use Rattle.terms.specs.declared.Kind.{Kind}
-use Rattle.terms.specs.declared.Kind.the-variants.{Copy, Pack, Unpack}
 use Rattle.terms.specs.declared.Field.{Field}
 use Rattle.halves.specs.Promise.{packedInto, unpackedInto}
 use Rattle.halves.proofs.PromiseLaws.{packed-whole, unpacked-whole}
-use Rattle.rows.specs.Flat.{flatOf, fieldAt, FlatFair, Fielded}
-use Rattle.records.specs.Promise.{Writes, outBytes, Puts}
-use Rattle.rows.proofs.FlatLaws.{input-of, fields-many, field-is}
-use Rattle.records.proofs.CheckLaws.{lentInput, part-input}
+use Rattle.rows.specs.Flat.{flatOf, kindAt, fieldAt, FlatFair, Fielded}
+use Rattle.records.specs.Promise.{Writes, outBytes, Puts, Covers, groundOf}
+use Rattle.rows.proofs.FlatLaws.{fields-many, field-is, fits-at, sizes-at}
+use Rattle.records.proofs.WalkLaws.{kind-copy, kind-pack, kind-unpack, output-of-row}
+use Rattle.records.proofs.CheckLaws.{lentInput, part-input, Reads, reads-inside, length-input}
+use Rattle.records.proofs.CoverLaws.{grounded}
 
 -- ---- one field
 
--- what a field of a kind makes of its input
-kind-is : (f : Field) (r : List ℕ) (k : Kind) → f .kind ≡ k → fieldBytes zoneF (fieldOf f) r ≡ convertedBytes zoneF (kindOf k (f .input) (f .output)) (fieldInput (fieldOf f) r)
-unfolding fieldBytes fieldOf
-kind-is f r k e = ap (λ (q : Kind). convertedBytes zoneF (kindOf q (f .input) (f .output)) (fieldInput (fieldOf f) r)) e
+-- all of a part is written anew
+over-whole : (vs out : List ℕ) → length out ≤ length vs → over 0 vs out ≡ vs
+over-whole vs out h =
+    sym (front-over (length vs) out vs refl) ∙ ap (λ (x : List ℕ). vs ++ x) (drop-of-length-le out h) ∙ append-nil vs
 
-within-is : (f : Field) (k : Kind) → f .kind ≡ k → KindWithin (fieldOf f .kind) → KindWithin (kindOf k (f .input) (f .output))
-unfolding fieldOf
-within-is f k e w = subst (λ (q : Kind). KindWithin (kindOf q (f .input) (f .output))) e w
+-- what is left in a field's part, by the number of its kind
+module _ (k : ℕ) (s d : List ℕ) (sizes : KindWithin (kindOf (kindAt k) (length s) (length d))) where
+  module _ (copies : k ≡ 0) (fills : outputSize (kindOf (kindAt k) (length s) (length d)) ≡ length d) where
+    pub copied-size : (length s ≤ 65536) × (length s ≤ length d)
+    copied-size =
+        let w : KindWithin (copy (length s)) = rw (kind-copy k copies) at sizes in
+        let o : length s ≡ length d = rw (kind-copy k copies) at fills in
+        (omega (arith, w .1), omega (arith, o))
 
-output-is : (f : Field) (k : Kind) → f .kind ≡ k → outputSize (fieldOf f .kind) ≡ outputSize (kindOf k (f .input) (f .output))
-unfolding fieldOf
-output-is f k e = ap (λ (q : Kind). outputSize (kindOf q (f .input) (f .output))) e
+    pub copied : over 0 s d ≡ convertedBytes zoneF (kindOf (kindAt k) (length s) (length d)) s
+    copied =
+        let o : length s ≡ length d = rw (kind-copy k copies) at fills in
+        rw (kind-copy k copies) (over-whole s d (omega (arith, o)))
 
--- the part of the output that is lent for a field that writes o bytes
-abbrev lentOutput : Field → ℕ → List ℕ → List ℕ
-lentOutput f o out = take (f .t - 1 + o - (f .t - 1)) (drop (f .t - 1) out)
+  pub packed : k ≡ 1 → packedInto s d ≡ convertedBytes zoneF (kindOf (kindAt k) (length s) (length d)) s
+  packed e =
+      let w : KindWithin (pack (length s) (length d)) = rw (kind-pack k e) at sizes in
+      rw (kind-pack k e) (packed-whole s d (w .0 .0) (w .0 .1) (w .1 .0) (w .1 .1))
 
--- a field lies inside its records
-pub read-inside : {b : ℕ} (f : Field) (r : List ℕ) → Fits (length r) b (fieldOf f) → (1 ≤ f .r) × (f .r - 1 + f .input ≤ length r)
-unfolding fieldOf
-read-inside f r fits = (fits .r-low, omega (arith, fits .r-low, fits .input-high, input-of f))
+  pub unpacked : (k ≡ 0 → ⊥) → (k ≡ 1 → ⊥) → unpackedInto s d ≡ convertedBytes zoneF (kindOf (kindAt k) (length s) (length d)) s
+  unpacked e g =
+      let w : KindWithin (unpack (length s) (length d)) = rw (kind-unpack k e g) at sizes in
+      rw (kind-unpack k e g) (unpacked-whole s d (w .0 .0) (w .0 .1) (w .1 .0) (w .1 .1))
 
-pub written-low : {a b : ℕ} (f : Field) → Fits a b (fieldOf f) → 1 ≤ f .t
-unfolding fieldOf
-written-low f fits = fits .t-low
+-- the part of the output that is lent for a field
+abbrev lentOutput : Field → List ℕ → List ℕ
+lentOutput f out = take (f .t - 1 + f .output - (f .t - 1)) (drop (f .t - 1) out)
 
-module _ (f : Field) (r out : List ℕ) (o : ℕ) (size : o ≡ outputSize (fieldOf f .kind)) (fits : Fits (length r) (length out) (fieldOf f)) where
-  pub write-inside : f .t - 1 + o ≤ length out
+-- a field lies inside its records, and its sizes are those of its kind
+pub record Lies (f : Field) (r out : List ℕ) : Type 0 where
+  pub fits : Fits (length r) (length out) (fieldOf f)
+  pub sizes : KindWithin (fieldOf f .kind)
+  pub size : f .output ≡ outputSize (fieldOf f .kind)
+
+pub lies-at : {xs : List ℕ} {b : ℕ} (r out : List ℕ) (i : ℕ) → Fielded xs (length r) b → length out ≡ b → 5 * i + 5 ≤ length xs → (f : Field) → f ≡ fieldAt xs i → Lies f r out
+lies-at {xs} r out i x e l f q =
+    subst (λ (g : Field). Lies g r out) (sym q)
+    (record {
+      fits = subst (λ (n : ℕ). Fits (length r) n (fieldOf (fieldAt xs i))) (sym e) (fits-at (x .fair) i l);
+      sizes = sizes-at (x .fair) i l;
+      size = output-of-row (x .fields) (x .fair .flat) i l;
+    })
+
+module _ (f : Field) (r out : List ℕ) (lies : Lies f r out) where
+  pub read-inside : Reads f r
+  read-inside = reads-inside f r (lies .fits) (omega arith)
+
+  pub write-low : 1 ≤ f .t
   unfolding fieldOf
-  write-inside = omega (arith, fits .t-low, fits .output-high)
+  write-low = lies .fits .t-low
 
-  length-in : length (lentInput f r) ≡ f .input
-  length-in = part-length (f .r - 1) (f .input) r (read-inside f r fits .1)
+  pub write-inside : f .t - 1 + f .output ≤ length out
+  unfolding fieldOf
+  write-inside = omega (arith, lies .size, lies .fits .t-low, lies .fits .output-high)
 
-  length-out : length (lentOutput f o out) ≡ o
-  length-out = part-length (f .t - 1) o out write-inside
+  length-out : length (lentOutput f out) ≡ f .output
+  length-out = part-length (f .t - 1) (f .output) out write-inside
 
-  -- what comes back stands in the field's place
-  pub put-back : (ys : List ℕ) → ys ≡ fieldBytes zoneF (fieldOf f) r → putMid (f .t - 1) (f .t - 1 + o - (f .t - 1)) out ys ≡ over (f .t - 1) (fieldBytes zoneF (fieldOf f) r) out
-  put-back ys e =
-      part-over (f .t - 1) o out ys (ap length e ∙ length-fieldBytes zoneF (length r) (length out) r (omega arith) (fieldOf f) fits ∙ sym size)
-      ∙ ap (λ (x : List ℕ). over (f .t - 1) x out) e
+  module _ (k : ℕ) (named : f .kind ≡ kindAt k) where
+    part-kind : kindOf (kindAt k) (length (lentInput f r)) (length (lentOutput f out)) ≡ fieldOf f .kind
+    unfolding fieldOf
+    part-kind =
+        ap₂ (kindOf (kindAt k)) (length-input f r read-inside) length-out ∙ ap (λ (q : Kind). kindOf q (f .input) (f .output)) (sym named)
 
-  -- a copy writes as many bytes as it reads
-  pub copied-size : f .kind ≡ Copy → length (lentInput f r) ≡ length (lentOutput f o out)
-  copied-size e = length-in ∙ sym (length-out ∙ size ∙ output-is f Copy e)
+    -- what is asked of the parts
+    pub part-within : KindWithin (kindOf (kindAt k) (length (lentInput f r)) (length (lentOutput f out)))
+    part-within = subst KindWithin (sym part-kind) (lies .sizes)
 
-  pub copied : f .kind ≡ Copy → lentInput f r ≡ fieldBytes zoneF (fieldOf f) r
-  copied e = part-input f r ∙ sym (kind-is f r Copy e)
+    pub part-filled : outputSize (kindOf (kindAt k) (length (lentInput f r)) (length (lentOutput f out))) ≡ length (lentOutput f out)
+    part-filled = ap outputSize part-kind ∙ sym (lies .size) ∙ sym length-out
 
-  module _ (sizes : KindWithin (fieldOf f .kind)) where
-    pub packed-field : f .kind ≡ Pack
-        → packedInto (lentInput f r) (lentOutput f o out) ≡ fieldBytes zoneF (fieldOf f) r
-    packed-field e =
-        let w = within-is f Pack e sizes in
-        let q : o ≡ f .output = size ∙ output-is f Pack e in
-        packed-whole _ _ (omega (arith, length-in, w .0 .0)) (omega (arith, length-in, w .0 .1)) (omega (arith, length-out, w .1 .0)) (omega (arith, length-out, w .1 .1))
-        ∙ ap₂ packBytes (length-out ∙ q) (part-input f r)
-        ∙ sym (kind-is f r Pack e)
-
-    pub unpacked-field : f .kind ≡ Unpack
-        → unpackedInto (lentInput f r) (lentOutput f o out) ≡ fieldBytes zoneF (fieldOf f) r
-    unpacked-field e =
-        let w = within-is f Unpack e sizes in
-        let q : o ≡ f .output = size ∙ output-is f Unpack e in
-        unpacked-whole _ _ (omega (arith, length-in, w .0 .0)) (omega (arith, length-in, w .0 .1)) (omega (arith, length-out, w .1 .0)) (omega (arith, length-out, w .1 .1))
-        ∙ ap₂ (unpackBytes zoneF) (length-out ∙ q) (part-input f r)
-        ∙ sym (kind-is f r Unpack e)
+    -- what comes back stands in the field's place
+    pub part-put : (ys : List ℕ) → ys ≡ convertedBytes zoneF (kindOf (kindAt k) (length (lentInput f r)) (length (lentOutput f out))) (lentInput f r)
+        → putMid (f .t - 1) (f .t - 1 + f .output - (f .t - 1)) out ys ≡ over (f .t - 1) (fieldBytes zoneF (fieldOf f) r) out
+    unfolding fieldBytes
+    part-put ys e =
+        let is : ys ≡ fieldBytes zoneF (fieldOf f) r = e ∙ ap₂ (convertedBytes zoneF) part-kind (part-input f r) in
+        let many : length ys ≡ f .output = ap length is ∙ length-fieldBytes zoneF (length r) (length out) r (omega arith) (fieldOf f) (lies .fits) ∙ sym (lies .size) in
+        part-over (f .t - 1) (f .output) out ys many ∙ ap (λ (x : List ℕ). over (f .t - 1) x out) is
 
 -- ---- field by field
 
@@ -110,12 +127,17 @@ pub write-start : (xs r old : List ℕ) → Writing xs r old old 0
 write-start xs r old = record { is = λ fs flat. refl; same = refl }
 
 module _ (xs r old new : List ℕ) (i : ℕ) (w : Writing xs r old new i) where
-  pub write-more : 5 * i + 5 ≤ length xs → (next : List ℕ) → next ≡ over (fieldAt xs i .t - 1) (fieldBytes zoneF (fieldOf (fieldAt xs i)) r) new → length next ≡ length new
+  pub write-more : 5 * i + 5 ≤ length xs → (f : Field) → f ≡ fieldAt xs i → (next : List ℕ) → next ≡ over (f .t - 1) (fieldBytes zoneF (fieldOf f) r) new → length next ≡ length new
       → Writing xs r old next (i + 1)
   unfolding fieldOf
-  write-more l next e long =
+  write-more l f q next e long =
       record {
-        is = λ fs flat. e ∙ ap (over (fieldAt xs i .t - 1) (fieldBytes zoneF (fieldOf (fieldAt xs i)) r)) (w .is fs flat) ∙ step fs flat;
+        is =
+            λ fs flat.
+            e
+            ∙ ap (λ (g : Field). over (g .t - 1) (fieldBytes zoneF (fieldOf g) r) new) q
+            ∙ ap (over (fieldAt xs i .t - 1) (fieldBytes zoneF (fieldOf (fieldAt xs i)) r)) (w .is fs flat)
+            ∙ step fs flat;
         same = long ∙ w .same;
       }
     where
@@ -157,16 +179,16 @@ pub tail-room : (carries : Bool) (m k l : ℕ) → carries ≡ true → m + cond
 tail-room carries m k l e h = subst (λ (c : Bool). m + cond c k 0 ≤ l) e h
 
 -- B's n bytes of hex 40, the fields over them, and what lay behind them
-module _ (xs : List ℕ) (n m : ℕ) (r old front new : List ℕ) (long : n ≤ length r) (blank : front ≡ replicate m 0x40) (w : Writes xs r (front ++ drop m old) new) where
+module _ (xs : List ℕ) (n m : ℕ) (covered : Bool) (r old base new : List ℕ) (long : n ≤ length r) (room : m ≤ length old) (told : Covers xs m covered) (laid : base ≡ groundOf m covered old) (w : Writes xs r base new) where
   length-fixed : (fs : List RuleField) → FlatFair xs fs n m → length (writtenBytes zoneF fs r (replicate m 0x40)) ≡ m
   length-fixed fs fair = length-writtenBytes zoneF n m r long fs (replicate m 0x40) (fair .fits) (length-replicate {A = ℕ} m 0x40)
 
-  pub put-fixed : (fs : List RuleField) → FlatFair xs fs n m → new ≡ over 0 (bytes (outHalves zoneF value m fs (halves (take n r)))) old
+  put-fixed : (fs : List RuleField) → FlatFair xs fs n m → new ≡ over 0 (bytes (outHalves zoneF value m fs (halves (take n r)))) old
   unfolding Writes
   put-fixed fs fair =
       w fs (fair .flat)
-      ∙ ap (λ (x : List ℕ). writtenBytes zoneF fs r (x ++ drop m old)) blank
-      ∙ written-rest zoneF n m r long fs (replicate m 0x40) (drop m old) (fair .fits) (length-replicate {A = ℕ} m 0x40)
+      ∙ ap (writtenBytes zoneF fs r) laid
+      ∙ grounded xs n m covered r old long room told fs fair
       ∙ front-over m old (writtenBytes zoneF fs r (replicate m 0x40)) (length-fixed fs fair)
       ∙ ap (λ (x : List ℕ). over 0 x old) (sym (out-bytes zoneF n m r long fs (fair .fits)))
 
@@ -176,12 +198,14 @@ module _ (xs : List ℕ) (n m : ℕ) (r old front new : List ℕ) (long : n ≤ 
   put-alone fs fair = put-fixed fs fair ∙ ap (λ (x : List ℕ). over 0 x old) (sym (append-nil (bytes (outHalves zoneF value m fs (halves (take n r))))))
 
   -- with CV the tail stands behind
-  pub put-tail : (tail : List ℕ) → tail ≡ drop n r → m + (length r - n) ≤ length old → Puts xs n m true r old (putMid m (m + (length r - n) - m) new tail)
+  pub put-tail : (s part tail : List ℕ) → s ≡ drop n r → length part ≡ length r - n → tail ≡ over 0 s part → m + (length r - n) ≤ length old
+      → Puts xs n m true r old (putMid m (m + (length r - n) - m) new tail)
   unfolding Puts outBytes
-  put-tail tail e more fs fair =
+  put-tail s part tail e k q more fs fair =
       let fixed : List ℕ = bytes (outHalves zoneF value m fs (halves (take n r))) in
       let size : length fixed ≡ m = ap length (out-bytes zoneF n m r long fs (fair .fits)) ∙ length-fixed fs fair in
-      let many : length tail ≡ length r - n = ap length e ∙ length-drop n r in
-      part-over m (length r - n) new tail many
-      ∙ ap₂ (λ (x y : List ℕ). over m x y) e (put-fixed fs fair)
+      let many : length s ≡ length r - n = ap length e ∙ length-drop n r in
+      let is : tail ≡ drop n r = q ∙ over-whole s part (omega arith) ∙ e in
+      part-over m (length r - n) new tail (ap length is ∙ length-drop n r)
+      ∙ ap₂ (λ (x y : List ℕ). over m x y) is (put-fixed fs fair)
       ∙ over-behind 0 m fixed (drop n r) old (omega arith) (omega (arith, length-drop n r))

@@ -2,10 +2,11 @@
 -- them.
 use mathlib.Core.Path.{_≡_}
 use mathlib.Core.Bool.{Bool, cond}
-use mathlib.Core.List.{List, [], _++_}
-use Prim.Native.Nat.{ℕ, _≤_}
-use lib.ListN.{length, take, drop}
-use Rattle.rules.specs.Halves.{halves, bytes, Field, over, outHalves, value}
+use mathlib.Core.List.{List, [], _∷_, _++_}
+use Prim.Native.Nat.{ℕ, _+_, _-_, _≤_, max}
+use lib.Dec.{leb}
+use lib.ListN.{length, take, drop, replicate}
+use Rattle.rules.specs.Halves.{halves, bytes, outputSize, Field, over, outHalves, value}
 use Rattle.rules.specs.Permitted.{permitted}
 use Rattle.rules.specs.Output.{mayBe}
 use Rattle.rules.specs.Lent.{zoneF}
@@ -19,6 +20,23 @@ Permits xs r x = (fs : List Field) (a b : ℕ) → FlatFair xs fs a b → a ≤ 
 -- the fields in order, a later one over an earlier one
 unfoldable pub Writes : List ℕ → List ℕ → List ℕ → List ℕ → Type 0
 Writes xs r old new = (fs : List Field) → xs ≡ flatOf fs → new ≡ writtenBytes zoneF fs r old
+
+-- how many bytes are covered from the first on, where so many were, and a field of a size is written at a place: behind a gap it covers none
+unfoldable pub fartherOf : ℕ → ℕ → ℕ → ℕ
+fartherOf to size covered = cond (leb to covered) (max covered (to + size)) covered
+
+-- with the fields in order
+abbrev pub reachOf : ℕ → List Field → ℕ
+reachOf covered [] = covered
+reachOf covered (f ∷ fs) = reachOf (fartherOf (f .t - 1) (outputSize (f .kind)) covered) fs
+
+-- whether they reach the end of a record of m bytes
+unfoldable pub Covers : List ℕ → ℕ → Bool → Type 0
+Covers xs m x = (fs : List Field) → xs ≡ flatOf fs → x ≡ leb m (reachOf 0 fs)
+
+-- what the fields are written over: m bytes of hex 40, unless the fields cover them
+unfoldable pub groundOf : ℕ → Bool → List ℕ → List ℕ
+groundOf m covered old = cond covered old (replicate m 0x40 ++ drop m old)
 
 -- B's n bytes of hex 40, then the fields; with CV the input's data past A's n follows
 unfoldable pub outBytes : ℕ → ℕ → List Field → Bool → List ℕ → List ℕ

@@ -4,24 +4,29 @@
 ghost use mathlib.Core.Path.{_≡_};
 ghost use mathlib.Core.Bool.{cond, _&&_};
 ghost use mathlib.Core.List.{_++_, map};
-ghost use Prim.Native.Nat.{_+_, _-_, _*_, _/_, _%_, _^_, _≤_, _<_};
+ghost use Prim.Native.Nat.{ℕ, _+_, _-_, _*_, _/_, _%_, _^_, _≤_, _<_};
 ghost use lib.Dec.{eqb};
 ghost use lib.ListN.{length, take, replicate};
 ghost use Rattle.rules.specs.Places.{All};
-ghost use Rattle.rules.specs.Halves.{halves, over};
+ghost use Rattle.rules.specs.Halves.{pack, unpack, outputSize, halves};
 ghost use Rattle.rules.specs.Permitted.{digit, sign, kindAllows};
 ghost use Rattle.rules.specs.Output.{mayBe};
 ghost use Rattle.rules.specs.Lent.{zoneF};
 ghost use Rattle.rules.specs.Rows.{KindWithin};
-ghost use Rattle.rules.specs.RecordParts.{Fits, fieldInput, fieldBytes};
-ghost use Rattle.terms.specs.Meaning.{fieldOf};
-ghost use Rattle.rows.specs.Flat.{flatOf, Short, Fielded, Readable};
-ghost use Rattle.records.specs.Promise.{Permits, Writes, Puts};
+ghost use Rattle.rules.specs.RecordParts.{convertedBytes};
+ghost use Rattle.terms.specs.Meaning.{kindOf, fieldOf};
+ghost use Rattle.rows.specs.Flat.{flatOf, kindAt, Short, Fielded, Readable};
+ghost use Rattle.records.specs.Promise.{Permits, Writes, Puts, Covers, fartherOf, groundOf};
 use terms::Field;
-use terms::Kind;
 
 // F, which stands before each digit that is packed.
 const ZONE: u8 = 15;
+
+// The digit 0 with F before it.
+const ZERO: u8 = 16 * ZONE;
+
+// The digit 9 with F before it.
+const NINE: u8 = ZERO + 9;
 
 // What stands where no field writes.
 const BLANK: u8 = 0x40;
@@ -55,72 +60,66 @@ fn is_sign(half: u8) -> bool
     10 <= half && half <= 15
 }
 
-// Whether a byte may be packed: F before a digit, in the last byte a sign before it.
-fn packs(byte: u8, last: bool) -> bool
-    ensures { λ r. ⌜ r ≡ (cond last (sign (byte / 16)) (eqb (byte / 16) zoneF) && digit (byte % 16)) ⌝ }
+// A digit with F before it.
+fn is_zoned(byte: u8) -> bool
+    ensures { λ r. ⌜ r ≡ (eqb (byte / 16) zoneF && digit (byte % 16)) ⌝ }
 {
-    let high = byte / 16;
-    let low = byte % 16;
-    if last {
-        return is_sign(high) && is_digit(low);
-    }
-    high == ZONE && is_digit(low)
+    ZERO <= byte && byte <= NINE
 }
 
-// Whether a byte may be unpacked: two digits, in the last byte a digit before a sign.
-fn unpacks(byte: u8, last: bool) -> bool
-    ensures { λ r. ⌜ r ≡ (digit (byte / 16) && cond last (sign (byte % 16)) (digit (byte % 16))) ⌝ }
+// Two digits.
+fn are_digits(byte: u8) -> bool
+    ensures { λ r. ⌜ r ≡ (digit (byte / 16) && digit (byte % 16)) ⌝ }
 {
-    let high = byte / 16;
-    let low = byte % 16;
-    if last {
-        return is_digit(high) && is_sign(low);
-    }
-    is_digit(high) && is_digit(low)
+    is_digit(byte / 16) && is_digit(byte % 16)
 }
 
-// Whether byte i of a field's input may be this, i from 0.
-fn byte_permitted(f: Field, i: usize, byte: u8) -> bool
-    requires { ⌜ i < f .input ⌝ }
-    ensures { λ r. ⌜ r ≡ (kindAllows zoneF (fieldOf f .kind) (2 * i) (byte / 16) && kindAllows zoneF (fieldOf f .kind) (2 * i + 1) (byte % 16)) ⌝ }
+// Whether the bytes may be packed, to whatever size: F before a digit, in the last byte a sign before it.
+fn pack_permitted(input: &[u8]) -> bool
+    requires { ⌜ 1 ≤ length (now input) ⌝ }
+    ensures { λ r. ⌜ ((m : ℕ) → r ≡ mayBe (kindAllows zoneF (pack (length (now (input .entry))) m)) 0 (halves (now (input .entry)))) ⌝ }
 {
-    let kind = f.kind;
-    let last = i + 1 == f.input;
-    match kind {
-        Kind::Copy => true,
-        Kind::Pack => packs(byte, last),
-        Kind::Unpack => unpacks(byte, last),
-    }
-}
-
-// Whether a field may have this input.
-fn input_permitted(f: Field, input: &[u8]) -> bool
-    requires { ⌜ length (now input) ≡ f .input ⌝ }
-    ensures { λ r. ⌜ r ≡ mayBe (kindAllows zoneF (fieldOf f .kind)) 0 (halves (now (input .entry))) ⌝ }
-{
+    let last = input.len() - 1;
     let mut i = 0;
-    while i < input.len() {
-        if !byte_permitted(f, i, input[i]) {
+    while i < last {
+        if !is_zoned(input[i]) {
             return false;
         }
         i += 1;
     }
-    true
+    let byte = input[last];
+    is_sign(byte / 16) && is_digit(byte % 16)
 }
 
-// Whether a field may read this record. A copy takes any halves, so it is not looked at.
-fn field_permitted(f: Field, record: &[u8]) -> bool
-    requires { ⌜ (1 ≤ f .r) × (f .r + f .input ≤ length (now «record») + 1) ⌝ }
-    ensures { λ r. ⌜ r ≡ mayBe (kindAllows zoneF (fieldOf f .kind)) 0 (halves (fieldInput (fieldOf f) (now («record» .entry)))) ⌝ }
+// Whether the bytes may be unpacked, to whatever size: two digits, in the last byte a digit before a sign.
+fn unpack_permitted(input: &[u8]) -> bool
+    requires { ⌜ 1 ≤ length (now input) ⌝ }
+    ensures { λ r. ⌜ ((m : ℕ) → r ≡ mayBe (kindAllows zoneF (unpack (length (now (input .entry))) m)) 0 (halves (now (input .entry)))) ⌝ }
 {
-    let kind = f.kind;
-    let from = f.r - 1;
-    let end = from + f.input;
-    match kind {
-        Kind::Copy => true,
-        Kind::Pack => input_permitted(f, &record[from..end]),
-        Kind::Unpack => input_permitted(f, &record[from..end]),
+    let last = input.len() - 1;
+    let mut i = 0;
+    while i < last {
+        if !are_digits(input[i]) {
+            return false;
+        }
+        i += 1;
     }
+    let byte = input[last];
+    is_digit(byte / 16) && is_sign(byte % 16)
+}
+
+// Whether a field of a kind may have this input, whatever its output size. A copy takes any halves, so they are not looked at.
+fn input_permitted(kind: u16, input: &[u8]) -> bool
+    requires { ⌜ 1 ≤ length (now input) ⌝ }
+    ensures { λ r. ⌜ ((m : ℕ) → r ≡ mayBe (kindAllows zoneF (kindOf (kindAt kind) (length (now (input .entry))) m)) 0 (halves (now (input .entry)))) ⌝ }
+{
+    if kind == 0 {
+        return true;
+    }
+    if kind == 1 {
+        return pack_permitted(input);
+    }
+    unpack_permitted(input)
 }
 
 // Whether the halves of a record are permitted, field by field: halves that no field reads may be any.
@@ -131,24 +130,15 @@ pub fn permitted(fields: &[u16], record: &[u8]) -> bool
     let count = fields.len() / 5;
     let mut i = 0;
     while i < count {
-        if !field_permitted(rows::field_at(fields, i), record) {
+        let f = rows::field_at(fields, i);
+        let from = f.r - 1;
+        let end = from + f.input;
+        if !input_permitted(fields[5 * i], &record[from..end]) {
             return false;
         }
         i += 1;
     }
     true
-}
-
-// Copies src, which is as long, into all of dst.
-fn copy(src: &[u8], dst: &mut [u8])
-    requires { ⌜ length (now src) ≡ length (now dst) ⌝ }
-    ensures { λ _. ⌜ now (dst .exit) ≡ now (src .entry) ⌝ }
-{
-    let mut i = 0;
-    while i < dst.len() {
-        dst[i] = src[i];
-        i += 1;
-    }
 }
 
 // Fills a part with blanks.
@@ -163,22 +153,20 @@ fn put_blanks(part: &mut [u8])
 }
 
 // Writes a field into its own part of the output.
-fn put_field(f: Field, record: &[u8], out: &mut [u8])
-    requires { ⌜ Fits (length (now «record»)) (length (now out)) (fieldOf f) ⌝ }
-    requires { ⌜ KindWithin (fieldOf f .kind) ⌝ }
-    ensures { λ _. ⌜ now (out .exit) ≡ over (f .t - 1) (fieldBytes zoneF (fieldOf f) (now («record» .entry))) (now (out .entry)) ⌝ }
+fn put_field(kind: u16, input: &[u8], out: &mut [u8])
+    requires { ⌜ KindWithin (kindOf (kindAt kind) (length (now input)) (length (now out))) ⌝ }
+    requires { ⌜ outputSize (kindOf (kindAt kind) (length (now input)) (length (now out))) ≡ length (now out) ⌝ }
+    ensures { λ _. ⌜ now (out .exit) ≡ convertedBytes zoneF (kindOf (kindAt kind) (length (now (input .entry))) (length (now (out .entry)))) (now (input .entry)) ⌝ }
 {
-    let kind = f.kind;
-    let from = f.r - 1;
-    let end = from + f.input;
-    let to = f.t - 1;
-    let past = to + rows::output_size(f);
-    let input = &record[from..end];
-    match kind {
-        Kind::Copy => copy(input, &mut out[to..past]),
-        Kind::Pack => halves::pack(input, &mut out[to..past]),
-        Kind::Unpack => halves::unpack(input, &mut out[to..past]),
+    if kind == 0 {
+        copies::copy(input, out);
+        return;
     }
+    if kind == 1 {
+        halves::pack(input, out);
+        return;
+    }
+    halves::unpack(input, out);
 }
 
 // Writes the fields in order, a later one over an earlier one.
@@ -189,22 +177,88 @@ fn put_fields(fields: &[u16], record: &[u8], out: &mut [u8])
     let count = fields.len() / 5;
     let mut i = 0;
     while i < count {
-        put_field(rows::field_at(fields, i), record, out);
+        let f = rows::field_at(fields, i);
+        let from = f.r - 1;
+        let end = from + f.input;
+        let to = f.t - 1;
+        let past = to + f.output;
+        put_field(fields[5 * i], &record[from..end], &mut out[to..past]);
         i += 1;
     }
 }
 
+// A position, which counts from 1, as a place, which counts from 0.
+fn place(position: usize) -> usize
+    ensures { λ r. ⌜ r ≡ position - 1 ⌝ }
+{
+    if position == 0 {
+        return 0;
+    }
+    position - 1
+}
+
+// How many bytes are covered from the first on, with a field besides: none more where it begins behind them, as it leaves a gap.
+fn farther(f: Field, covered: usize) -> usize
+    requires { ⌜ (f .t < 65536) × (f .output < 65536) ⌝ }
+    ensures { λ r. ⌜ r ≡ fartherOf (f .t - 1) (f .output) covered ⌝ }
+{
+    let to = place(f.t);
+    if covered < to {
+        return covered;
+    }
+    let past = to + f.output;
+    if past < covered {
+        return covered;
+    }
+    past
+}
+
+// Whether the fields, taken in their order, cover an output record of m bytes from its first byte on, so that no blank stays. A gap that a later
+// field fills is taken for one: blanks are then put for nothing.
+pub fn covers(fields: &[u16], m: usize) -> bool
+    ensures { λ r. ⌜ Covers (now (fields .entry)) m r ⌝ }
+{
+    let count = fields.len() / 5;
+    let mut covered = 0;
+    let mut i = 0;
+    while i < count {
+        covered = farther(rows::field_at(fields, i), covered);
+        i += 1;
+    }
+    m <= covered
+}
+
+// Lays the blanks that the fields are written over, unless the fields cover them all.
+fn put_ground(m: usize, covered: bool, out: &mut [u8])
+    requires { ⌜ m ≤ length (now out) ⌝ }
+    ensures { λ _. ⌜ now (out .exit) ≡ groundOf m covered (now (out .entry)) ⌝ }
+{
+    if !covered {
+        put_blanks(&mut out[..m]);
+    }
+}
+
 // Writes the output of a record at the front of out: B's n bytes of hex 40, then the fields, and with CV the data past A's n.
-pub fn put_record(fields: &[u16], n: usize, m: usize, carries: bool, record: &[u8], out: &mut [u8])
+pub fn put_record(
+    fields: &[u16],
+    n: usize,
+    m: usize,
+    carries: bool,
+    covered: bool,
+    record: &[u8],
+    out: &mut [u8],
+)
     requires { ⌜ Fielded (now fields) n m ⌝ }
     requires { ⌜ n ≤ length (now «record») ⌝ }
     requires { ⌜ m + cond carries (length (now «record») - n) 0 ≤ length (now out) ⌝ }
+    requires { ⌜ Covers (now fields) m covered ⌝ }
+    requires { ⌜ length (now «record») ≤ 65536 ⌝ }
     ensures { λ _. ⌜ Puts (now (fields .entry)) n m carries (now («record» .entry)) (now (out .entry)) (now (out .exit)) ⌝ }
 {
-    put_blanks(&mut out[..m]);
+    put_ground(m, covered, out);
     put_fields(fields, record, out);
     if carries {
         let end = m + (record.len() - n);
-        copy(&record[n..], &mut out[m..end]);
+        copies::copy(&record[n..], &mut out[m..end]);
     }
 }

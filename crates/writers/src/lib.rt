@@ -160,9 +160,25 @@ fn put_data(task: Task, fields: &[u16], record: &[u8], out: &mut [u8])
     let mode = task.mode;
     match mode {
         Mode::TC => copy_reel(record, out),
-        Mode::TF => records::put_record(fields, task.n, task.width, task.carries, record, out),
+        Mode::TF => records::put_record(
+            fields,
+            task.n,
+            task.width,
+            task.carries,
+            records::covers(fields, task.width),
+            record,
+            out,
+        ),
         Mode::TR => copy_reel(record, out),
-        Mode::TRF => records::put_record(fields, task.n, task.width, task.carries, record, out),
+        Mode::TRF => records::put_record(
+            fields,
+            task.n,
+            task.width,
+            task.carries,
+            records::covers(fields, task.width),
+            record,
+            out,
+        ),
     }
 }
 
