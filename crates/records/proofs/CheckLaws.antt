@@ -1,7 +1,7 @@
 -- Whether a record is permitted: of a field's input byte after byte, and of the record field after field. It holds since a kind asks the same of each
 -- byte but the last, and since a record is permitted exactly if each field may have its input.
-use mathlib.Core.Path.{_≡_, ap, ap₂, sym, subst, _∙_}
-use mathlib.Core.Bool.{Bool, true, false, _&&_, and-true}
+use mathlib.Core.Path.{_≡_, refl, ap, ap₂, sym, subst, _∙_}
+use mathlib.Core.Bool.{Bool, true, false, cond, not, _&&_, and-true, false≢true}
 use mathlib.Core.List.{List}
 use Prim.Native.Nat.{ℕ, _+_, _-_, _*_, _/_, _%_, _≤_, _<_}
 use native.Mathlib.Omega.{arith}
@@ -10,20 +10,22 @@ use lib.ListN.{length, take, drop, getD}
 use borrow.Author.Tests.{eq-eqb, ne-eqb, le-leb, leb-true}
 use Rattle.rules.specs.Base.{every}
 use Rattle.rules.specs.Places.{All, Byte}
-use Rattle.rules.specs.Halves.{halves, Kind as RuleKind, pack, unpack, inputSize, Field as RuleField}
+use Rattle.rules.specs.Halves.{halves, Kind as RuleKind, copy, pack, unpack, inputSize, Field as RuleField}
 use Rattle.rules.specs.Permitted.{digit, sign, kindAllows}
 use Rattle.rules.specs.Output.{mayBe}
 use Rattle.rules.specs.Lent.{zoneF}
 use Rattle.rules.specs.RecordParts.{Fits, fieldInput}
+use Rattle.rules.proofs.AllLaws.{all-take, all-drop}
 use Rattle.rules.proofs.Tests.{within-of, within-high}
 use Rattle.rules.proofs.LentParts.{part-length}
 use Rattle.rules.proofs.PermittedLaws.{same-test}
 use Rattle.rules.proofs.FieldTests.{pack-byte-test, unpack-byte-test, bytes-step, bytes-end, copy-permitted, fields-tested}
 use Rattle.terms.specs.Meaning.{kindOf, fieldOf}
 use Rattle.terms.specs.declared.Kind.{Kind}
+use Rattle.terms.specs.declared.Kind.the-variants.{Copy, Pack, Unpack}
 use Rattle.terms.specs.declared.Field.{Field}
 use Rattle.rows.specs.Flat.{flatOf, kindAt, fieldAt, Readable}
-use Rattle.records.specs.Promise.{Permits}
+use Rattle.records.specs.Promise.{Permits, takesAny, Asks}
 use Rattle.rows.proofs.FlatLaws.{input-of, fits-at}
 use Rattle.records.proofs.WalkLaws.{kind-of-row, kind-copy}
 
@@ -123,7 +125,19 @@ part-read xs r i f e h =
     ∙ ap (λ (x : List ℕ). mayBe (kindAllows zoneF (fieldOf f .kind)) 0 (halves x)) (part-input f r)
     ∙ ap (λ (g : Field). mayRead r (fieldOf g)) e
 
--- a copy may have any input
+-- a field that takes any halves may read any record
+pub any-read : (r : List ℕ) → All Byte r → (f : RuleField) → takesAny (f .kind) ≡ true → mayRead r f ≡ true
+unfolding fieldInput
+any-read r small f t = go (f .kind) refl
+  where
+    go : (k : RuleKind) → f .kind ≡ k → mayRead r f ≡ true
+    go (copy n) e =
+        ap (λ (k : RuleKind). mayBe (kindAllows zoneF k) 0 (halves (fieldInput f r))) e
+        ∙ copy-permitted zoneF n (fieldInput f r) (all-take (inputSize (f .kind)) (all-drop (f .r - 1) small))
+    go (pack n m) e = absurd (false≢true (rw e at t))
+    go (unpack n m) e = absurd (false≢true (rw e at t))
+
+-- so may a copy
 pub copy-any : (k n m : ℕ) (x : List ℕ) → k ≡ 0 → All Byte x → mayBe (kindAllows zoneF (kindOf (kindAt k) n m)) 0 (halves x) ≡ true
 copy-any k n m x e small = rw (kind-copy k e) (copy-permitted zoneF n x small)
 
@@ -137,3 +151,23 @@ module _ (xs r : List ℕ) (small : All Byte r) where
   pub permits-all : ((fs : List RuleField) → xs ≡ flatOf fs → every (mayRead r) fs ≡ true) → Permits xs r true
   unfolding Permits
   permits-all h fs a b fair long = sym (fields-tested zoneF a b r long small fs (fair .fits) ∙ h fs (fair .flat))
+
+-- ---- whether a field asks anything
+
+-- a field is known for a copy by its first number
+pub copy-first : (xs : List ℕ) (i : ℕ) → takesAny (fieldOf (fieldAt xs i) .kind) ≡ eqb (getD xs (5 * i) 0) 0
+unfolding fieldOf fieldAt kindAt
+copy-first xs i = go (eqb (getD xs (5 * i) 0) 0) (eqb (getD xs (5 * i) 0) 1)
+  where
+    go : (a b : Bool) → takesAny (kindOf (cond a Copy (cond b Pack Unpack)) (getD xs (5 * i + 2) 0) (getD xs (5 * i + 3) 0)) ≡ a
+    go true b = refl
+    go false true = refl
+    go false false = refl
+
+pub asks-some : (xs : List ℕ) → ((fs : List RuleField) → xs ≡ flatOf fs → every (λ f. takesAny (f .kind)) fs ≡ false) → Asks xs true
+unfolding Asks
+asks-some xs h fs flat = sym (ap not (h fs flat))
+
+pub asks-none : (xs : List ℕ) → ((fs : List RuleField) → xs ≡ flatOf fs → every (λ f. takesAny (f .kind)) fs ≡ true) → Asks xs false
+unfolding Asks
+asks-none xs h fs flat = sym (ap not (h fs flat))

@@ -16,7 +16,7 @@ ghost use Rattle.rules.specs.Rows.{KindWithin};
 ghost use Rattle.rules.specs.RecordParts.{convertedBytes};
 ghost use Rattle.terms.specs.Meaning.{kindOf, fieldOf};
 ghost use Rattle.rows.specs.Flat.{flatOf, kindAt, Short, Fielded, Readable};
-ghost use Rattle.records.specs.Promise.{Permits, Writes, Puts, Covers, fartherOf, groundOf};
+ghost use Rattle.records.specs.Promise.{Permits, Writes, Puts, Asks, Covers, fartherOf, groundOf};
 use terms::Field;
 
 // F, which stands before each digit that is packed.
@@ -139,6 +139,21 @@ pub fn permitted(fields: &[u16], record: &[u8]) -> bool
         i += 1;
     }
     true
+}
+
+// Whether some field asks something of the halves that it reads: a copy takes any.
+pub fn asks(fields: &[u16]) -> bool
+    ensures { λ r. ⌜ Asks (now (fields .entry)) r ⌝ }
+{
+    let count = fields.len() / 5;
+    let mut i = 0;
+    while i < count {
+        if fields[5 * i] != 0 {
+            return true;
+        }
+        i += 1;
+    }
+    false
 }
 
 // Fills a part with blanks.
