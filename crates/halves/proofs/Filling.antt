@@ -1,12 +1,12 @@
 -- A loop that writes one list over another, an element a turn. From left to right, before turn j the first j are the new list's and the others
 -- the old one's; from right to left it is the other way round, the old list over the new one. It holds since each store is at the seam.
 use mathlib.Core.Path.{_≡_, refl, sym, ap, _∙_}
-use mathlib.Core.List.{List, _∷_, _++_, append-nil}
+use mathlib.Core.List.{List, _++_, append-nil}
 use Prim.Native.Nat.{ℕ, suc, _+_, _-_, _≤_, _<_}
 use native.Mathlib.Numerals.{add-one}
 use native.Mathlib.Omega.{arith}
 use lib.ListN.{length, take, drop, getD, set, length-set, drop-of-length-le}
-use lib.Seq.{take-all, take-suc, drop-cons, set-at, append-snoc, length-take-le}
+use lib.Seq.{take-all, take-suc, take-take, take-append-le, drop-cons, set-at, append-snoc, length-take-le}
 
 -- d is t over old as far as place j
 pub record Filling (t old d : List ℕ) (j : ℕ) : Type 0 where
@@ -58,3 +58,37 @@ module _ {t old d : List ℕ} {j : ℕ} (long : length t ≡ length old) where
 
   pub left-end : j ≤ 0 → Filling old t d j → d ≡ t
   left-end h f = let first : j ≡ 0 = omega arith in f .is ∙ ap (λ (i : ℕ). take i old ++ drop i t) first
+
+module _ {t old d : List ℕ} {j : ℕ} (long : length t ≡ length old) where
+  -- two elements a turn, wherever their places are counted from
+  pub left-two : (a b x y k : ℕ) → x + 1 ≡ j → y + 1 ≡ x → k ≡ y → a ≡ getD t x 0 → b ≡ getD t y 0 → Filling old t d j → Filling old t (set (set d x a) y b) k
+  left-two a b x y k e f g p q w =
+      let first : x ≡ j - 1 = omega arith in
+      let second : y ≡ j - 1 - 1 = omega arith in
+      rw (g, second, first) (left-more long b (omega arith) (rw second at q) (left-more long a (omega arith) (rw first at p) w))
+
+-- ---- from right to left in two goes
+
+-- what is before the seam of a list that is filled so far is what was there at first
+before-seam : (t old d : List ℕ) (j k : ℕ) → j ≤ k → k ≤ length old → d ≡ take k old ++ drop k t → take j d ≡ take j old
+before-seam t old d j k l m e =
+    ap (take j) e ∙ take-append-le j (take k old) (drop k t) (omega (arith, length-take-le k old m)) ∙ take-take j k old l
+
+module _ {t old d : List ℕ} {k : ℕ} (long : length t ≡ length old) where
+  -- a go that starts where another ended starts with what that left
+  pub left-on : Filling old t d k → Filling d t d k
+  left-on f =
+      record {
+        upto = f .upto;
+        is = f .is ∙ ap (λ (z : List ℕ). z ++ drop k t) (sym (before-seam t old d k k (omega arith) (omega (arith, f .upto)) (f .is)));
+        same = f .same;
+      }
+
+  -- and what it leaves is what one go over both would have left
+  pub left-both : {e : List ℕ} {j : ℕ} → j ≤ k → Filling old t d k → Filling d t e j → Filling old t e j
+  left-both {e} {j} l f g =
+      record {
+        upto = g .upto;
+        is = g .is ∙ ap (λ (z : List ℕ). z ++ drop j t) (before-seam t old d j k l (omega (arith, f .upto)) (f .is));
+        same = g .same;
+      }

@@ -5,7 +5,7 @@ ghost use lib.ListN.{length, getD};
 ghost use Rattle.rules.specs.Base.{within};
 ghost use Rattle.rules.specs.Halves.{halves, packBytes, unpackBytes};
 ghost use Rattle.rules.specs.Lent.{zoneF};
-ghost use Rattle.halves.specs.Promise.{bothAllowed, packedInto, unpackedInto};
+ghost use Rattle.halves.specs.Promise.{bothAllowed, packedInto, unpackedFrom, unpackedInto};
 
 // F, which stands before each unpacked digit.
 const ZONE: u8 = 15;
@@ -112,17 +112,36 @@ fn unpack_at(src: &[u8], m: usize, i: usize) -> u8
     ZONE * 16 + half_at(src, 2 * last - before)
 }
 
-// src unpacked into all of dst.
+// The last byte turned, and going left from it two bytes for each byte of src, while dst has room for both. Before the place that is answered dst stays.
+fn put_pairs(src: &[u8], dst: &mut [u8]) -> usize
+    requires { ⌜ (1 ≤ length (now src)) × (length (now src) ≤ 16) ⌝ }
+    requires { ⌜ (1 ≤ length (now dst)) × (length (now dst) ≤ 16) ⌝ }
+    ensures { λ r. ⌜ (r ≤ length (now (dst .entry))) × (now (dst .exit) ≡ unpackedFrom r (now (src .entry)) (now (dst .entry))) ⌝ }
+{
+    let last = src.len() - 1;
+    let end = dst.len() - 1;
+    dst[end] = turned(src[last]);
+    let mut done = 0;
+    while done < last && 2 * done + 1 < end {
+        let byte = src[last - 1 - done];
+        dst[end - 1 - 2 * done] = ZONE * 16 + byte % 16;
+        dst[end - 2 - 2 * done] = ZONE * 16 + byte / 16;
+        done += 1;
+    }
+    end - 2 * done
+}
+
+// src unpacked into all of dst, from the right end.
 fn put_unpacked(src: &[u8], dst: &mut [u8])
     requires { ⌜ (1 ≤ length (now src)) × (length (now src) ≤ 16) ⌝ }
     requires { ⌜ (1 ≤ length (now dst)) × (length (now dst) ≤ 16) ⌝ }
     ensures { λ _. ⌜ now (dst .exit) ≡ unpackBytes zoneF (length (now (dst .entry))) (now (src .entry)) ⌝ }
 {
     let m = dst.len();
-    let mut i = 0;
-    while i < m {
-        dst[i] = unpack_at(src, m, i);
-        i += 1;
+    let mut at = put_pairs(src, dst);
+    while 0 < at {
+        at -= 1;
+        dst[at] = unpack_at(src, m, at);
     }
 }
 
