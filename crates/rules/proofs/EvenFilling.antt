@@ -77,7 +77,7 @@ abbrev pub stepped : ℕ → ℕ → ℕ → ℕ → List ℕ
 stepped zero step at end = word end
 stepped (suc f) step at end = let rest = stepped f step (at + step) end in cond (ltb at end) (word at ++ rest) (word end)
 
-stepped-end : (f step at end : ℕ) → end ≤ at → stepped f step at end ≡ word end
+pub stepped-end : (f step at end : ℕ) → end ≤ at → stepped f step at end ≡ word end
 stepped-end zero step at end l = refl
 stepped-end (suc f) step at end l = rw (le-ltb at end l)
 

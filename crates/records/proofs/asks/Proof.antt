@@ -1,8 +1,9 @@
 -- `records::asks` meets its contract: before each turn the fields before place i are copies.
-use borrow.Author.Needs.{needs}
 use mathlib.Core.Path.{_∙_}
-use Prim.Native.Nat.{_-_}
+use Prim.Native.Nat.{_-_, _*_}
 use native.Mathlib.Omega.{arith}
+use lib.ListN.{getD}
+use borrow.Author.Needs.{needs}
 use borrow.Author.Tests.{eq-eqb, ne-eqb}
 use Rattle.rules.specs.Halves.{Field}
 use Rattle.records.specs.Promise.{takesAny}
@@ -33,7 +34,7 @@ returns : tie.Need-returns Inv-loop μ-loop
 returns c =
     let t = c .before .before .before in
     let xs = t .before .args .fields .now in
-    asks-some xs (left-fails _ xs (t .loop .i) (t .loop .inv) (omega arith) (copy-first xs (t .loop .i) ∙ ne-eqb _ 0 (c .if1 .taken)))
+    asks-some xs (left-fails _ xs (t .loop .i) (t .loop .inv) (omega arith) (copy-first xs (t .loop .i) ∙ ne-eqb (getD xs (5 * t .loop .i) 0) 0 (λ e. omega (arith, e, c .if1 .taken))))
 
 add-i : tie.Need-add-i Inv-loop μ-loop
 add-i c = search needs
@@ -45,7 +46,7 @@ loop-again : tie.Need-loop-again Inv-loop μ-loop
 loop-again c =
     let t = c .before .before .before in
     let xs = t .before .args .fields .now in
-    left-more _ xs (t .loop .i) (t .loop .inv) (omega arith) (copy-first xs (t .loop .i) ∙ eq-eqb _ 0 (c .if1 .left))
+    left-more _ xs (t .loop .i) (t .loop .inv) (omega arith) (copy-first xs (t .loop .i) ∙ eq-eqb (getD xs (5 * t .loop .i) 0) 0 (omega (arith, c .if1 .left)))
 
 returns-2 : tie.Need-returns-2 Inv-loop μ-loop
 returns-2 c =

@@ -1,7 +1,7 @@
 -- `records::covers` meets its contract: before each turn the fields before place i cover so many bytes.
-use borrow.Author.Needs.{needs}
 use Prim.Native.Nat.{_+_, _-_, _*_}
 use native.Mathlib.Omega.{arith}
+use borrow.Author.Needs.{needs}
 use Rattle.rows.specs.Flat.{fieldAt}
 use Rattle.records.proofs.CoverLaws.{Reaching, reach-start, reach-more, reach-end}
 use Rattle.records.proofs.covers.Statement.{statement}

@@ -2,8 +2,8 @@
 use mathlib.Core.Path.{_≡_, _∙_}
 use Prim.Native.Nat.{_+_, _-_, max}
 use native.Mathlib.Omega.{arith}
-use Rattle.records.proofs.CoverLaws.{farther-gap, farther-joins}
 use borrow.Author.Needs.{needs}
+use Rattle.records.proofs.CoverLaws.{farther-gap, farther-joins}
 use Rattle.records.proofs.farther.Statement.{statement}
 use Rattle.records.proofs.farther.Tie as tie
 

@@ -2,10 +2,10 @@
 use mathlib.Core.Path.{sym}
 use native.Mathlib.Omega.{arith}
 use lib.ListN.{length}
+use borrow.Author.Needs.{needs}
 use Rattle.rules.proofs.HalfBytes.{all-bytes}
 use Rattle.records.proofs.WalkLaws.{kind-pack, kind-unpack}
 use Rattle.records.proofs.CheckLaws.{copy-any}
-use borrow.Author.Needs.{needs}
 use Rattle.records.proofs.input_permitted.Statement.{statement}
 use Rattle.records.proofs.input_permitted.Tie as tie
 

@@ -1,7 +1,7 @@
 -- `records::is_zoned` meets its contract: from F0 to F9 the high half is F and the low half a digit, and only there.
+use mathlib.Core.Path.{sym, _∙_}
 use native.Mathlib.Omega.{arith}
 use borrow.Author.Tests.{lt-leb}
-use mathlib.Core.Path.{sym, _∙_}
 use Rattle.records.proofs.CheckLaws.{zoned-test, zone-missing}
 use Rattle.records.proofs.is_zoned.Statement.{statement}
 use Rattle.records.proofs.is_zoned.Tie as tie

@@ -1,10 +1,10 @@
 -- `records::pack_permitted` meets its contract: before each turn what is left to ask is of the bytes from i on, and of the last something else is asked.
-use borrow.Author.Needs.{needs}
 use mathlib.Core.Path.{refl, sym, _∙_}
 use Prim.Native.Nat.{ℕ, _-_, _≤_}
 use native.Mathlib.Omega.{arith}
-use borrow.Author.Tests.{not-true, not-false}
 use lib.ListN.{length}
+use borrow.Author.Needs.{needs}
+use borrow.Author.Tests.{not-true, not-false}
 use Rattle.rules.specs.Halves.{pack}
 use Rattle.records.proofs.CheckLaws.{BytesLeft, bytes-more, bytes-fail, pack-inner, pack-end}
 use Rattle.records.proofs.pack_permitted.Statement.{statement}

@@ -4,8 +4,8 @@ use Prim.Native.Nat.{_-_}
 use native.Mathlib.Omega.{arith}
 use borrow.Author.Needs.{needs}
 use borrow.Author.Tests.{not-true, not-false}
-use Rattle.rules.proofs.HalfBytes.{all-bytes}
 use Rattle.rules.specs.Places.{All, Byte}
+use Rattle.rules.proofs.HalfBytes.{all-bytes}
 use Rattle.terms.specs.Meaning.{fieldOf}
 use Rattle.rows.specs.Flat.{fieldAt}
 use Rattle.records.proofs.WalkLaws.{Left, left-start, left-more, left-fails, left-end}

@@ -1,7 +1,7 @@
 -- `records::put_field` meets its contract: the number says the kind, and a copy, pack or unpack leaves what that kind makes of the input.
 use mathlib.Core.Path.{_∙_}
-use Rattle.records.proofs.PutLaws.{copied-size, copied, packed, unpacked}
 use borrow.Author.Needs.{needs}
+use Rattle.records.proofs.PutLaws.{copied-size, copied, packed, unpacked}
 use Rattle.records.proofs.put_field.Statement.{statement}
 use Rattle.records.proofs.put_field.Tie as tie
 

@@ -1,10 +1,10 @@
 -- `records::put_fields` meets its contract: before each turn the first i fields stand over the output.
+use mathlib.Core.Path.{_≡_, ap, _∙_}
 use Prim.Native.Nat.{_+_, _-_, _*_}
 use native.Mathlib.Omega.{arith}
-use borrow.Author.Needs.{needs}
-use borrow.Rule.Slice.PartMut.{same-len-mid}
 use lib.ListN.{getD}
-use mathlib.Core.Path.{_≡_, ap, _∙_}
+use borrow.Rule.Slice.PartMut.{same-len-mid}
+use borrow.Author.Needs.{needs}
 use Rattle.terms.specs.declared.Field.{Field}
 use Rattle.rows.specs.Flat.{kindAt}
 use Rattle.records.proofs.WalkLaws.{kind-of-row}

@@ -5,8 +5,8 @@ use native.Mathlib.Omega.{arith}
 use lib.ListN.{replicate}
 use lib.Seq.{length-take-le}
 use borrow.Author.Tests.{not-true, not-false}
-use Rattle.records.proofs.CoverLaws.{ground-blank, ground-stays}
 use borrow.Author.Needs.{needs}
+use Rattle.records.proofs.CoverLaws.{ground-blank, ground-stays}
 use Rattle.records.proofs.put_ground.Statement.{statement}
 use Rattle.records.proofs.put_ground.Tie as tie
 

@@ -2,9 +2,9 @@
 use mathlib.Core.Path.{_≡_, _∙_}
 use Prim.Native.Nat.{_+_, _-_, _≤_}
 use native.Mathlib.Omega.{arith}
+use lib.ListN.{length}
 use borrow.Rule.Slice.PartAt.{part-to-end}
 use borrow.Author.Needs.{needs}
-use lib.ListN.{length}
 use Rattle.rules.proofs.LentParts.{part-length}
 use Rattle.records.proofs.PutLaws.{fields-wider, tail-room, put-alone, put-tail}
 use Rattle.records.proofs.put_record.Statement.{statement}

@@ -1,10 +1,10 @@
 -- `records::unpack_permitted` meets its contract: before each turn what is left to ask is of the bytes from i on, and of the last something else is asked.
-use borrow.Author.Needs.{needs}
 use mathlib.Core.Path.{refl, sym, _∙_}
 use Prim.Native.Nat.{ℕ, _-_, _≤_}
 use native.Mathlib.Omega.{arith}
-use borrow.Author.Tests.{not-true, not-false}
 use lib.ListN.{length}
+use borrow.Author.Needs.{needs}
+use borrow.Author.Tests.{not-true, not-false}
 use Rattle.rules.specs.Halves.{unpack}
 use Rattle.records.proofs.CheckLaws.{BytesLeft, bytes-more, bytes-fail, unpack-inner, unpack-end}
 use Rattle.records.proofs.unpack_permitted.Statement.{statement}

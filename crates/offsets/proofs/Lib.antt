@@ -1,0 +1,3 @@
+pub mod Sending
+pub mod StepLaws
+pub mod EachLaws
