@@ -1,22 +1,16 @@
--- The numbers of a step: the length of an output record is the rules', a tally is a measure of the rules, and a step keeps both far from wrapping. By the plan's mode.
+-- The numbers of a step: a tally is a measure of the rules, and a step keeps it far from wrapping. By the plan's mode.
 use mathlib.Core.Path.{_≡_, refl, ap, ap₂, sym, _∙_}
 use mathlib.Core.Bool.{Bool, true, false, cond, _||_}
-use mathlib.Core.List.{List}
-use Prim.Native.Nat.{ℕ, _+_, _-_, _≤_, _<_}
+use Prim.Native.Nat.{ℕ, _+_, _-_, _≤_}
 use native.Mathlib.Omega.{arith}
 use lib.Dec.{ltb, eqb}
-use lib.ListN.{length}
 use borrow.Author.Tests.{eq-eqb, ne-eqb}
 use Rattle.rules.specs.Grammar.{Mode, tc, tf, tr, trf}
-use Rattle.rules.specs.Plan.{Plan, selects, recordLength, blockLength}
-use Rattle.rules.specs.Blocks.{leastData}
-use Rattle.rules.specs.Output.{outRecord, cost}
+use Rattle.rules.specs.Plan.{Plan, blockLength}
+use Rattle.rules.specs.Output.{cost}
 use Rattle.rules.specs.Accepted.{Accepted}
-use Rattle.rules.proofs.BlockSizes.{least-selects}
-use Rattle.rules.proofs.RecordLaws.{length-outRecord}
 use Rattle.rules.proofs.FillSteps.{Measure, opening, behind, measure}
 use Rattle.rules.proofs.MeasureLaws.{cost-high, record-high, block-high}
-use Rattle.rules.proofs.Never.{output-other}
 use Rattle.terms.specs.Meaning.{modeOf, TaskIs}
 use Rattle.terms.specs.declared.Task.{Task}
 use Rattle.fillings.specs.declared.Tally.{Tally}

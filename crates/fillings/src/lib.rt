@@ -1,7 +1,6 @@
 // Filling output blocks record by record: what is known along the way are three numbers, and they say whether a record opens a block. Measuring and writing both
 // go by these steps. Document 01, "Blocks and records".
 ghost use mathlib.Core.Path.{_≡_};
-ghost use Prim.Native.Nat.{_≤_};
 ghost use Rattle.fillings.specs.Tallying.{overfillsOf, opensOf, tallyOf, Small};
 use terms::Mode;
 use terms::Task;

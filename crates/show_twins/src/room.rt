@@ -10,7 +10,11 @@ pub(crate) fn put(room: &mut [u8], from: usize, bytes: &[u8]) -> usize {
 
 // Puts a big-endian 32-bit number into the room; where its four bytes are not all inside, nothing.
 pub(crate) fn put_word(room: &mut [u8], at: usize, value: usize) {
-    if room.len() < 4 || room.len() - 4 < at {
+    let end = room.len();
+    if end < 4 {
+        return;
+    }
+    if end - 4 < at {
         return;
     }
     reels::put_word(room, at, value);
@@ -18,7 +22,14 @@ pub(crate) fn put_word(room: &mut [u8], at: usize, value: usize) {
 
 // Puts the word of a length into the room; where its four bytes are not all inside, or 2 bytes do not hold the length, nothing.
 pub(crate) fn put_length_word(room: &mut [u8], at: usize, size: usize) {
-    if 65535 < size || room.len() < 4 || room.len() - 4 < at {
+    if 65535 < size {
+        return;
+    }
+    let end = room.len();
+    if end < 4 {
+        return;
+    }
+    if end - 4 < at {
         return;
     }
     reels::put_length_word(room, at, size);

@@ -1,69 +1,66 @@
--- The pass that puts the blocks: before each turn the bytes up to the place stand, and what is left follows from the place; the header says where each block ends.
--- By the walk's laws, and since the header's words from the place's word on are the offsets of the blocks that are left.
+-- The pass that writes: before each turn the blocks so far are laid, and the tally is their measure. By what a record does to the blocks and to the output.
 use mathlib.Core.Path.{_≡_, refl, ap, ap₂, sym, _∙_, subst, subst₂}
 use mathlib.Core.Bool.{Bool, true, false, cond}
-use mathlib.Core.List.{List, [], _++_, append-assoc}
-use Prim.Native.Nat.{ℕ, _+_, _-_, _*_, _≤_, _<_}
+use mathlib.Core.List.{List, [], _∷_, _++_, map}
+use Prim.Native.Nat.{ℕ, _+_, _-_, _*_, _≤_}
 use native.Mathlib.Omega.{arith}
-use lib.ListN.{length, take, drop, length-append}
-use lib.Seq.{take-at}
+use lib.ListN.{length, take, drop}
 use Rattle.rules.specs.Base.{joined}
 use Rattle.rules.specs.Halves.{over, bytes, outHalves, halves, value}
 use Rattle.rules.specs.Places.{All}
 use Rattle.rules.specs.Grammar.{Mode, Format}
 use Rattle.rules.specs.Reel.{word, ends, reelOf}
 use Rattle.rules.specs.Plan.{Plan, selects, recordLength}
-use Rattle.rules.specs.Blocks.{leastData}
-use Rattle.rules.specs.Output.{outRecord, selected, cost}
+use Rattle.rules.specs.Output.{outRecord, selected, blockOf, cost}
+use Rattle.rules.specs.Run.{outputBlocks}
 use Rattle.rules.specs.Lent.{zoneF}
 use Rattle.rules.specs.RecordParts.{Fits}
-use Rattle.rules.specs.ReelPlaces.{wordAt, headerOf}
 use Rattle.rules.proofs.AllLaws.{all-imply}
 use Rattle.rules.proofs.ReelLaws.{length-reel}
-use Rattle.rules.proofs.WordLaws.{length-word, word-left, word-written}
-use Rattle.rules.proofs.ReelWriting.{header-length}
+use Rattle.rules.proofs.FillLaws.{total-least}
 use Rattle.rules.proofs.BlockSizes.{least-selects}
 use Rattle.rules.proofs.RecordLaws.{fits-of}
+use Rattle.terms.specs.Meaning.{formatOf}
 use Rattle.terms.specs.declared.Task.{Task}
 use Rattle.reels.specs.declared.Form.{Form}
 use Rattle.rows.specs.Flat.{FlatFair}
 use Rattle.records.specs.Promise.{outBytes}
 use Rattle.walks.specs.declared.Walk.{Walk}
-use Rattle.walks.specs.Promise.{Taken}
-use Rattle.writers.specs.declared.Place.{Place}
+use Rattle.walks.specs.Promise.{Walks, Taken}
 use Rattle.tasks.specs.Promise.{formOf, lengthOf}
-use Rattle.writers.specs.Writing.{opensOf, firstPlace, nextPlace, sizeWord, pieceOf}
-use Rattle.writers.specs.Promise.{blocksIn, Ready, outOf, Writable, NextFits, nextBytes, NextPut, Headed}
-use Rattle.writers.proofs.Gathering.{closedSize, offsetsLeft, bytesLeft, next-offset, closed-most, length-sizeWord, length-piece}
-use Rattle.writers.proofs.Sending.{Sent, sent-start, sent-length, sent-more, sent-end, sent-as}
-use Rattle.writers.proofs.StepLaws.{next-opens, next-behind}
-use Rattle.writers.proofs.Readying.{outs, marksIn, count-is, offsets-left, blocks-left}
-use Rattle.writers.proofs.OffsetLaws.{Going, going-start, Turn, going-next, left-open, left-behind, words-open, words-behind, size-open, size-behind, ends-size, header-fits, few-blocks, width-small}
+use Rattle.fillings.specs.declared.Tally.{Tally}
+use Rattle.fillings.specs.Tallying.{opensOf, tallyOf, Small}
+use Rattle.fillings.proofs.TallyLaws.{empty, tally-opens, tally-behind}
+use Rattle.writers.specs.Writing.{sizeWord, pieceOf, offsetPut}
+use Rattle.writers.specs.Promise.{blocksIn, outOf, Writable, NextFits, nextPut, NextPut, Lent}
+use Rattle.writers.proofs.FilledLaws.{allOf, all-done, soFar, bytesIn, sizeOf, length-snoc, least, Filled, filled-start, filled-opens, behind-some, filled-behind}
+use Rattle.writers.proofs.LaidLaws.{laid, laid-nothing, laid-length, laid-ends, laid-opens, laid-behind}
+use Rattle.writers.proofs.RecordLaws.{offset-opens, offset-stays}
+use Rattle.writers.proofs.Readying.{outs, marksIn, gathered-is, starts-is, count-is}
+use Rattle.writers.proofs.TurnLaws.{walks-first, Turn, header-fits, few-blocks, width-small, cost-small}
 
--- what is put behind the front leaves it
-over-front : (i : ℕ) (h rest vs old : List ℕ) → old ≡ h ++ rest → length h ≡ i → over i vs old ≡ h ++ (vs ++ drop (i + length vs) old)
-unfolding over
-over-front i h rest vs old e l =
-    ap (λ (x : List ℕ). x ++ vs ++ drop (i + length vs) old) (ap (take i) e ∙ take-at h rest i l) ∙ append-assoc h vs (drop (i + length vs) old)
+-- the tally behind a record that was read
+pub tally-read : (task : Task) (t v : Tally) (begins : Bool) (n size k : ℕ) → v ≡ tallyOf task t begins n → n ≡ lengthOf task size → k ≡ size → v ≡ tallyOf task t begins (lengthOf task k)
+tally-read task t v begins n size k e l m = e ∙ ap (tallyOf task t begins) (l ∙ sym (ap (lengthOf task) m))
 
-module _ {task : Task} {xs s : List ℕ} {blocks : ℕ} {old : List ℕ} (y : Headed task xs s blocks old) where
-  abbrev ready : Ready task s blocks (length old)
-  ready = y .lent .ready
-
+module _ {task : Task} {xs s : List ℕ} {blocks : ℕ} (old : List ℕ) (y : Lent task xs s blocks (length old)) where
   abbrev p : Plan
-  p = y .lent .ready .p
+  p = y .ready .p
 
-  abbrev bs : List (List ℕ)
-  bs = blocksIn (y .lent .ready .p) (y .lent .ready .recs)
+  abbrev all : List (List (List ℕ))
+  all = outputBlocks (y .ready .p) (y .ready .recs)
+
+  costs : task .cost ≡ cost (formatOf (task .format))
+  costs = y .ready .is .costs ∙ sym (ap cost (y .ready .is .format))
 
   -- ---- a record
 
   fair-is : FlatFair xs (p .fields) (task .n) (task .width)
   fair-is =
       record {
-        flat = y .lent .flat;
-        fits = subst₂ (λ (a b : ℕ). All (Fits a b) (p .fields)) (sym (ready .is .n)) (sym (ready .is .width)) (fits-of p (ready .good .accepted));
-        sizes = all-imply (λ f w. w .kind) (ready .good .accepted .limits);
+        flat = y .flat;
+        fits = subst₂ (λ (a b : ℕ). All (Fits a b) (p .fields)) (sym (y .ready .is .n)) (sym (y .ready .is .width)) (fits-of p (y .ready .good .accepted));
+        sizes = all-imply (λ f w. w .kind) (y .ready .good .accepted .limits);
       }
 
   out-is : (r : List ℕ) → outRecord p r ≡ outOf task (p .fields) r
@@ -72,189 +69,227 @@ module _ {task : Task} {xs s : List ℕ} {blocks : ℕ} {old : List ℕ} (y : He
       ap
       (λ (z : ℕ). cond (selects (p .mode))
       (bytes (outHalves z value (recordLength (p .output)) (p .fields) (halves (take (recordLength (p .input)) r))) ++ cond (p .carries) (drop (recordLength (p .input)) r) []) r)
-      (ready .zone)
+      (y .ready .zone)
       ∙ ap₂
       (λ (n m : ℕ). cond (selects (p .mode)) (bytes (outHalves zoneF value m (p .fields) (halves (take n r))) ++ cond (p .carries) (drop n r) []) r)
-      (sym (ready .is .n)) (sym (ready .is .width))
+      (sym (y .ready .is .n)) (sym (y .ready .is .width))
       ∙ ap₂
       (λ (m : Mode) (c : Bool). cond (selects m) (bytes (outHalves zoneF value (task .width) (p .fields) (halves (take (task .n) r))) ++ cond c (drop (task .n) r) []) r)
-      (sym (ready .is .mode)) (sym (ready .is .carries))
-
-  writable : (r : List ℕ) → leastData p ≤ length r → length r ≤ 65536 → lengthOf task (length r) + 4 < 65536 → Writable task xs r
-  writable r l m k =
-      record {
-        fielded = record { fields = p .fields; fair = fair-is };
-        least = λ t. omega (arith, least-selects p (sym (ap selects (ready .is .mode)) ∙ t), ready .is .n);
-        costs = ready .is .costs ∙ sym (ap cost (ready .is .format));
-        width = width-small ready;
-        long = m;
-        word = k;
-      }
+      (sym (y .ready .is .mode)) (sym (y .ready .is .carries))
 
   -- ---- the pass
 
-  pub record Laying (out : List ℕ) (w : Walk) (place : Place) : Type 0 where
+  pub record Laying (out : List ℕ) (w : Walk) (t : Tally) : Type 0 where
     pub rest : List (Bool × List ℕ)
-    pub going : Going (y .lent .ready) w place rest
-    pub sent : Sent (4 * blocks + 8) (joined (blocksIn (y .lent .ready .p) (y .lent .ready .recs))) old out (place .at)
-        (bytesLeft (y .lent .ready .p .format) (opensOf task) (place .size) (outs (y .lent .ready .p) rest))
-    -- the offsets of the blocks that are open or closed, and those that are left
-    pub words : List ℕ
-    pub before : ends (4 * blocks + 8) (blocksIn (y .lent .ready .p) (y .lent .ready .recs))
-        ≡ words ++ offsetsLeft (y .lent .ready .p .format) (opensOf task) (place .size) (place .at) (outs (y .lent .ready .p) rest)
-    pub here : place .word ≡ 4 + length words
+    pub walks : Walks (y .ready .p) s w rest
+    pub closed : List (List (List ℕ))
+    pub now : List (List ℕ)
+    pub filled : Filled (y .ready .p .format) task (outputBlocks (y .ready .p) (y .ready .recs)) closed now t (outs (y .ready .p) rest)
+    pub is : out ≡ laid (y .ready .p .format) (4 * blocks + 8) old (soFar closed now)
 
-  laying-first : {form : Form} → form ≡ formOf task → {w : Walk} → Taken form s (task .first) w → Laying old w (firstPlace task blocks)
-  laying-first e t =
+  pub laying-start : {form : Form} → form ≡ formOf task → {w : Walk} → Taken form s (task .first) w → Laying old w empty
+  laying-start e t =
       record {
-        rest = marksIn ready;
-        going = going-start ready e t;
-        sent =
-            sent-as (sent-start (4 * blocks + 8) (joined bs) old (omega (arith, length-reel bs, count-is ready, ready .roomy))) (blocks-left ready) refl;
-        words = [];
-        before = offsets-left ready;
-        here = refl;
+        rest = marksIn (y .ready);
+        walks = walks-first (y .ready) e t;
+        closed = [];
+        now = [];
+        filled = filled-start (p .format) task (outs p (marksIn (y .ready))) (gathered-is (y .ready .is) (y .ready .recs) (y .ready .other)) (starts-is (y .ready .is) (y .ready .recs));
+        is = laid-nothing (p .format) (4 * blocks + 8) old;
       }
 
-  pub laying-start : {form : Form} → form ≡ formOf task → {w : Walk} → Taken form s (task .first) w → {place : Place} → place ≡ firstPlace task blocks → Laying old w place
-  laying-start e {w} t q = subst (Laying old w) (sym q) (laying-first e t)
+  -- the blocks so far are among all
+  pub record Within (t : Tally) : Type 0 where
+    pub many : t .blocks ≤ blocks
+    pub long : 4 * blocks + 8 + t .bytes ≤ length (reelOf (blocksIn (y .ready .p) (y .ready .recs)))
+    pub last : t .size ≤ t .bytes
 
-  pub laying-length : {out : List ℕ} {w : Walk} {place : Place} → Laying out w place → length out ≡ length old
-  laying-length l = sent-length (l .sent)
+  last-most : (closed : List (List (List ℕ))) (now : List (List ℕ)) → sizeOf (p .format) now ≤ length (bytesIn (p .format) (soFar closed now))
+  last-most closed [] = omega arith
+  last-most closed (x ∷ xs) = omega (arith, length-snoc (p .format) closed (x ∷ xs))
 
-  pub laying-word : {out : List ℕ} {w : Walk} {place : Place} → Laying out w place → place .word ≤ 0x100000
-  laying-word {out} {w} {place} l =
-      omega (
-        arith,
-        ap length (l .before),
-        length-append (l .words) (offsetsLeft (p .format) (opensOf task) (place .size) (place .at) (outs p (l .rest))),
-        ends-size ready,
-        l .here,
-        few-blocks ready,
-      )
+  within : {closed : List (List (List ℕ))} {now : List (List ℕ)} {t : Tally} {marks : List (Bool × List ℕ)} → Filled (p .format) task all closed now t marks → Within t
+  unfolding blocksIn
+  within {closed} {now} {t} {marks} w =
+      let k = least (p .format) task closed now marks in
+      record {
+        many = omega (arith, w .blocks, k .blocks, ap length (w .left), y .ready .count);
+        long = omega (arith, w .bytes, k .bytes, ap (λ (bs : List (List (List ℕ))). length (bytesIn (p .format) bs)) (w .left), length-reel (blocksIn p (y .ready .recs)), count-is (y .ready));
+        last = omega (arith, w .size, w .bytes, last-most closed now);
+      }
 
-  pub laying-end : {out : List ℕ} {w : Walk} {place : Place} (l : Laying out w place) → l .rest ≡ [] → out ≡ over (4 * blocks + 8) (joined (blocksIn (y .lent .ready .p) (y .lent .ready .recs))) old
-  laying-end {out} {w} {place} l e = sent-end (l .sent) (ap (λ (m : List (Bool × List ℕ)). bytesLeft (p .format) (opensOf task) (place .size) (outs p m)) e)
+  -- a record more: the blocks so far with it, the room that it takes, and that what is put is what is then laid
+  pub record Added (closed : List (List (List ℕ))) (now : List (List ℕ)) (t : Tally) (r : List ℕ) (more : List (Bool × List ℕ)) (v : Tally) : Type 0 where
+    pub earlier : List (List (List ℕ))
+    pub last : List (List ℕ)
+    pub filled : Filled (y .ready .p .format) task (outputBlocks (y .ready .p) (y .ready .recs)) earlier last v more
+    pub piece : task .cost + (task .cost + lengthOf task (length r)) ≤ v .size
+    pub grows : t .bytes ≤ v .bytes
+    pub put : nextPut task (y .ready .p .fields) r (4 * blocks + 8) t v (laid (y .ready .p .format) (4 * blocks + 8) old (soFar closed now))
+        ≡ laid (y .ready .p .format) (4 * blocks + 8) old (soFar earlier last)
 
-  module _ {out : List ℕ} {w : Walk} {place : Place} (l : Laying out w place) {r : List ℕ} {begins : Bool} {next : Walk}
-      (t : Turn (y .lent .ready) (l .rest) r (lengthOf task (length r)) begins next) where
-    abbrev size : ℕ
-    size = task .cost + (task .cost + lengthOf task (length r))
+  -- what is put, in the rules' words
+  put-is : (t v : Tally) (r out : List ℕ) → nextPut task (p .fields) r (4 * blocks + 8) t v out
+      ≡ over (4 * blocks + 8 + v .bytes - (task .cost + lengthOf task (length r))) (pieceOf (p .format) (outRecord p r))
+      (over (4 * blocks + 8 + v .bytes - v .size) (sizeWord (p .format) (v .size)) (offsetPut (4 * blocks + 8) t v out))
+  unfolding nextPut
+  put-is t v r out =
+      ap₂
+      (λ (f : Format) (d : List ℕ). over (4 * blocks + 8 + v .bytes - (task .cost + lengthOf task (length r))) (pieceOf f d)
+      (over (4 * blocks + 8 + v .bytes - v .size) (sizeWord f (v .size)) (offsetPut (4 * blocks + 8) t v out)))
+      (y .ready .is .format) (sym (out-is r))
 
-    abbrev closed : ℕ
-    closed = closedSize (y .lent .ready .p .format) (opensOf task) (task .cost + (task .cost + lengthOf task (length r))) (outs (y .lent .ready .p) (t .more))
-
-    closed-small : opensOf task (place .size) begins (lengthOf task (length r)) ≡ true → place .at + closed ≤ length (reelOf bs)
-    closed-small o = omega (arith, size-open ready (l .going) t o, closed-most (p .format) (opensOf task) size (outs p (t .more)))
-
-    -- the header's word
-    block-end : opensOf task (place .size) begins (lengthOf task (length r)) ≡ true → (wordAt out (place .word + 4) ≡ place .at + closed) × (place .word + 8 ≤ 4 * blocks + 8)
-    unfolding headerOf
-    block-end o =
-        let n = next-offset (p .format) (opensOf task) (place .at) size (place .at + size) (outs p (t .more)) refl in
-        let all : ends (4 * blocks + 8) bs ≡ l .words ++ (word (place .at) ++ (word (place .at + closed) ++ n .0))
-        = l .before ∙ ap (l .words ++_) (words-open ready (l .going) t o ∙ ap (word (place .at) ++_) (n .1)) in
-        let front = word blocks ++ l .words ++ word (place .at) in
-        let head : headerOf bs ≡ front ++ (word (place .at + closed) ++ n .0)
-        = ap (λ (k : ℕ). word k ++ ends (4 * k + 8) bs) (count-is ready)
-        ∙ ap (word blocks ++_) all
-        ∙ sym (append-assoc (word blocks) (l .words) (word (place .at) ++ (word (place .at + closed) ++ n .0)))
-        ∙ sym (append-assoc (word blocks ++ l .words) (word (place .at)) (word (place .at + closed) ++ n .0)) in
-        let size-front : length front ≡ place .word + 4
-        = omega (arith, length-append (word blocks ++ l .words) (word (place .at)), length-append (word blocks) (l .words), length-word blocks, length-word (place .at), l .here) in
-        let inside : place .word + 8 ≤ 4 * blocks + 8
-        = omega
-        (arith, ap length all, ends-size ready, l .here, length-append (l .words) (word (place .at) ++ (word (place .at + closed) ++ n .0)), length-append (word (place .at)) (word (place .at + closed) ++ n .0), length-append (word (place .at + closed)) (n .0), length-word (place .at), length-word (place .at + closed)) in
-        let done = l .sent .done in
-        let long : length (headerOf bs) ≡ 4 * blocks + 8 = omega (arith, header-length bs, count-is ready) in (
-          ap (λ (x : List ℕ). wordAt x (place .word + 4)) (l .sent .is ∙ over-front (4 * blocks + 8) (headerOf bs) (y .rest) done old (y .front) long)
-              ∙ word-left (headerOf bs) (done ++ drop (4 * blocks + 8 + length done) old) (place .word + 4) (omega arith)
-              ∙ ap (λ (x : List ℕ). wordAt x (place .word + 4)) head
-              ∙ word-written front (place .at + closed) (n .0) (place .word + 4) (omega (arith, closed-small o, ready .most)) size-front,
-          inside,
-        )
-
-    -- the record lies in the reel
-    inside-reel : place .at + lengthOf task (length r) ≤ length (reelOf bs)
-    inside-reel = go (opensOf task (place .size) begins (lengthOf task (length r))) refl
-      where
-        go : (b : Bool) → opensOf task (place .size) begins (lengthOf task (length r)) ≡ b → place .at + lengthOf task (length r) ≤ length (reelOf (blocksIn (y .lent .ready .p) (y .lent .ready .recs)))
-        go true b = omega (arith, size-open (y .lent .ready) (l .going) t b)
-        go false b = omega (arith, size-behind (y .lent .ready) (l .going) t b)
-
-    pub laying-writable : length r ≤ 65536 → Writable task xs r
-    laying-writable m = writable r (t .least) m (omega (arith, inside-reel, l .going .low, ready .most))
-
-    pub laying-fits : NextFits task (length r) begins place out
-    laying-fits =
+  module _ (closed : List (List (List ℕ))) (t : Tally) (begins : Bool) (r : List ℕ) (more : List (Bool × List ℕ)) (long : length (outRecord p r) ≡ lengthOf task (length r)) where
+    added-opens : (now : List (List ℕ)) → Filled (p .format) task all closed now t ((begins, outRecord p r) ∷ more) → opensOf task t begins (length (outRecord p r)) ≡ true
+        → Added closed now t r more (tallyOf task t begins (length (outRecord p r)))
+    added-opens now w o =
+        let d = outRecord p r in
+        let f = p .format in
+        let base = 4 * blocks + 8 in
+        let bs = soFar closed now in
+        let v = tallyOf task t begins (length d) in
+        let e = tally-opens task t begins (length d) o in
+        let many : v .blocks ≡ t .blocks + 1 = sym (ap (λ (u : Tally). u .blocks) e) in
+        let size : v .size ≡ task .cost + (task .cost + length d) = sym (ap (λ (u : Tally). u .size) e) in
+        let bytes : v .bytes ≡ t .bytes + (task .cost + (task .cost + length d)) = sym (ap (λ (u : Tally). u .bytes) e) in
+        let k = filled-opens f task (y .ready .is .costs) all closed t begins d more now w o in
+        let before = within w in
+        let after = within k in
+        let front : 4 * length bs + 8 ≤ base = omega (arith, before .many, w .blocks) in
         record {
-          low = omega (arith, l .going .whole, ready .most);
-          opens = λ o.
-              let e = block-end o in
-              let k = size-open ready (l .going) t o in (
-                record {
-                  costs = ready .is .costs ∙ sym (ap cost (ready .is .format));
-                  inside = omega (arith, e .1, header-fits ready, ready .roomy, laying-length l);
-                  behind = omega (arith, e .0);
-                  small = omega (arith, e .0, closed-small o, ready .most, l .going .low);
-                  low = omega (arith, e .1, few-blocks ready);
-                  roomy = omega (arith, k, ready .roomy, laying-length l);
-                },
-                omega (arith, k, ready .roomy, laying-length l),
-              );
-          behind = λ o. omega (arith, size-behind ready (l .going) t o, ready .roomy, laying-length l);
+          earlier = bs;
+          last = d ∷ [];
+          filled = k;
+          piece = omega arith;
+          grows = omega arith;
+          put =
+              put-is t v r (laid f base old bs)
+              ∙ ap (λ (x : List ℕ). over (base + v .bytes - (task .cost + lengthOf task (length r))) (pieceOf f d) (over (base + v .bytes - v .size) (sizeWord f (v .size)) x))
+              (sym (offset-opens base t v (laid f base old bs) (omega arith)))
+              ∙ laid-opens f base old bs (omega arith) (omega (arith, before .long, w .bytes, y .ready .roomy)) d front (omega (arith, after .long, k .bytes, y .ready .roomy))
+              (4 * v .blocks) (base + t .bytes) (base + v .bytes - v .size) (v .size) (base + v .bytes - (task .cost + lengthOf task (length r)))
+              (omega (arith, w .blocks)) (omega (arith, w .bytes)) (omega arith) (omega (arith, y .ready .is .costs)) (omega (arith, y .ready .is .costs));
         }
 
-    -- what was put, in the rules' words
-    put-open : opensOf task (place .size) begins (lengthOf task (length r)) ≡ true
-        → nextBytes task (p .fields) r begins place out ≡ sizeWord (p .format) closed ++ pieceOf (p .format) (outRecord p r)
-    unfolding nextBytes
-    put-open o =
-        rw o
-        (ap₂ (λ (f : Format) (k : ℕ). sizeWord f k ++ pieceOf f (outOf task (p .fields) r)) (ready .is .format)
-        (let z : wordAt out (place .word + 4) - place .at ≡ closed = omega (arith, block-end o .0) in z)
-        ∙ ap (λ (d : List ℕ). sizeWord (p .format) closed ++ pieceOf (p .format) d) (sym (out-is r)))
+    added-behind : (now : List (List ℕ)) → Filled (p .format) task all closed now t ((begins, outRecord p r) ∷ more) → opensOf task t begins (length (outRecord p r)) ≡ false
+        → Added closed now t r more (tallyOf task t begins (length (outRecord p r)))
+    added-behind [] w o = absurd (omega (arith, behind-some (p .format) task (y .ready .is .costs) all closed t begins (outRecord p r) more [] w o, w .blocks))
+    added-behind (x ∷ xs) w o =
+        let d = outRecord p r in
+        let f = p .format in
+        let base = 4 * blocks + 8 in
+        let now = x ∷ xs in
+        let v = tallyOf task t begins (length d) in
+        let e = tally-behind task t begins (length d) o in
+        let many : v .blocks ≡ t .blocks = sym (ap (λ (u : Tally). u .blocks) e) in
+        let size : v .size ≡ t .size + (task .cost + length d) = sym (ap (λ (u : Tally). u .size) e) in
+        let bytes : v .bytes ≡ t .bytes + (task .cost + length d) = sym (ap (λ (u : Tally). u .bytes) e) in
+        let k = filled-behind f task (y .ready .is .costs) all closed t begins d more now w o in
+        let before = within w in
+        let after = within k in
+        let sum = length-snoc f closed now in
+        let least-size = total-least 0 (cost f) (cost f) now in
+        record {
+          earlier = closed;
+          last = now ++ (d ∷ []);
+          filled = k;
+          piece = omega (arith, w .size, least-size, y .ready .is .costs);
+          grows = omega arith;
+          put =
+              put-is t v r (laid f base old (soFar closed now))
+              ∙ ap (λ (z : List ℕ). over (base + v .bytes - (task .cost + lengthOf task (length r))) (pieceOf f d) (over (base + v .bytes - v .size) (sizeWord f (v .size)) z))
+              (sym (offset-stays base t v (laid f base old (soFar closed now)) (omega arith)))
+              ∙ laid-behind f base old closed now (omega (arith, before .many, w .blocks)) d (omega (arith, after .long, k .bytes, y .ready .roomy))
+              (base + v .bytes - v .size) (v .size) (base + v .bytes - (task .cost + lengthOf task (length r)))
+              (omega (arith, w .size, w .bytes, sum)) (omega (arith, w .size, y .ready .is .costs)) (omega (arith, w .bytes));
+        }
 
-    put-behind : opensOf task (place .size) begins (lengthOf task (length r)) ≡ false → nextBytes task (p .fields) r begins place out ≡ pieceOf (p .format) (outRecord p r)
-    unfolding nextBytes
-    put-behind o = rw o (ap₂ (λ (f : Format) (d : List ℕ). pieceOf f d) (ready .is .format) (sym (out-is r)))
+  module _ {out : List ℕ} {w : Walk} {t : Tally} (l : Laying out w t) where
+    pub laying-within : Within t
+    laying-within = within (l .filled)
 
-    laying-place : (new : List ℕ) → NextPut task xs r begins place out new → Laying new next (nextPlace task place begins (lengthOf task (length r)))
-    unfolding NextPut
-    laying-place new q = go (opensOf task (place .size) begins (lengthOf task (length r))) refl
-      where
-        go : (b : Bool) → opensOf task (place .size) begins (lengthOf task (length r)) ≡ b → Laying new next (nextPlace task place begins (lengthOf task (length r)))
-        go true b =
-            let piece = pieceOf (p .format) (outRecord p r) in
-            let later = bytesLeft (p .format) (opensOf task) size (outs p (t .more)) in
-            let offsets = offsetsLeft (p .format) (opensOf task) size (place .at + size) (outs p (t .more)) in
-            subst (Laying new next) (next-opens task place begins (lengthOf task (length r)) b)
-            (record {
-              rest = t .more;
-              going = going-next ready (l .going) t _ (next-opens task place begins (lengthOf task (length r)) b);
-              sent =
-                  sent-more (l .sent) (sizeWord (p .format) closed ++ piece) later (left-open ready (l .going) t b) (place .at + size)
-                  (omega (arith, length-append (sizeWord (p .format) closed) piece, length-sizeWord (p .format) closed, length-piece (p .format) (outRecord p r), ready .is .costs, t .long))
-                  new (q (p .fields) fair-is ∙ ap (λ (x : List ℕ). over (place .at) x out) (put-open b));
-              words = l .words ++ word (place .at);
-              before = l .before ∙ ap (l .words ++_) (words-open ready (l .going) t b) ∙ sym (append-assoc (l .words) (word (place .at)) offsets);
-              here = omega (arith, l .here, length-append (l .words) (word (place .at)), length-word (place .at));
-            })
-        go false b =
-            let piece = pieceOf (p .format) (outRecord p r) in
-            let later = bytesLeft (p .format) (opensOf task) (place .size + (task .cost + lengthOf task (length r))) (outs p (t .more)) in
-            subst (Laying new next) (next-behind task place begins (lengthOf task (length r)) b)
-            (record {
-              rest = t .more;
-              going = going-next ready (l .going) t _ (next-behind task place begins (lengthOf task (length r)) b);
-              sent =
-                  sent-more (l .sent) piece later (left-behind ready (l .going) t b) (place .at + (task .cost + lengthOf task (length r)))
-                  (omega (arith, length-piece (p .format) (outRecord p r), ready .is .costs, t .long))
-                  new (q (p .fields) fair-is ∙ ap (λ (x : List ℕ). over (place .at) x out) (put-behind b));
-              words = l .words;
-              before = l .before ∙ ap (l .words ++_) (words-behind ready (l .going) t b);
-              here = l .here;
-            })
+    pub laying-length : length out ≡ length old
+    laying-length =
+        let k = laying-within in
+        ap length (l .is) ∙ laid-length (p .format) (4 * blocks + 8) old (soFar (l .closed) (l .now)) (omega (arith, k .many, l .filled .blocks)) (omega (arith, k .long, l .filled .bytes, y .ready .roomy))
 
-    pub laying-next : (new : List ℕ) → NextPut task xs r begins place out new → (n : ℕ) → n ≡ lengthOf task (length r) → (place′ : Place) → place′ ≡ nextPlace task place begins n → Laying new next place′
-    laying-next new q n e place′ k = subst (Laying new next) (sym (k ∙ ap (nextPlace task place begins) e)) (laying-place new q)
+    pub laying-small : (n : ℕ) → n ≤ 0x1000000 → Small task t n
+    laying-small n m =
+        let k = laying-within in
+        record {
+          cost = cost-small (y .ready);
+          blocks = omega (arith, k .many, few-blocks (y .ready));
+          size = omega (arith, k .last, k .long, y .ready .most);
+          bytes = omega (arith, k .long, y .ready .most);
+          long = m;
+        }
+
+    -- at the end
+    pub laying-end : l .rest ≡ [] → (new : List ℕ) → new ≡ over (4 * blocks + 4) (word (4 * blocks + 8 + t .bytes)) out
+        → new ≡ over 4 (ends (4 * blocks + 8) (blocksIn (y .ready .p) (y .ready .recs)) ++ joined (blocksIn (y .ready .p) (y .ready .recs))) old
+    unfolding blocksIn
+    laying-end none new e =
+        let f = p .format in
+        let base = 4 * blocks + 8 in
+        let bs = soFar (l .closed) (l .now) in
+        let k = laying-within in
+        let same : bs ≡ all
+        = all-done f task (l .closed) (l .now) ∙ ap (λ (m : List (Bool × List ℕ)). allOf f task (l .closed) (l .now) (outs p m)) (sym none) ∙ l .filled .left in
+        let many : length bs ≡ blocks = ap length same ∙ sym (y .ready .count) in
+        e
+        ∙ ap₂ (λ (n : ℕ) (x : List ℕ). over (4 * blocks + 4) (word (base + n)) x) (l .filled .bytes) (l .is)
+        ∙ laid-ends f base old bs (omega arith) (omega (arith, k .long, l .filled .bytes, y .ready .roomy)) (omega arith) (4 * blocks + 4) (omega arith)
+        ∙ ap (λ (x : List (List (List ℕ))). over 4 (ends base (map (blockOf f) x) ++ bytesIn f x) old) same
+
+    module _ {r : List ℕ} {begins : Bool} {next : Walk} (u : Turn (y .ready) (l .rest) r begins next) (v : Tally) (is : v ≡ tallyOf task t begins (lengthOf task (length r))) where
+      pub added : Added (l .closed) (l .now) t r (outs (y .ready .p) (u .more)) v
+      added =
+          let d = outRecord p r in
+          let k = subst (Filled (p .format) task all (l .closed) (l .now) t) (u .left) (l .filled) in
+          subst (Added (l .closed) (l .now) t r (outs p (u .more))) (ap (tallyOf task t begins) (u .long) ∙ sym is) (go k (opensOf task t begins (length d)) refl)
+        where
+          go : Filled (p .format) task all (l .closed) (l .now) t ((begins, outRecord p r) ∷ outs p (u .more)) → (b : Bool) → opensOf task t begins (length (outRecord p r)) ≡ b
+              → Added (l .closed) (l .now) t r (outs p (u .more)) (tallyOf task t begins (length (outRecord p r)))
+          go k true b = added-opens (l .closed) t begins r (outs p (u .more)) (u .long) (l .now) k b
+          go k false b = added-behind (l .closed) t begins r (outs p (u .more)) (u .long) (l .now) k b
+
+      pub laying-fits : NextFits task (length r) (4 * blocks + 8) t v (length out)
+      laying-fits =
+          let k = within (added .filled) in
+          record {
+            offset =
+                record {
+                  inside = λ o. omega (arith, k .many, header-fits (y .ready), y .ready .roomy, laying-length);
+                  low = omega (arith, added .grows, k .long, y .ready .most);
+                  few = omega (arith, k .many, few-blocks (y .ready));
+                };
+            inside = omega (arith, k .long, y .ready .roomy, laying-length);
+            most = omega (arith, k .long, y .ready .most);
+            header = omega arith;
+            whole = k .last;
+            piece = added .piece;
+          }
+
+      pub laying-writable : length r ≤ 65536 → Writable task xs r
+      laying-writable m =
+          let k = within (added .filled) in
+          record {
+            fielded = record { fields = p .fields; fair = fair-is };
+            least = λ z. omega (arith, u .least, least-selects p (sym (ap selects (y .ready .is .mode)) ∙ z), y .ready .is .n);
+            costs = costs;
+            width = width-small (y .ready);
+            long = m;
+            word = omega (arith, added .piece, k .last, k .long, y .ready .most);
+          }
+
+      pub laying-next : (new : List ℕ) → NextPut task xs r (4 * blocks + 8) t v out new → Laying new next v
+      unfolding NextPut
+      laying-next new q =
+          record {
+            rest = u .more;
+            walks = u .walks;
+            closed = added .earlier;
+            now = added .last;
+            filled = added .filled;
+            is = q (p .fields) fair-is ∙ ap (nextPut task (p .fields) r (4 * blocks + 8) t v) (l .is) ∙ added .put;
+          }

@@ -1,8 +1,10 @@
+pub mod PlacingLaws
+pub mod CopyingLaws
 pub mod Gathering
-pub mod Sending
-pub mod StepLaws
-pub mod Readying
-pub mod OffsetLaws
+pub mod FilledLaws
+pub mod LaidLaws
 pub mod RecordLaws
+pub mod Readying
+pub mod TurnLaws
 pub mod LayingLaws
 pub mod WriteLaws

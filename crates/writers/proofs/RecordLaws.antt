@@ -2,15 +2,16 @@
 use mathlib.Core.Path.{_≡_, refl, ap, ap₂, sym, _∙_, subst}
 use mathlib.Core.Bool.{Bool, true, false, cond}
 use mathlib.Core.List.{List, [], _++_}
-use Prim.Native.Nat.{ℕ, _+_, _-_, _≤_}
+use Prim.Native.Nat.{ℕ, _+_, _-_, _*_, _≤_, _<_}
 use native.Mathlib.Omega.{arith}
 use lib.ListN.{length, take, drop, replicate, length-append, length-drop, length-replicate}
+use borrow.Author.Tests.{lt-ltb, le-ltb}
 use borrow.Rule.Slice.PartMut.{putMid}
 use Rattle.rules.specs.Halves.{Field, over, bytes, outHalves, halves, value}
 use Rattle.rules.specs.Plan.{selects}
 use Rattle.rules.specs.Output.{cost}
 use Rattle.rules.specs.Lent.{zoneF}
-use Rattle.rules.specs.ReelPlaces.{wordAt}
+use Rattle.rules.specs.Reel.{word}
 use Rattle.rules.proofs.SizeLaws.{length-over}
 use Rattle.rules.proofs.PlaceLaws.{over-behind}
 use Rattle.rules.proofs.LentParts.{rest-over}
@@ -22,12 +23,12 @@ use Rattle.terms.specs.declared.Format.the-variants.{FV}
 use Rattle.terms.specs.declared.Task.{Task}
 use Rattle.rows.specs.Flat.{FlatFair}
 use Rattle.records.specs.Promise.{outBytes, Puts}
-use Rattle.writers.specs.declared.Place.{Place}
+use Rattle.fillings.specs.declared.Tally.{Tally}
 use Rattle.tasks.specs.Promise.{tailOf, lengthOf}
 use Rattle.tasks.proofs.LengthLaws.{length-selected, length-carried}
-use Rattle.writers.specs.Writing.{opensOf, sizeWord, pieceOf}
-use Rattle.writers.specs.Promise.{outOf, Writable, DataPut, PiecePut, nextBytes, NextPut}
-use Rattle.writers.proofs.Gathering.{length-sizeWord, length-piece}
+use Rattle.writers.specs.Writing.{sizeWord, pieceOf, offsetPut}
+use Rattle.writers.specs.Promise.{outOf, Writable, DataPut, PiecePut, nextPut, NextPut}
+use Rattle.writers.proofs.Gathering.{length-sizeWord}
 
 -- ---- the word
 
@@ -36,9 +37,6 @@ size-as e at size out new q = q ∙ sym (ap (λ (f : Format). over at (sizeWord 
 
 pub size-room : {format : Format} → format ≡ FV → (at n : ℕ) → at + cost (formatOf format) ≤ n → at + 4 ≤ n
 size-room e at n l = subst (λ (f : Format). at + cost (formatOf f) ≤ n) e l
-
-pub size-upto : (f : Format) (at e v : ℕ) (out new : List ℕ) → new ≡ over at (sizeWord (formatOf f) (e - at)) out → e ≡ v → new ≡ over at (sizeWord (formatOf f) (v - at)) out
-size-upto f at e v out new q s = q ∙ ap (λ (z : ℕ). over at (sizeWord (formatOf f) (z - at)) out) s
 
 -- ---- the output
 
@@ -104,24 +102,25 @@ module _ (task : Task) (xs r : List ℕ) where
         ∙ over-behind at from (sizeWord f (n + 4)) x old (omega (arith, w .costs)) (omega (arith, w .costs))
         ∙ ap (λ (i : ℕ). over at (sizeWord f (i + 4) ++ x) old) (e ∙ sym k)
 
-  module _ (w : Writable task xs r) (begins : Bool) (x : Place) (old : List ℕ) where
-    pub placed-open : opensOf task (x .size) begins (lengthOf task (length r)) ≡ true → x .at + (task .cost + (task .cost + lengthOf task (length r))) ≤ length old
-        → (out new : List ℕ) → out ≡ over (x .at) (sizeWord (formatOf (task .format)) (wordAt old (x .word + 4) - x .at)) old
-        → PiecePut task xs r (x .at + task .cost) out new → NextPut task xs r begins x old new
-    unfolding PiecePut NextPut nextBytes
-    placed-open o fits out new q d fs fair =
-        let f = formatOf (task .format) in
-        let head = sizeWord f (wordAt old (x .word + 4) - x .at) in
-        let piece = pieceOf f (outOf task fs r) in
-        let z : length head ≡ cost f = length-sizeWord f (wordAt old (x .word + 4) - x .at) in
-        let k : length piece ≡ cost f + length (outOf task fs r) = length-piece f (outOf task fs r) in
-        let l : length (outOf task fs r) ≡ lengthOf task (length r) = out-size w fs fair in
-        rw o
-        (d fs fair ∙ ap (over (x .at + task .cost) piece) q ∙ over-behind (x .at) (x .at + task .cost) head piece old (omega (arith, w .costs)) (omega (arith, w .costs)))
+  -- the offset, the word of the block, and the record
+  pub next-put : (base : ℕ) (tally more : Tally) (old first second new : List ℕ) (n : ℕ) → n ≡ lengthOf task (length r) → first ≡ offsetPut base tally more old
+      → second ≡ over (base + more .bytes - more .size) (sizeWord (formatOf (task .format)) (more .size)) first
+      → PiecePut task xs r (base + more .bytes - (task .cost + n)) second new → NextPut task xs r base tally more old new
+  unfolding PiecePut NextPut nextPut
+  next-put base tally more old first second new n e a b d fs fair =
+      let f = formatOf (task .format) in
+      d fs fair
+      ∙ ap (λ (k : ℕ). over (base + more .bytes - (task .cost + k)) (pieceOf f (outOf task fs r)) second) e
+      ∙ ap (over (base + more .bytes - (task .cost + lengthOf task (length r))) (pieceOf f (outOf task fs r)))
+      (b ∙ ap (over (base + more .bytes - more .size) (sizeWord f (more .size))) a)
 
-    pub placed-behind : opensOf task (x .size) begins (lengthOf task (length r)) ≡ false → (new : List ℕ) → PiecePut task xs r (x .at) old new → NextPut task xs r begins x old new
-    unfolding PiecePut NextPut nextBytes
-    placed-behind o new d fs fair = rw o (d fs fair)
+-- ---- the offset
 
-  pub opens-as : (size : ℕ) (begins t b : Bool) (n : ℕ) → t ≡ opensOf task size begins n → n ≡ lengthOf task (length r) → t ≡ b → opensOf task size begins (lengthOf task (length r)) ≡ b
-  opens-as size begins t b n e k q = ap (opensOf task size begins) (sym k) ∙ sym e ∙ q
+module _ (base : ℕ) (tally more : Tally) (out : List ℕ) where
+  pub offset-opens : tally .blocks < more .blocks → over (4 * more .blocks) (word (base + tally .bytes)) out ≡ offsetPut base tally more out
+  unfolding offsetPut
+  offset-opens l = rw (lt-ltb (tally .blocks) (more .blocks) l)
+
+  pub offset-stays : more .blocks ≤ tally .blocks → out ≡ offsetPut base tally more out
+  unfolding offsetPut
+  offset-stays l = rw (le-ltb (tally .blocks) (more .blocks) l)

@@ -1,10 +1,10 @@
--- The block count, the offsets behind it and the blocks behind them are the reel. By the laws of what is put over an output.
+-- The block count, and behind it the offsets and the blocks, are the reel. By the laws of what is put over an output.
 use mathlib.Core.Path.{_≡_, refl, ap, sym, _∙_, subst}
 use mathlib.Core.Bool.{false}
-use mathlib.Core.List.{List, _++_, map}
+use mathlib.Core.List.{List, _++_, map, append-assoc}
 use Prim.Native.Nat.{ℕ, _+_, _*_, _≤_}
 use native.Mathlib.Omega.{arith}
-use lib.ListN.{length, drop}
+use lib.ListN.{length, drop, length-append}
 use Rattle.rules.specs.Base.{joined}
 use Rattle.rules.specs.Halves.{over}
 use Rattle.rules.specs.Reel.{word, ends, reelOf}
@@ -12,92 +12,63 @@ use Rattle.rules.specs.Plan.{Plan, isTC}
 use Rattle.rules.specs.Output.{blockOf}
 use Rattle.rules.specs.Run.{ranOf, outputBlocks}
 use Rattle.rules.specs.Lent.{zoneF}
-use Rattle.rules.specs.ReelPlaces.{headerOf}
 use Rattle.rules.proofs.LentParts.{front-over}
 use Rattle.rules.proofs.SizeLaws.{length-over}
 use Rattle.rules.proofs.PlaceLaws.{over-behind}
 use Rattle.rules.proofs.WordLaws.{length-word}
-use Rattle.rules.proofs.ReelLaws.{length-reel}
-use Rattle.rules.proofs.ReelWriting.{header-length, reel-parts}
+use Rattle.rules.proofs.ReelLaws.{length-ends, length-reel}
 use Rattle.terms.specs.Meaning.{TaskIs}
 use Rattle.terms.specs.declared.Task.{Task}
-use Rattle.reels.specs.Words.{written}
-use Rattle.reels.proofs.WordsLaws.{word-put}
 use Rattle.rows.specs.Flat.{flatOf}
 use Rattle.walks.specs.Promise.{Good}
-use Rattle.writers.specs.Promise.{blocksIn, Ready, OffsetsPut, Lent, Headed, BlocksPut, ReelPut}
+use Rattle.writers.specs.Promise.{blocksIn, Lent, BodyPut, ReelPut}
 use Rattle.writers.proofs.Readying.{count-is}
-use Rattle.writers.proofs.OffsetLaws.{ends-size, header-fits}
+use Rattle.writers.proofs.TurnLaws.{header-fits}
 
 -- the same in an output of the same length
-abbrev ready-as : {task : Task} {s : List ℕ} {blocks room next : ℕ} → room ≡ next → Ready task s blocks room → Ready task s blocks next
-ready-as e x =
+abbrev lent-as : {task : Task} {xs s : List ℕ} {blocks room next : ℕ} → room ≡ next → Lent task xs s blocks room → Lent task xs s blocks next
+lent-as e y =
     record {
-      p = x .p;
-      recs = x .recs;
-      is = x .is;
-      good = x .good;
-      zone = x .zone;
-      other = x .other;
-      count = x .count;
-      roomy = subst (λ (n : ℕ). length (reelOf (blocksIn (x .p) (x .recs))) ≤ n) e (x .roomy);
-      most = x .most;
+      ready =
+          record {
+            p = y .ready .p;
+            recs = y .ready .recs;
+            is = y .ready .is;
+            good = y .ready .good;
+            zone = y .ready .zone;
+            other = y .ready .other;
+            count = y .ready .count;
+            roomy = subst (λ (n : ℕ). length (reelOf (blocksIn (y .ready .p) (y .ready .recs))) ≤ n) e (y .ready .roomy);
+            most = y .ready .most;
+          };
+      flat = y .flat;
     }
 
-module _ {task : Task} {xs s : List ℕ} {blocks : ℕ} (old : List ℕ) (y : Lent task xs s blocks (length old)) (first : List ℕ) (count : first ≡ written 0 (word blocks) old) where
-  counted : first ≡ over 0 (word blocks) old
-  counted = count ∙ word-put 0 blocks old (omega (arith, header-fits (y .ready), y .ready .roomy))
+module _ {task : Task} {xs s : List ℕ} {blocks : ℕ} (old : List ℕ) (y : Lent task xs s blocks (length old)) where
+  -- for the count
+  pub count-room : 4 ≤ length old
+  count-room = omega (arith, header-fits (y .ready), y .ready .roomy)
 
-  first-length : length old ≡ length first
-  first-length = sym (ap length counted ∙ length-over 0 (word blocks) old (omega (arith, length-word blocks, header-fits (y .ready), y .ready .roomy)))
+  module _ (first : List ℕ) (count : first ≡ over 0 (word blocks) old) where
+    first-length : length old ≡ length first
+    first-length = sym (ap length count ∙ length-over 0 (word blocks) old (omega (arith, length-word blocks, count-room)))
 
-  -- for the offsets
-  pub first-ready : Ready task s blocks (length first)
-  first-ready = ready-as first-length (y .ready)
+    -- for the offsets and the blocks
+    pub first-lent : Lent task xs s blocks (length first)
+    first-lent = lent-as first-length y
 
-  module _ (second : List ℕ) (offsets : OffsetsPut task s blocks first second) where
-    header-put : second ≡ over 0 (headerOf (blocksIn (y .ready .p) (y .ready .recs))) old
-    unfolding OffsetsPut headerOf
-    header-put =
+    pub reel-put : (second : List ℕ) → BodyPut task xs s blocks first second → second ≡ over 0 (reelOf (blocksIn (y .ready .p) (y .ready .recs))) old
+    unfolding BodyPut reelOf
+    reel-put second q =
         let bs = blocksIn (y .ready .p) (y .ready .recs) in
-        offsets (ready-as first-length (y .ready))
-        ∙ ap (over 4 (ends (4 * blocks + 8) bs)) counted
-        ∙ over-behind 0 4 (word blocks) (ends (4 * blocks + 8) bs) old (omega (arith, length-word blocks)) (omega (arith, ends-size (y .ready), header-fits (y .ready), y .ready .roomy))
-        ∙ sym (ap (λ (k : ℕ). over 0 (word k ++ ends (4 * k + 8) bs) old) (count-is (y .ready)))
-
-    header-size : length (headerOf (blocksIn (y .ready .p) (y .ready .recs))) ≡ 4 * blocks + 8
-    header-size = omega (arith, header-length (blocksIn (y .ready .p) (y .ready .recs)), count-is (y .ready))
-
-    second-length : length old ≡ length second
-    second-length =
-        sym
-        (ap length header-put
-        ∙ length-over 0 (headerOf (blocksIn (y .ready .p) (y .ready .recs))) old (omega (arith, header-size, header-fits (y .ready), y .ready .roomy)))
-
-    header-front : second ≡ headerOf (blocksIn (y .ready .p) (y .ready .recs)) ++ drop (0 + length (headerOf (blocksIn (y .ready .p) (y .ready .recs)))) old
-    unfolding over
-    header-front = header-put
-
-    -- for the blocks
-    abbrev headed : Headed task xs s blocks second
-    headed =
-        record {
-          lent = record { ready = ready-as second-length (y .ready); flat = y .flat };
-          rest = drop (0 + length (headerOf (blocksIn (y .ready .p) (y .ready .recs)))) old;
-          front = header-front;
-        }
-
-    pub second-headed : Headed task xs s blocks second
-    second-headed = headed
-
-    pub reel-put : (third : List ℕ) → BlocksPut task xs s blocks second third → third ≡ over 0 (reelOf (blocksIn (y .ready .p) (y .ready .recs))) old
-    unfolding BlocksPut
-    reel-put third q =
-        let bs = blocksIn (y .ready .p) (y .ready .recs) in
-        q headed
-        ∙ ap (over (4 * blocks + 8) (joined bs)) header-put
-        ∙ over-behind 0 (4 * blocks + 8) (headerOf bs) (joined bs) old (omega (arith, header-size)) (omega (arith, length-reel bs, count-is (y .ready), y .ready .roomy))
-        ∙ ap (λ (x : List ℕ). over 0 x old) (sym (reel-parts bs))
+        let body = ends (4 * blocks + 8) bs ++ joined bs in
+        q (lent-as first-length y)
+        ∙ ap (over 4 body) count
+        ∙ over-behind 0 4 (word blocks) body old (omega (arith, length-word blocks))
+        (omega (arith, length-append (ends (4 * blocks + 8) bs) (joined bs), length-ends (4 * blocks + 8) bs, length-reel bs, count-is (y .ready), y .ready .roomy))
+        ∙ ap (λ (x : List ℕ). over 0 x old)
+        (sym (append-assoc (word blocks) (ends (4 * blocks + 8) bs) (joined bs))
+        ∙ ap (λ (k : ℕ). word k ++ ends (4 * k + 8) bs ++ joined bs) (sym (count-is (y .ready))))
 
 -- ---- for callers
 

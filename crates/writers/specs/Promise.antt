@@ -1,7 +1,7 @@
 -- What the writers promise: for every plan and every reel of records that the lent numbers may be, the reel of the output blocks stands at the front of the
 -- lent output, and bytes past it stay.
 use mathlib.Core.Path.{_≡_}
-use mathlib.Core.Bool.{Bool, true, false, cond}
+use mathlib.Core.Bool.{true, false, cond}
 use mathlib.Core.List.{List, _++_, map}
 use Prim.Native.Nat.{ℕ, _+_, _-_, _*_, _≤_, _<_}
 use lib.ListN.{length}
@@ -12,15 +12,14 @@ use Rattle.rules.specs.Plan.{Plan, selects, isTC}
 use Rattle.rules.specs.Output.{blockOf, cost}
 use Rattle.rules.specs.Lent.{zoneF}
 use Rattle.rules.specs.Run.{outputBlocks}
-use Rattle.rules.specs.ReelPlaces.{wordAt, headerOf}
 use Rattle.terms.specs.Meaning.{modeOf, formatOf, TaskIs}
 use Rattle.terms.specs.declared.Task.{Task}
 use Rattle.rows.specs.Flat.{flatOf, FlatFair, Fielded}
 use Rattle.records.specs.Promise.{outBytes}
 use Rattle.walks.specs.Promise.{Good}
-use Rattle.writers.specs.declared.Place.{Place}
+use Rattle.fillings.specs.declared.Tally.{Tally}
 use Rattle.tasks.specs.Promise.{lengthOf}
-use Rattle.writers.specs.Writing.{opensOf, sizeWord, pieceOf}
+use Rattle.writers.specs.Writing.{sizeWord, pieceOf, offsetPut}
 
 -- the output blocks of a plan, as bytes
 unfoldable pub blocksIn : Plan → List (List (List ℕ)) → List (List ℕ)
@@ -37,10 +36,6 @@ pub record Ready (task : Task) (s : List ℕ) (blocks room : ℕ) : Type 0 where
   pub count : blocks ≡ length (outputBlocks p recs)
   pub roomy : length (reelOf (blocksIn p recs)) ≤ room
   pub most : length (reelOf (blocksIn p recs)) ≤ 65536
-
--- the offsets stand from place 4 on
-unfoldable pub OffsetsPut : Task → List ℕ → ℕ → List ℕ → List ℕ → Type 0
-OffsetsPut task s blocks old new = (x : Ready task s blocks (length old)) → new ≡ over 4 (ends (4 * blocks + 8) (blocksIn (x .p) (x .recs))) old
 
 -- ---- a record
 
@@ -64,30 +59,31 @@ unfoldable pub PiecePut : Task → List ℕ → List ℕ → ℕ → List ℕ �
 PiecePut task xs r at old new =
     (fs : List Field) → FlatFair xs fs (task .n) (task .width) → new ≡ over at (pieceOf (formatOf (task .format)) (outOf task fs r)) old
 
--- the header says where the block that opens here ends, and there is room for its word
-pub record Opening (task : Task) (x : Place) (out : List ℕ) : Type 0 where
-  pub costs : task .cost ≡ cost (formatOf (task .format))
-  pub inside : x .word + 8 ≤ length out
-  pub behind : x .at ≤ wordAt out (x .word + 4)
-  pub small : wordAt out (x .word + 4) < 65536 + x .at
-  pub low : x .word ≤ 0x100000
-  pub roomy : x .at + task .cost ≤ length out
+-- there is room for the offset of the block that a record opens
+pub record OffsetFits (base : ℕ) (tally more : Tally) (room : ℕ) : Type 0 where
+  pub inside : tally .blocks < more .blocks → 4 * more .blocks + 4 ≤ room
+  pub low : base + tally .bytes ≤ 65536
+  pub few : more .blocks ≤ 65536
 
--- there is room for a record of k bytes in its place
-pub record NextFits (task : Task) (k : ℕ) (begins : Bool) (x : Place) (out : List ℕ) : Type 0 where
-  pub low : x .at ≤ 65536
-  pub opens : opensOf task (x .size) begins (lengthOf task k) ≡ true → Opening task x out × (x .at + (task .cost + (task .cost + lengthOf task k)) ≤ length out)
-  pub behind : opensOf task (x .size) begins (lengthOf task k) ≡ false → x .at + (task .cost + lengthOf task k) ≤ length out
+-- there is room for a record of k bytes at the end of its block, which ends where the blocks so far do
+pub record NextFits (task : Task) (k base : ℕ) (tally more : Tally) (room : ℕ) : Type 0 where
+  pub offset : OffsetFits base tally more room
+  pub inside : base + more .bytes ≤ room
+  pub most : base + more .bytes ≤ 65536
+  pub header : 8 ≤ base
+  pub whole : more .size ≤ more .bytes
+  pub piece : task .cost + (task .cost + lengthOf task k) ≤ more .size
 
--- the word of the block that it opens, and the record
-unfoldable pub nextBytes : Task → List Field → List ℕ → Bool → Place → List ℕ → List ℕ
-nextBytes task fs r begins x out =
-    cond (opensOf task (x .size) begins (lengthOf task (length r)))
-    (sizeWord (formatOf (task .format)) (wordAt out (x .word + 4) - x .at) ++ pieceOf (formatOf (task .format)) (outOf task fs r))
-    (pieceOf (formatOf (task .format)) (outOf task fs r))
+-- the offset, the word of the block, which says its size so far, and the record
+unfoldable pub nextPut : Task → List Field → List ℕ → ℕ → Tally → Tally → List ℕ → List ℕ
+nextPut task fs r base tally more out =
+    let f = formatOf (task .format) in
+    let end = base + more .bytes in
+    over (end - (task .cost + lengthOf task (length r))) (pieceOf f (outOf task fs r))
+    (over (end - more .size) (sizeWord f (more .size)) (offsetPut base tally more out))
 
-unfoldable pub NextPut : Task → List ℕ → List ℕ → Bool → Place → List ℕ → List ℕ → Type 0
-NextPut task xs r begins x old new = (fs : List Field) → FlatFair xs fs (task .n) (task .width) → new ≡ over (x .at) (nextBytes task fs r begins x old) old
+unfoldable pub NextPut : Task → List ℕ → List ℕ → ℕ → Tally → Tally → List ℕ → List ℕ → Type 0
+NextPut task xs r base tally more old new = (fs : List Field) → FlatFair xs fs (task .n) (task .width) → new ≡ nextPut task fs r base tally more old
 
 -- ---- the reel
 
@@ -96,15 +92,11 @@ pub record Lent (task : Task) (xs s : List ℕ) (blocks room : ℕ) : Type 0 whe
   pub ready : Ready task s blocks room
   pub flat : xs ≡ flatOf (ready .p .fields)
 
--- the header stands at the front
-pub record Headed (task : Task) (xs s : List ℕ) (blocks : ℕ) (out : List ℕ) : Type 0 where
-  pub lent : Lent task xs s blocks (length out)
-  pub rest : List ℕ
-  pub front : out ≡ headerOf (blocksIn (lent .ready .p) (lent .ready .recs)) ++ rest
-
--- the blocks stand behind it
-unfoldable pub BlocksPut : Task → List ℕ → List ℕ → ℕ → List ℕ → List ℕ → Type 0
-BlocksPut task xs s blocks old new = (y : Headed task xs s blocks old) → new ≡ over (4 * blocks + 8) (joined (blocksIn (y .lent .ready .p) (y .lent .ready .recs))) old
+-- behind the block count the offsets stand, and the blocks behind them
+unfoldable pub BodyPut : Task → List ℕ → List ℕ → ℕ → List ℕ → List ℕ → Type 0
+BodyPut task xs s blocks old new =
+    (y : Lent task xs s blocks (length old))
+    → new ≡ over 4 (ends (4 * blocks + 8) (blocksIn (y .ready .p) (y .ready .recs)) ++ joined (blocksIn (y .ready .p) (y .ready .recs))) old
 
 -- the reel stands at the front, and bytes past it stay
 unfoldable pub ReelPut : Task → List ℕ → List ℕ → ℕ → List ℕ → List ℕ → Type 0

@@ -3,7 +3,7 @@ use Prim.Native.Nat.{_-_}
 use native.Mathlib.Omega.{arith}
 use lib.ListN.{length}
 use borrow.Author.Needs.{needs}
-use Rattle.writers.proofs.Sending.{Copying, copy-start, copy-more, copy-end}
+use Rattle.writers.proofs.CopyingLaws.{Copying, copy-start, copy-more, copy-end}
 use Rattle.writers.proofs.copy_reel.Statement.{statement}
 use Rattle.writers.proofs.copy_reel.Tie as tie
 use Rattle.writers.proofs.copy_reel.Reads as reads

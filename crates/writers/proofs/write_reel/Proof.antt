@@ -1,27 +1,17 @@
--- The count, the offsets and the blocks, one behind the other.
+-- The count, and behind it the offsets and the blocks.
 use Rattle.writers.specs.Promise.{ReelPut}
-use Rattle.writers.proofs.WriteLaws.{first-ready, second-headed, reel-put}
+use Rattle.writers.proofs.WriteLaws.{count-room, first-lent, reel-put}
 use borrow.Author.Needs.{needs}
 use Rattle.writers.proofs.write_reel.Statement.{statement}
 use Rattle.writers.proofs.write_reel.Tie as tie
-use Rattle.writers.proofs.write_reel.Reads as reads
-use Rattle.writers.proofs.write_reel.Lts as lts
-use Rattle.reels.proofs.put_word.Reads as put-word-reads
-use Rattle.writers.proofs.put_blocks.Reads as put-blocks-reads
-use Rattle.writers.proofs.put_offsets.Reads as put-offsets-reads
 
 put-word-requires : tie.Need-put-word-requires
-put-word-requires c κs = search needs
+put-word-requires c κs = let s = c .before .before .before .before in count-room (s .args .out .now) (s .pre)
 
-put-offsets-requires : tie.Need-put-offsets-requires
-put-offsets-requires c κs =
+write-walked-requires : tie.Need-write-walked-requires
+write-walked-requires c κs =
     let s = c .before .before .before .before .before .before .before .before in
-    first-ready (s .args .out .now) (s .pre) _ (c .before .before .before .put-word .ensures)
-
-put-blocks-requires : tie.Need-put-blocks-requires
-put-blocks-requires c κs =
-    let s = c .before .before .before .before .before .before .before .before .before .before .before .before in
-    second-headed (s .args .out .now) (s .pre) _ (c .before .before .before .before .before .before .before .put-word .ensures) _ (c .before .before .before .put-offsets .ensures)
+    first-lent (s .args .out .now) (s .pre) _ (c .before .before .before .put-word .ensures)
 
 same-length : tie.Need-same-length
 same-length c = search needs
@@ -29,10 +19,8 @@ same-length c = search needs
 returns : tie.Need-returns
 unfolding ReelPut
 returns c = λ y.
-    let s = c .before .before .before .before .before .before .before .before .before .before .before .before .before .before .before in
-    reel-put (s .args .out .now) y _ (c .before .before .before .before .before .before .before .before .before .before .put-word .ensures) _ (c .before .before .before .before .before .before .put-offsets .ensures) _ (c .before .before .put-blocks .ensures)
+    let s = c .before .before .before .before .before .before .before .before .before .before .before in
+    reel-put (s .args .out .now) y _ (c .before .before .before .before .before .before .put-word .ensures) _ (c .before .before .write-walked .ensures)
 
 pub write-reel-spec : {M : Type 1} → statement M
-write-reel-spec =
-    tie.close
-    (tie.spec put-word-requires put-offsets-requires put-blocks-requires same-length returns)
+write-reel-spec = tie.close (tie.spec put-word-requires write-walked-requires same-length returns)

@@ -1,0 +1,97 @@
+-- One turn of the pass: the record that the walk tells is the first of those that are left, and its output has the length that is computed for it. By the walk's laws;
+-- and numbers that stay far from wrapping, since the reel has at most 65,536 bytes.
+use mathlib.Core.Path.{_≡_, ap, sym, _∙_, subst}
+use mathlib.Core.Bool.{Bool}
+use mathlib.Core.List.{List, _∷_}
+use Prim.Native.Nat.{ℕ, _+_, _-_, _*_, _≤_}
+use native.Mathlib.Omega.{arith}
+use lib.ListN.{length, take, drop}
+use Rattle.rules.specs.Grammar.{Format, Size, two, one}
+use Rattle.rules.specs.Reel.{reelOf}
+use Rattle.rules.specs.Plan.{recordLength}
+use Rattle.rules.specs.Rows.{SizeWithin}
+use Rattle.rules.specs.Blocks.{leastData, takenFrom}
+use Rattle.rules.specs.Output.{outRecord}
+use Rattle.rules.proofs.Bounds.{reel-most}
+use Rattle.rules.proofs.ReelLaws.{length-reel}
+use Rattle.rules.proofs.MeasureLaws.{cost-high}
+use Rattle.terms.specs.declared.Task.{Task}
+use Rattle.reels.specs.declared.Form.{Form}
+use Rattle.walks.specs.declared.Walk.{Walk}
+use Rattle.walks.specs.declared.RecordRead.{RecordRead}
+use Rattle.walks.specs.declared.RecordRead.the-variants.{Record}
+use Rattle.walks.specs.Marks.{markedAll}
+use Rattle.walks.specs.Promise.{Walks, Sound, Standing, Told, Taken}
+use Rattle.walks.proofs.PromiseLaws.{passed, inside, lent, lent-length}
+use Rattle.tasks.specs.Promise.{formOf, lengthOf}
+use Rattle.tasks.proofs.LengthLaws.{form-given, out-length}
+use Rattle.writers.specs.Promise.{blocksIn, Ready}
+use Rattle.writers.proofs.Readying.{outs, marksIn, count-is}
+
+record-most : (f : Format) (z : Size) → SizeWithin f z → recordLength z ≤ 4096
+record-most f (two n m) w = w .0 .1
+record-most f (one g) w = omega arith
+
+-- the record as it is lent, and its length
+pub record-long : {form : Form} {s : List ℕ} {w : Walk} {read : RecordRead} (t : Told form s w read) {start size : ℕ} {begins : Bool} {next : Walk} (e : read ≡ Record start size begins next)
+    → length (take (start + size - start) (drop start s)) ≡ size
+record-long t e = ap length (lent t e) ∙ lent-length t e
+
+module _ {task : Task} {s : List ℕ} {blocks room : ℕ} (x : Ready task s blocks room) where
+  -- the walk stands in the reel
+  pub sound : {form : Form} → form ≡ formOf task → Sound form s
+  sound e = record { p = x .p; recs = x .recs; form-is = form-given (x .is) e; good = x .good }
+
+  pub stands : {form : Form} → form ≡ formOf task → {w : Walk} {rest : List (Bool × List ℕ)} → Walks (x .p) s w rest → Standing form s w
+  stands e {rest = rest} k = record { p = x .p; rest = rest; form-is = form-given (x .is) e; walks = k }
+
+  pub walks-first : {form : Form} → form ≡ formOf task → {w : Walk} → Taken form s (task .first) w → Walks (x .p) s w (marksIn x)
+  walks-first e {w} t =
+      subst (λ (k : ℕ). Walks (x .p) s w (markedAll (takenFrom k (x .recs)))) (x .is .first) (t .all (x .p) (x .recs) (form-given (x .is) e) (x .good))
+
+  -- a record that was read, and the length of its output
+  pub record Turn (rest : List (Bool × List ℕ)) (r : List ℕ) (begins : Bool) (next : Walk) : Type 0 where
+    pub more : List (Bool × List ℕ)
+    pub left : outs (x .p) rest ≡ (begins, outRecord (x .p) r) ∷ outs (x .p) more
+    pub long : length (outRecord (x .p) r) ≡ lengthOf task (length r)
+    pub least : leastData (x .p) ≤ length r
+    pub walks : Walks (x .p) s next more
+
+  module _ {form : Form} (same : form ≡ formOf task) {w : Walk} {rest : List (Bool × List ℕ)} (k : Walks (x .p) s w rest) {read : RecordRead} (t : Told form s w read) {start size : ℕ} {begins : Bool}
+      {next : Walk} (e : read ≡ Record start size begins next) where
+    pub turn : Turn rest (take (start + size - start) (drop start s)) begins next
+    turn =
+        let q = passed t e (form-given (x .is) same) k in
+        let r = take (start + size - start) (drop start s) in
+        let least : leastData (x .p) ≤ length r = omega (arith, q .long, record-long t e) in
+        record {
+          more = q .more;
+          left = ap (outs (x .p)) (q .is ∙ ap (λ (z : List ℕ). (begins, z) ∷ q .more) (sym (lent t e)));
+          long = out-length (x .is) (x .good .accepted) r least;
+          least = least;
+          walks = q .walks;
+        }
+
+  -- ---- numbers that are far from wrapping
+
+  pub header-fits : 4 * blocks + 8 ≤ length (reelOf (blocksIn (x .p) (x .recs)))
+  header-fits = omega (arith, length-reel (blocksIn (x .p) (x .recs)), count-is x)
+
+  pub few-blocks : blocks ≤ 65536
+  few-blocks = omega (arith, header-fits, x .most)
+
+  pub width-small : task .width ≤ 4096
+  width-small = omega (arith, x .is .width, record-most (x .p .format) (x .p .output) (x .good .accepted .output))
+
+  pub cost-small : task .cost ≤ 4
+  cost-small = omega (arith, x .is .costs, cost-high (x .p .format))
+
+  pub input-small : length s ≤ 65536
+  input-small = reel-most s (x .good .reel)
+
+  module _ {form : Form} {w : Walk} {read : RecordRead} (t : Told form s w read) {start size : ℕ} {begins : Bool} {next : Walk} (e : read ≡ Record start size begins next) where
+    pub record-ends : start + size ≤ 65536
+    record-ends = omega (arith, inside t e .ends, input-small)
+
+    pub record-few : length (take (start + size - start) (drop start s)) ≤ 65536
+    record-few = omega (arith, record-ends, record-long t e)
