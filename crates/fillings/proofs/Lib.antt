@@ -1,2 +1,3 @@
 pub mod TestLaws
 pub mod TallyLaws
+pub mod FixedLaws

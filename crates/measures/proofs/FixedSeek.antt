@@ -9,44 +9,24 @@ use lib.ListN.{length, take, drop, length-drop}
 use lib.Seq.{drop-drop, length-take-le}
 use Rattle.rules.specs.Base.{joined}
 use Rattle.rules.specs.Answer.{each}
-use Rattle.rules.specs.Grammar.{ff}
 use Rattle.rules.specs.Plan.{Plan, recordLength}
 use Rattle.rules.specs.Blocks.{leastData, takenFrom}
 use Rattle.rules.specs.Output.{permits}
 use Rattle.rules.specs.Accepted.{Accepted}
-use Rattle.rules.proofs.BlockSizes.{least-selects, size-least}
+use Rattle.rules.proofs.BlockSizes.{least-selects}
 use Rattle.rules.proofs.FitSteps.{each-pass, each-stop}
 use Rattle.rules.proofs.EvenLaws.{Even, Next, even-size, even-next, even-end}
 use Rattle.terms.specs.declared.Task.{Task}
-use Rattle.terms.specs.declared.Format.{Format}
 use Rattle.terms.specs.declared.Format.the-variants.{FF}
-use Rattle.terms.specs.Meaning.{formatOf}
 use Rattle.reels.specs.declared.Form.{Form}
 use Rattle.rows.specs.Flat.{Readable}
 use Rattle.records.specs.Promise.{Permits}
 use Rattle.walks.specs.Walking.{fixedStart}
-use Rattle.walks.proofs.FixedLaws.{fixed-taken}
+use Rattle.fillings.proofs.FixedLaws.{record-some, data-even}
 use Rattle.tasks.specs.Promise.{formOf}
 use Rattle.measures.specs.Promise.{Fair, Selected, answerAt, FirstUnpermitted}
 use Rattle.measures.proofs.FairLaws.{answer-at, asks, first-low, first-high, s-short}
 use Rattle.measures.proofs.SeekLaws.{Lent, lent-of, readable, permits-is}
-
--- ---- the data
-
-module _ {task : Task} {s : List ℕ} {p : Plan} {recs : List (List (List ℕ))} (x : Fair task s p recs) (f : task .format ≡ FF) where
-  pub is-fixed : p .format ≡ ff
-  is-fixed = sym (x .is .format) ∙ ap formatOf f
-
-  pub record-some : 1 ≤ task .n
-  record-some = omega (arith, x .is .n, size-least (p .format) (p .input) (x .good .accepted .input) (x .good .accepted .required .FF-two is-fixed .0))
-
-  -- from the place where R starts
-  pub data-even : {form : Form} {from : ℕ} → form ≡ formOf task → from ≡ fixedStart form s (task .first) → Even (task .n) (drop from s) (joined (takenFrom (p .first) recs))
-  data-even {form} {from} g b =
-      let e = fixed-taken (asks g x .form-is) (x .good) is-fixed (task .first) in
-      subst (λ (k : ℕ). Even k (drop from s) (joined (takenFrom (p .first) recs))) (sym (x .is .n))
-      (subst (λ (a : ℕ). Even (recordLength (p .input)) (drop a s) (joined (takenFrom (p .first) recs))) (sym b)
-      (subst (λ (k : ℕ). Even (recordLength (p .input)) (drop (fixedStart form s (task .first)) s) (joined (takenFrom k recs))) (x .is .first) e))
 
 -- ---- the search
 
@@ -121,14 +101,14 @@ module _ {n first : ℕ} {fields block : List ℕ} {at number : ℕ} (some : 1 �
 module _ (task : Task) (fields s : List ℕ) {form : Form} {from : ℕ} {block : List ℕ} (f : task .format ≡ FF) (g : form ≡ formOf task) (b : from ≡ fixedStart form s (task .first))
     (d : block ≡ drop from s) where
   all-even : {p : Plan} {recs : List (List (List ℕ))} → Fair task s p recs → Even (task .n) block (joined (takenFrom (p .first) recs))
-  all-even {p} {recs} x = subst (λ (z : List ℕ). Even (task .n) z (joined (takenFrom (p .first) recs))) (sym d) (data-even x f g b)
+  all-even {p} {recs} x = subst (λ (z : List ℕ). Even (task .n) z (joined (takenFrom (p .first) recs))) (sym d) (data-even (x .is) (x .good) f g b)
 
   module _ (y : Selected task fields s) where
     fair : Fair task s (y .p) (y .recs)
     fair = y .given .fair
 
     pub seek-some : 1 ≤ task .n
-    seek-some = record-some fair f
+    seek-some = record-some (fair .is) (fair .good) f
 
     pub seek-low : 1 ≤ task .first
     seek-low = first-low (asks g fair)
@@ -150,10 +130,10 @@ module _ (task : Task) (fields s : List ℕ) {form : Form} {from : ℕ} {block :
     unfolding FirstUnpermitted
     seek-stop l t a h = λ p recs y.
         ap (λ (i : ℕ). each 13 (permits p) i (joined (takenFrom (p .first) recs))) (sym (y .fair .is .first))
-        ∙ left-stop (record-some (y .fair) f) k l (lent-of y) (y .fair .good .accepted) (sym (y .fair .is .n)) _ (all-even (y .fair)) t a h
+        ∙ left-stop (record-some (y .fair .is) (y .fair .good) f) k l (lent-of y) (y .fair .good .accepted) (sym (y .fair .is .n)) _ (all-even (y .fair)) t a h
 
     pub seek-end : length block ≤ at → FirstUnpermitted task fields s 0
     unfolding FirstUnpermitted
     seek-end l = λ p recs y.
         ap (λ (i : ℕ). each 13 (permits p) i (joined (takenFrom (p .first) recs))) (sym (y .fair .is .first))
-        ∙ left-end (record-some (y .fair) f) k l (lent-of y) (y .fair .good .accepted) (sym (y .fair .is .n)) _ (all-even (y .fair))
+        ∙ left-end (record-some (y .fair .is) (y .fair .good) f) k l (lent-of y) (y .fair .good .accepted) (sym (y .fair .is .n)) _ (all-even (y .fair))

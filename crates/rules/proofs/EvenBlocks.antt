@@ -63,9 +63,9 @@ abbrev pub countBehind : ℕ → List ℕ → ℕ
 countBehind from [] = 0
 countBehind from (o ∷ os) = let rest = countBehind from os in cond (ltb from o) (suc rest) rest
 
-pub count-most : (from : ℕ) (os : List ℕ) → countBehind from os ≤ length os
-count-most from [] = omega arith
-count-most from (o ∷ os) = go (ltb from o) (count-most from os)
+pub count-behind-most : (from : ℕ) (os : List ℕ) → countBehind from os ≤ length os
+count-behind-most from [] = omega arith
+count-behind-most from (o ∷ os) = go (ltb from o) (count-behind-most from os)
   where
     go : (t : Bool) → countBehind from os ≤ length os → cond t (suc (countBehind from os)) (countBehind from os) ≤ suc (length os)
     go true l = omega arith
