@@ -13,7 +13,7 @@ use Rattle.rules.specs.Blocks.{takenFrom}
 use Rattle.rules.proofs.BlockSizes.{size-least}
 use Rattle.rules.proofs.Bounds.{reel-most}
 use Rattle.rules.proofs.Never.{output-fits}
-use Rattle.rules.proofs.EvenLaws.{Even, even-size}
+use Rattle.rules.proofs.EvenLaws.{Even, even-size, even-count}
 use Rattle.terms.specs.declared.Task.{Task}
 use Rattle.terms.specs.declared.Format.the-variants.{FF}
 use Rattle.terms.specs.Meaning.{formatOf, TaskIs}
@@ -51,7 +51,7 @@ module _ {task : Task} {s : List ℕ} {p : Plan} {recs : List (List (List ℕ))}
     from-is = b ∙ start-is (form-given is h) g (task .first) ∙ ap (λ (k : ℕ). 4 * blockCount s + 8 + (k - 1) * recordLength (p .input)) (is .first)
 
     pub records-are : length (drop from s) / task .n ≡ length (joined (takenFrom (p .first) recs))
-    records-are = ap (λ (k : ℕ). k / task .n) (even-size data-even) ∙ mul-div-cancel (length (joined (takenFrom (p .first) recs))) record-some
+    records-are = sym (even-count record-some data-even)
 
     -- all that stands there is records
     pub records-all : length (drop from s) ≡ length (drop from s) / task .n * task .n

@@ -6,7 +6,7 @@ use mathlib.Core.Bool.{Bool, true, false}
 use mathlib.Core.List.{List, [], _∷_, _++_, map}
 use mathlib.Core.Option.{some, Option·none-ne-some, Option·some-injective}
 use Prim.Native.Nat.{ℕ, zero, suc, _+_, _-_, _*_, _/_, _%_, _≤_}
-use native.Mathlib.Nat.{suc-mul, zero-mul, div-add-mod'}
+use native.Mathlib.Nat.{suc-mul, zero-mul, div-add-mod', mul-div-cancel}
 use native.Mathlib.Omega.{arith}
 use lib.Dec.{eqb}
 use lib.ListN.{length, take, drop}
@@ -46,6 +46,10 @@ pub record Next (n : ℕ) (xs : List ℕ) (rs : List (List ℕ)) : Type 0 where
 module _ {n : ℕ} where
   pub even-size : {xs : List ℕ} {rs : List (List ℕ)} → Even n xs rs → length xs ≡ length rs * n
   even-size e = ap length (sym (e .is)) ∙ length-joined n (e .each)
+
+  -- so that there is one number of them
+  pub even-count : {xs : List ℕ} {rs : List (List ℕ)} → 1 ≤ n → Even n xs rs → length rs ≡ length xs / n
+  even-count {rs = rs} l e = sym (ap (λ (k : ℕ). k / n) (even-size e) ∙ mul-div-cancel (length rs) l)
 
   pub even-next : {xs : List ℕ} (rs : List (List ℕ)) → Even n xs rs → 1 ≤ length xs → Next n xs rs
   even-next [] e l = absurd (omega (arith, ap length (e .is)))

@@ -55,7 +55,7 @@ module _ {task : Task} {xs s : List ℕ} {blocks : ℕ} (old : List ℕ) (y : Le
 
   -- ---- a record
 
-  fair-is : FlatFair xs (p .fields) (task .n) (task .width)
+  pub fair-is : FlatFair xs (p .fields) (task .n) (task .width)
   fair-is =
       record {
         flat = y .flat;
@@ -63,7 +63,7 @@ module _ {task : Task} {xs s : List ℕ} {blocks : ℕ} (old : List ℕ) (y : Le
         sizes = all-imply (λ f w. w .kind) (y .ready .good .accepted .limits);
       }
 
-  out-is : (r : List ℕ) → outRecord p r ≡ outOf task (p .fields) r
+  pub out-is : (r : List ℕ) → outRecord p r ≡ outOf task (p .fields) r
   unfolding outRecord selected outOf outBytes
   out-is r =
       ap

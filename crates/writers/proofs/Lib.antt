@@ -8,3 +8,6 @@ pub mod Readying
 pub mod TurnLaws
 pub mod LayingLaws
 pub mod WriteLaws
+pub mod OutputLaws
+pub mod EndsLaws
+pub mod FixedWrite

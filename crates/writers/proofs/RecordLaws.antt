@@ -40,6 +40,21 @@ size-room e at n l = subst (λ (f : Format). at + cost (formatOf f) ≤ n) e l
 
 -- ---- the output
 
+-- B's n bytes, and with CV the data past A's n
+pub bytes-size : {xs : List ℕ} {n m : ℕ} {fs : List Field} → FlatFair xs fs n m → (c : Bool) (r : List ℕ) → n ≤ length r → length (outBytes n m fs c r) ≡ m + cond c (length r - n) 0
+unfolding outBytes
+bytes-size {n = n} {m} {fs} fair c r long =
+    length-append (bytes (outHalves zoneF value m fs (halves (take n r)))) (cond {A = List ℕ} c (drop n r) []) ∙ ap₂ (λ (i j : ℕ). i + j) size (tail c)
+  where
+    size : length (bytes (outHalves zoneF value m fs (halves (take n r)))) ≡ m
+    size =
+        ap length (out-bytes zoneF n m r long fs (fair .fits))
+        ∙ length-writtenBytes zoneF n m r long fs (replicate m 0x40) (fair .fits) (length-replicate {A = ℕ} m 0x40)
+
+    tail : (c : Bool) → length (cond {A = List ℕ} c (drop n r) []) ≡ cond {A = ℕ} c (length r - n) 0
+    tail true = length-drop n r
+    tail false = refl
+
 module _ (task : Task) (xs r : List ℕ) where
   pub copy-room : {m : Mode} → task .mode ≡ m → selects (modeOf m) ≡ false → (room : ℕ) → lengthOf task (length r) ≤ room → length r ≤ room
   copy-room e s room l = omega (arith, length-carried task (length r) e s)
@@ -64,22 +79,12 @@ module _ (task : Task) (xs r : List ℕ) where
 
   -- its length
   pub out-size : Writable task xs r → (fs : List Field) → FlatFair xs fs (task .n) (task .width) → length (outOf task fs r) ≡ lengthOf task (length r)
-  unfolding outOf lengthOf tailOf outBytes
+  unfolding outOf lengthOf tailOf
   out-size w fs fair = go (selects (modeOf (task .mode))) refl
     where
-      tail : (c : Bool) → length (cond {A = List ℕ} c (drop (task .n) r) []) ≡ cond {A = ℕ} c (length r - task .n) 0
-      tail true = length-drop (task .n) r
-      tail false = refl
-
       go : (b : Bool) → selects (modeOf (task .mode)) ≡ b
           → length (cond (selects (modeOf (task .mode))) (outBytes (task .n) (task .width) fs (task .carries) r) r) ≡ cond (selects (modeOf (task .mode))) (task .width + cond (task .carries) (length r - task .n) 0) (length r)
-      go true b =
-          let long = w .least b in
-          let size : length (bytes (outHalves zoneF value (task .width) fs (halves (take (task .n) r)))) ≡ task .width
-          = ap length (out-bytes zoneF (task .n) (task .width) r long fs (fair .fits)) ∙ length-writtenBytes zoneF (task .n) (task .width) r long fs (replicate (task .width) 0x40) (fair .fits) (length-replicate {A = ℕ} (task .width) 0x40) in
-          rw b
-          (length-append (bytes (outHalves zoneF value (task .width) fs (halves (take (task .n) r)))) (cond {A = List ℕ} (task .carries) (drop (task .n) r) [])
-          ∙ ap₂ (λ (i j : ℕ). i + j) size (tail (task .carries)))
+      go true b = rw b (bytes-size fair (task .carries) r (w .least b))
       go false b = rw b
 
   -- ---- the record

@@ -8,6 +8,9 @@ ghost use Rattle.terms.specs.Meaning.{formatOf};
 ghost use Rattle.tasks.specs.Promise.{lengthOf};
 ghost use Rattle.writers.specs.Writing.{sizeWord, offsetPut};
 ghost use Rattle.writers.specs.Promise.{Writable, DataPut, PiecePut, OffsetFits, NextFits, NextPut, Lent, BodyPut, ReelPut};
+
+mod fixed;
+
 use fillings::Tally;
 use terms::Format;
 use terms::Mode;
@@ -158,11 +161,24 @@ fn write_walked(task: Task, fields: &[u16], s: &[u8], blocks: usize, out: &mut [
     }
 }
 
+// The offsets from place 4 on, and behind them the blocks.
+fn put_body(task: Task, fields: &[u16], s: &[u8], blocks: usize, out: &mut [u8])
+    requires { ⌜ Lent task (now fields) (now s) blocks (length (now out)) ⌝ }
+    ensures { λ _. ⌜ BodyPut task (now (fields .entry)) (now (s .entry)) blocks (now (out .entry)) (now (out .exit)) ⌝ }
+{
+    let format = task.format;
+    match format {
+        Format::FF => fixed::write(task, fields, s, blocks, out),
+        Format::FV => write_walked(task, fields, s, blocks, out),
+        Format::FU => write_walked(task, fields, s, blocks, out),
+    }
+}
+
 // Writes the reel of a plan's output blocks at the front of out, in TF, TR and TRF: the block count, then the offsets and the blocks. All refusals come before it.
 pub fn write_reel(task: Task, fields: &[u16], s: &[u8], blocks: usize, out: &mut [u8])
     requires { ⌜ Lent task (now fields) (now s) blocks (length (now out)) ⌝ }
     ensures { λ _. ⌜ ReelPut task (now (fields .entry)) (now (s .entry)) blocks (now (out .entry)) (now (out .exit)) ⌝ }
 {
     reels::put_word(out, 0, blocks);
-    write_walked(task, fields, s, blocks, out);
+    put_body(task, fields, s, blocks, out);
 }

@@ -8,8 +8,8 @@ use Rattle.writers.proofs.write_reel.Tie as tie
 put-word-requires : tie.Need-put-word-requires
 put-word-requires c κs = let s = c .before .before .before .before in count-room (s .args .out .now) (s .pre)
 
-write-walked-requires : tie.Need-write-walked-requires
-write-walked-requires c κs =
+put-body-requires : tie.Need-put-body-requires
+put-body-requires c κs =
     let s = c .before .before .before .before .before .before .before .before in
     first-lent (s .args .out .now) (s .pre) _ (c .before .before .before .put-word .ensures)
 
@@ -20,7 +20,7 @@ returns : tie.Need-returns
 unfolding ReelPut
 returns c = λ y.
     let s = c .before .before .before .before .before .before .before .before .before .before .before in
-    reel-put (s .args .out .now) y _ (c .before .before .before .before .before .before .put-word .ensures) _ (c .before .before .write-walked .ensures)
+    reel-put (s .args .out .now) y _ (c .before .before .before .before .before .before .put-word .ensures) _ (c .before .before .put-body .ensures)
 
 pub write-reel-spec : {M : Type 1} → statement M
-write-reel-spec = tie.close (tie.spec put-word-requires write-walked-requires same-length returns)
+write-reel-spec = tie.close (tie.spec put-word-requires put-body-requires same-length returns)

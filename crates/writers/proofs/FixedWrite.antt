@@ -1,0 +1,134 @@
+-- In FF the offsets, and behind them the outputs of all records taken, are the offsets and the blocks of the output. By what the rules write there in closed form.
+use mathlib.Core.Path.{_≡_, refl, ap, ap₂, sym, _∙_, subst}
+use mathlib.Core.Bool.{Bool, true, false}
+use mathlib.Core.List.{List, [], _∷_, _++_, map}
+use Prim.Native.Nat.{ℕ, _+_, _-_, _*_, _/_, _≤_}
+use native.Mathlib.Omega.{arith}
+use lib.ListN.{length, take, drop, length-append, length-drop}
+use borrow.Rule.Slice.PartMut.{putMid}
+use Rattle.rules.specs.Base.{joined}
+use Rattle.rules.specs.Halves.{over}
+use Rattle.rules.specs.Grammar.{Format, ff, fv}
+use Rattle.rules.specs.Plan.{Plan, selects, recordLength}
+use Rattle.rules.specs.Reel.{ends, reelOf}
+use Rattle.rules.specs.Blocks.{takenFrom}
+use Rattle.rules.specs.Output.{outRecord}
+use Rattle.rules.proofs.ReelLaws.{length-ends, length-reel}
+use Rattle.rules.proofs.LentParts.{rest-over}
+use Rattle.rules.proofs.PlaceLaws.{over-behind}
+use Rattle.rules.proofs.Never.{output-other}
+use Rattle.rules.proofs.EvenLaws.{Even, even-size}
+use Rattle.rules.proofs.EvenOutput.{output-bytes, output-length}
+use Rattle.terms.specs.declared.Task.{Task}
+use Rattle.terms.specs.declared.Mode.{Mode}
+use Rattle.terms.specs.declared.Format.the-variants.{FF}
+use Rattle.terms.specs.Meaning.{modeOf}
+use Rattle.reels.specs.declared.Form.{Form}
+use Rattle.walks.specs.Walking.{fixedStart}
+use Rattle.tasks.specs.Promise.{formOf}
+use Rattle.fillings.proofs.FixedLaws.{is-fixed, record-some, data-even, records-all}
+use Rattle.writers.specs.Promise.{blocksIn, Ready, outOf, Lent, BodyPut}
+use Rattle.writers.specs.Fixed.{OutputsFit, BytesFit, BytesPut, EndsFit, EndsPut}
+use Rattle.writers.proofs.Readying.{count-is}
+use Rattle.writers.proofs.TurnLaws.{header-fits, input-small}
+use Rattle.writers.proofs.LayingLaws.{fair-is, out-is}
+
+map-same : {f g : List ℕ → List ℕ} → ((r : List ℕ) → f r ≡ g r) → (rs : List (List ℕ)) → map f rs ≡ map g rs
+map-same h [] = refl
+map-same h (r ∷ rs) = ap₂ _∷_ (h r) (map-same h rs)
+
+map-none : {f : List ℕ → List ℕ} → ((r : List ℕ) → f r ≡ r) → (rs : List (List ℕ)) → map f rs ≡ rs
+map-none h [] = refl
+map-none h (r ∷ rs) = ap₂ _∷_ (h r) (map-none h rs)
+
+module _ {task : Task} {xs s : List ℕ} {blocks : ℕ} (old : List ℕ) (y : Lent task xs s blocks (length old)) (f : task .format ≡ FF) {from : ℕ} (b : from ≡ fixedStart (formOf task) s (task .first)) where
+  abbrev x : Ready task s blocks (length old)
+  x = y .ready
+
+  abbrev taken : List (List ℕ)
+  taken = joined (takenFrom (x .p .first) (x .recs))
+
+  -- the bytes of the blocks are the outputs of the records taken
+  bytes-are : joined (blocksIn (x .p) (x .recs)) ≡ joined (map (outRecord (x .p)) taken)
+  unfolding blocksIn
+  bytes-are = output-bytes (x .p) (x .good .accepted) (is-fixed (x .is) (x .good) f) s (x .good .reel) (x .recs) (x .good .records)
+
+  bytes-long : length (joined (blocksIn (x .p) (x .recs))) ≡ length taken * task .width
+  bytes-long =
+      ap length bytes-are
+      ∙ output-length (x .p) (x .good .accepted) (is-fixed (x .is) (x .good) f) s (x .good .reel) (x .recs) (x .good .records)
+      ∙ ap (λ (w : ℕ). length (joined (takenFrom (x .p .first) (x .recs))) * w) (sym (x .is .width))
+
+  -- the blocks fit behind the header
+  behind-header : 4 * blocks + 8 + length (joined (blocksIn (x .p) (x .recs))) ≤ length old
+  behind-header = omega (arith, length-reel (blocksIn (x .p) (x .recs)), count-is x, x .roomy)
+
+  -- ---- for the offsets
+
+  pub ends-given : (k : ℕ) → k ≡ length (drop from s) → EndsFit task s from (k / task .n) (4 * blocks + 8) (length old)
+  ends-given k e =
+      record {
+        blocks = blocks;
+        ready = x;
+        fixed = f;
+        start = b;
+        all = records-all (x .is) (x .good) f refl b ∙ ap (λ (j : ℕ). j / task .n * task .n) (sym e);
+        behind = refl;
+      }
+
+  -- ---- for the outputs
+
+  none-carried : task .carries ≡ false
+  none-carried = x .is .carries ∙ go (x .p .carries) refl
+    where
+      go : (c : Bool) → x .p .carries ≡ c → x .p .carries ≡ false
+      go false c = c
+      go true c =
+          let e : ff ≡ fv = sym (is-fixed (x .is) (x .good) f) ∙ x .good .accepted .with-FV c in
+          absurd (differ e)
+        where
+          differ : ff ≡ fv → ⊥
+          differ e = let z : _≡_ {A = ℕ} 0 1 = cc in omega arith
+
+  block-is : {block : List ℕ} → block ≡ drop from s → Even (task .n) block taken
+  block-is d = subst (λ (z : List ℕ). Even (task .n) z (joined (takenFrom (x .p .first) (x .recs)))) (sym d) (data-even (x .is) (x .good) f refl b)
+
+  pub bytes-given : {block : List ℕ} → block ≡ drop from s → (room : ℕ) → length (joined (blocksIn (x .p) (x .recs))) ≤ room → BytesFit task xs block room
+  bytes-given {block} d room l =
+      record {
+        outputs =
+            record {
+              some = record-some (x .is) (x .good) f;
+              fielded = record { fields = x .p .fields; fair = fair-is old y };
+              records = taken;
+              even = block-is d;
+              short = omega (arith, ap length d, length-drop from s, input-small x);
+              roomy = omega (arith, bytes-long);
+            };
+        none-carried = none-carried;
+        whole = λ m.
+            let other : selects (x .p .mode) ≡ false = ap selects (sym (x .is .mode)) ∙ m in
+            omega (arith, ap length (bytes-are ∙ ap joined (map-none (output-other (x .p) other) taken) ∙ block-is d .is));
+      }
+
+  pub room-behind : (n : ℕ) → n ≡ length old → 4 * blocks + 8 + length (joined (blocksIn (x .p) (x .recs))) ≤ n
+  room-behind n e = omega (arith, behind-header)
+
+-- ---- what is put
+
+pub body-put : (task : Task) (xs s : List ℕ) (blocks : ℕ) (old first ys : List ℕ) {from : ℕ} {block : List ℕ} → task .format ≡ FF → from ≡ fixedStart (formOf task) s (task .first) → block ≡ drop from s
+    → length first ≡ length old → EndsPut task s (4 * blocks + 8) old first
+    → BytesPut task xs block (take (length first - (4 * blocks + 8)) (drop (4 * blocks + 8) first)) ys
+    → BodyPut task xs s blocks old (putMid (4 * blocks + 8) (length first - (4 * blocks + 8)) first ys)
+unfolding EndsPut BytesPut BodyPut
+body-put task xs s blocks old first ys {from} {block} f b d same e h = λ y.
+    let base = 4 * blocks + 8 in
+    let p = y .ready .p in
+    let bs = blocksIn p (y .ready .recs) in
+    let rs = joined (takenFrom (p .first) (y .ready .recs)) in
+    let outs : joined (map (outOf task (p .fields)) rs) ≡ joined bs = sym (bytes-are old y f b ∙ ap joined (map-same (out-is old y) rs)) in
+    let l = behind-header old y f b in
+    ap (putMid base (length first - base) first) (h (p .fields) (fair-is old y) rs (block-is old y f b d) ∙ ap (λ (z : List ℕ). over 0 z (take (length first - base) (drop base first))) outs)
+    ∙ rest-over base first (joined bs) (omega arith)
+    ∙ ap (over base (joined bs)) (e blocks (y .ready) refl)
+    ∙ over-behind 4 base (ends base bs) (joined bs) old (omega (arith, length-ends base bs, count-is (y .ready))) (omega arith)

@@ -1,0 +1,86 @@
+-- The offsets, and behind them the outputs of all records taken.
+use mathlib.Core.Path.{_≡_, ap, _∙_}
+use Prim.Native.Nat.{_+_, _*_}
+use native.Mathlib.Omega.{arith}
+use lib.ListN.{length}
+use borrow.Rule.Slice.PartMut.{mid-len}
+use Rattle.reels.specs.declared.Form.{Form}
+use Rattle.walks.specs.Walking.{fixedStart}
+use Rattle.tasks.specs.Promise.{formOf}
+use Rattle.fillings.proofs.FixedLaws.{record-some}
+use Rattle.writers.proofs.TurnLaws.{sound, few-blocks}
+use Rattle.writers.proofs.FixedWrite.{ends-given, bytes-given, room-behind, body-put}
+use borrow.Author.Needs.{needs}
+use Rattle.writers.proofs.fixed.write.Statement.{statement}
+use Rattle.writers.proofs.fixed.write.Tie as tie
+
+form-of-requires : tie.Need-form-of-requires
+form-of-requires c κs = search needs
+
+fixed-start-requires : tie.Need-fixed-start-requires
+fixed-start-requires c κs =
+    let x = c .before .before .before .before .pre .0 .ready in
+    let w = x .good .accepted .first in
+    (sound x (c .form-of .ensures), (omega (arith, x .is .first, w .0), omega (arith, x .is .first, w .1)))
+
+rest-requires : tie.Need-rest-requires
+rest-requires c κs = search needs
+
+mul-base : tie.Need-mul-base
+mul-base c = omega (arith, few-blocks (c .before .before .before .before .before .before .pre .0 .ready))
+
+add-base : tie.Need-add-base
+add-base c = omega (arith, few-blocks (c .before .before .before .before .before .before .pre .0 .ready))
+
+-- R starts where the plan's numbers say
+start : (c : tie.After-rest) → c .before .fixed-start .result ≡ fixedStart (formOf (c .before .before .before .before .before .before .args .task)) (c .before .before .before .before .before .before .args .s .now) (c .before .before .before .before .before .before .args .task .first)
+start c = c .before .fixed-start .ensures ∙ ap (λ (f : Form). fixedStart f (c .before .before .before .before .before .before .args .s .now) (c .before .before .before .before .before .before .args .task .first)) (c .before .before .form-of .ensures)
+
+div-put-ends : tie.Need-div-put-ends
+div-put-ends c = let x = c .before .before .before .before .before .before .before .pre .0 .ready in record-some (x .is) (x .good) (c .before .before .before .before .before .before .before .pre .1)
+
+put-ends-requires : tie.Need-put-ends-requires
+put-ends-requires c κs = ends-given (c .before .before .before .before .before .before .before .before .args .out .now) (c .before .before .before .before .before .before .before .before .pre .0) (c .before .before .before .before .before .before .before .before .pre .1) (start (c .before .before)) _ (ap length (c .before .before .rest .ensures))
+
+sub-put-bytes : tie.Need-sub-put-bytes
+sub-put-bytes c = omega (arith, room-behind (c .before .before .before .before .before .before .before .before .before .before .before .args .out .now) (c .before .before .before .before .before .before .before .before .before .before .before .pre .0) (c .before .before .before .before .before .before .before .before .before .before .before .pre .1) (start (c .before .before .before .before .before)) _ (c .before .before .put-ends .kept .1 .1 .1 .1 .1 .0))
+
+part-put-bytes-start : tie.Need-part-put-bytes-start
+part-put-bytes-start c = omega (arith, room-behind (c .before .before .before .before .before .before .before .before .before .before .before .args .out .now) (c .before .before .before .before .before .before .before .before .before .before .before .pre .0) (c .before .before .before .before .before .before .before .before .before .before .before .pre .1) (start (c .before .before .before .before .before)) _ (c .before .before .put-ends .kept .1 .1 .1 .1 .1 .0))
+
+part-put-bytes-end : tie.Need-part-put-bytes-end
+part-put-bytes-end c = search needs
+
+put-bytes-requires : tie.Need-put-bytes-requires
+put-bytes-requires c κs =
+    let e = c .before .before .before .put-ends in
+    let first = e .last .1 .1 .1 .1 .1 .0 in
+    let l = room-behind (c .before .before .before .before .before .before .before .before .before .before .before .before .args .out .now) (c .before .before .before .before .before .before .before .before .before .before .before .before .pre .0) (c .before .before .before .before .before .before .before .before .before .before .before .before .pre .1) (start (c .before .before .before .before .before .before)) _ (e .kept .1 .1 .1 .1 .1 .0) in
+    bytes-given (c .before .before .before .before .before .before .before .before .before .before .before .before .args .out .now) (c .before .before .before .before .before .before .before .before .before .before .before .before .pre .0) (c .before .before .before .before .before .before .before .before .before .before .before .before .pre .1) (start (c .before .before .before .before .before .before)) (c .before .before .before .before .before .before .rest .ensures) _
+    (omega (arith, l, mid-len (4 * c .before .before .before .before .before .before .before .before .before .before .before .before .args .blocks + 8) (length first) first (omega arith)))
+
+same-length : tie.Need-same-length
+same-length c = search needs
+
+returns : tie.Need-returns
+returns c =
+    let e = c .before .before .before .before .before .before .put-ends in
+    body-put _ _ _ _ _ _ _ (c .before .before .before .before .before .before .before .before .before .before .before .before .before .before .before .pre .1) (start (c .before .before .before .before .before .before .before .before .before)) (c .before .before .before .before .before .before .before .before .before .rest .ensures) (e .kept .1 .1 .1 .1 .1 .0) (e .ensures) (c .before .before .put-bytes .ensures)
+
+pub write-spec : {M : Type 1} → statement M
+write-spec =
+    tie.close
+    (tie.spec
+    form-of-requires
+    fixed-start-requires
+    rest-requires
+    mul-base
+    add-base
+    div-put-ends
+    put-ends-requires
+    sub-put-bytes
+    part-put-bytes-start
+    part-put-bytes-end
+    put-bytes-requires
+    same-length
+    returns)
