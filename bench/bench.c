@@ -179,16 +179,16 @@ static void many_fields(struct work *w, const char *name, size_t n, size_t field
     card(w, padded);
 }
 
-/* ---- one call of each, and their comparison */
+/* ---- one call of each, not inlined so that a tool can tell them apart, and their comparison */
 
-static uint64_t call_ours(const struct work *w)
+__attribute__((noinline)) static uint64_t call_ours(const struct work *w)
 {
     if (w->reel_len)
         return bhx_run(w->deck, w->deck_len, w->reel, w->reel_len, out_ours, REEL).length;
     return bhx_plan_into(w->deck, w->deck_len, table_ours, BHX_MOST_FIELDS).fields;
 }
 
-static uint64_t call_plain(const struct work *w)
+__attribute__((noinline)) static uint64_t call_plain(const struct work *w)
 {
     if (w->reel_len)
         return plain_run(w->deck, w->deck_len, w->reel, w->reel_len, out_plain, REEL).length;
@@ -303,13 +303,31 @@ static struct times measure(const struct work *w)
 
 /* ---- the tables */
 
-static void row(const struct work *w)
+static void timed_row(const struct work *w)
 {
     struct times t = measure(w);
     printf("| %s | %llu | %llu | %.1f | %.1f | %.2f | %.2f to %.2f |\n", w->name, (unsigned long long)t.records, (unsigned long long)t.fields,
         1e6 * t.ours, 1e6 * t.plain, t.ratio, t.low, t.high);
     fflush(stdout);
 }
+
+__attribute__((noinline)) static uint64_t say_name(const struct work *w)
+{
+    puts(w->name);
+    return 0;
+}
+
+/* One call of each, for a tool that counts the instructions from the beginning of one function to that of the next. */
+static void once_row(const struct work *w)
+{
+    struct times t;
+    compare(w, &t);
+    sink += call_ours(w);
+    sink += call_plain(w);
+    sink += say_name(w);
+}
+
+static void (*row)(const struct work *w) = timed_row;
 
 static const char mixed[] = "1,(P,16,9),1/17,(P,16,9),10/33,(P,16,9),19/49,(U,8,15),28/57,(U,8,15),43";
 static const char mixed_shape[] = "zzzzzzzzzzzzzzzszzzzzzzzzzzzzzzszzzzzzzzzzzzzzzsddddddde" "ddddddde" "................";
@@ -380,8 +398,6 @@ static void plan_workloads(void)
 
 static void workloads(void)
 {
-    puts("| workload | records | fields | ours, microseconds | plain C, microseconds | ratio | 10 to 90 percent |");
-    puts("|---|---|---|---|---|---|---|");
     fixed_workloads();
     variable_workloads();
     copied_workloads();
@@ -462,8 +478,16 @@ static void growth(void)
 
 int main(int argc, char **argv)
 {
-    if (argc > 1 && strcmp(argv[1], "quick") == 0)
+    const char *how = argc > 1 ? argv[1] : "";
+    if (strcmp(how, "once") == 0) {
+        row = once_row;
+        workloads();
+        return 0;
+    }
+    if (strcmp(how, "quick") == 0)
         least_time = 0.0005;
+    puts("| workload | records | fields | ours, microseconds | plain C, microseconds | ratio | 10 to 90 percent |");
+    puts("|---|---|---|---|---|---|---|");
     workloads();
     puts("");
     growth();
