@@ -1,5 +1,5 @@
 -- In FF, by the numbers of a plan: the records taken are what stands from the place where R starts, so that they are counted by a division. By the laws of records of equal length.
-use mathlib.Core.Path.{_≡_, refl, ap, sym, _∙_, subst}
+use mathlib.Core.Path.{_≡_, ap, sym, _∙_, subst}
 use mathlib.Core.List.{List}
 use Prim.Native.Nat.{ℕ, _+_, _-_, _*_, _/_, _≤_}
 use native.Mathlib.Nat.{mul-div-cancel, le-mul-of-pos-right}

@@ -1,14 +1,14 @@
 -- In FF what an output measures is found by division, and of TF by looking at each offset of the input. By the laws of records of equal length, and by going along the offsets.
-use mathlib.Core.Path.{_≡_, refl, ap, ap₂, sym, _∙_, subst}
-use mathlib.Core.Bool.{Bool, true, false}
+use mathlib.Core.Path.{_≡_, refl, ap, ap₂, sym, _∙_}
+use mathlib.Core.Bool.{true}
 use mathlib.Core.List.{List, [], _∷_}
-use Prim.Native.Nat.{ℕ, suc, _+_, _-_, _*_, _/_, _≤_, _<_}
+use Prim.Native.Nat.{ℕ, suc, _+_, _*_, _≤_, _<_}
 use native.Mathlib.Numerals.{add-one}
 use native.Mathlib.Omega.{arith}
 use lib.ListN.{length, drop}
 use borrow.Author.Tests.{lt-ltb, le-ltb}
 use Rattle.rules.specs.Reel.{blockCount, offsets, isReel}
-use Rattle.rules.specs.ReelPlaces.{wordAt, offsetAt}
+use Rattle.rules.specs.ReelPlaces.{wordAt}
 use Rattle.rules.proofs.ReelLaws.{header-is}
 use Rattle.rules.proofs.HeaderSteps.{next-at, count-at, offsets-step, offsets-end}
 use Rattle.rules.proofs.EvenBlocks.{countBehind}

@@ -1,16 +1,15 @@
 -- In FF the measure by division is the rules'. By what the rules write there in closed form.
-use mathlib.Core.Path.{_≡_, refl, ap, ap₂, sym, _∙_, subst}
-use mathlib.Core.Bool.{Bool, true, false}
+use mathlib.Core.Path.{_≡_, refl, ap, ap₂, sym, _∙_}
+use mathlib.Core.Bool.{false}
 use mathlib.Core.List.{List, map}
 use Prim.Native.Nat.{ℕ, _+_, _-_, _*_, _/_, _≤_}
 use native.Mathlib.Nat.{mul-le-mul, div-le-self}
 use native.Mathlib.Omega.{arith}
-use lib.ListN.{length, drop, length-drop, length-map}
+use lib.ListN.{length, drop, length-map}
 use Rattle.rules.specs.Base.{joined}
-use Rattle.rules.specs.Answer.{fine}
-use Rattle.rules.specs.Grammar.{Mode, tf, ff}
-use Rattle.rules.specs.Plan.{Plan, isTC, isTF, recordLength, blockLength}
-use Rattle.rules.specs.Reel.{blockCount, offsets, blocksOf, reelOf}
+use Rattle.rules.specs.Grammar.{tf}
+use Rattle.rules.specs.Plan.{isTF, recordLength, blockLength}
+use Rattle.rules.specs.Reel.{offsets, blocksOf}
 use Rattle.rules.specs.Blocks.{takenFrom}
 use Rattle.rules.specs.Output.{blockOf}
 use Rattle.rules.specs.Run.{outputBlocks}
@@ -27,7 +26,7 @@ use Rattle.tasks.specs.Promise.{formOf}
 use Rattle.fillings.proofs.TallyLaws.{bounded}
 use Rattle.fillings.proofs.FixedLaws.{is-fixed, width-least, width-fits, from-is, records-are, records-all, count-of, count-most}
 use Rattle.measures.specs.declared.Measured.the-variants.{Fits}
-use Rattle.measures.specs.Promise.{Fair, Measuring, Measurable, fitAnswer, answerOf, measuredOf, Measures, FixedFrom, FixedBlocks}
+use Rattle.measures.specs.Promise.{Measurable, Measures, FixedFrom, FixedBlocks}
 use Rattle.measures.proofs.PromiseLaws.{fit-answer, measured-fits}
 
 -- ---- how many blocks they make

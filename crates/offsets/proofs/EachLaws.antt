@@ -11,7 +11,7 @@ use lib.ListN.{length, drop, length-append}
 use borrow.Author.Tests.{lt-ltb, le-ltb}
 use Rattle.rules.specs.Halves.{over}
 use Rattle.rules.specs.Reel.{word, blockCount, offsets, isReel}
-use Rattle.rules.specs.ReelPlaces.{wordAt, offsetAt}
+use Rattle.rules.specs.ReelPlaces.{wordAt}
 use Rattle.rules.proofs.PlaceLaws.{over-nothing, over-behind}
 use Rattle.rules.proofs.WordLaws.{length-word}
 use Rattle.rules.proofs.ReelLaws.{header-is}

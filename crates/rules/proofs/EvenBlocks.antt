@@ -1,6 +1,6 @@
 -- TF with records of equal length: one output block for each input block that has a record left. Where it ends follows from where the input block ends, since both hold the
 -- same number of records. By going along the blocks, with the records still to skip, or those since the first that is taken.
-use mathlib.Core.Path.{_≡_, refl, ap, ap₂, sym, _∙_}
+use mathlib.Core.Path.{_≡_, refl, ap, sym, _∙_}
 use mathlib.Core.Bool.{Bool, true, false, cond}
 use mathlib.Core.List.{List, [], _∷_, _++_, map, append-nil}
 use Prim.Native.Nat.{ℕ, suc, _+_, _-_, _*_, _/_, _≤_, _<_}
@@ -8,16 +8,14 @@ use native.Mathlib.Nat.{zero-mul, one-mul, suc-mul, add-mul, mul-le-mul-right, d
 use native.Mathlib.Omega.{arith}
 use lib.Dec.{ltb, leb}
 use lib.ListN.{length, drop, length-drop, length-map, drop-of-length-le}
-use lib.Seq.{slice, length-slice}
-use borrow.Author.Tests.{ltb-true, leb-true, leb-false, lt-ltb, le-ltb}
+use borrow.Author.Tests.{leb-true, leb-false, lt-ltb, le-ltb}
 use Rattle.rules.specs.Base.{joined}
 use Rattle.rules.specs.Places.{All, also, Both, none-left, both}
-use Rattle.rules.specs.Reel.{word, rising, cut, firstOffset, offsets, isReel, blocksOf, ends}
+use Rattle.rules.specs.Reel.{word, firstOffset, offsets, isReel, blocksOf, ends}
 use Rattle.rules.specs.Blocks.{takenAfter}
 use Rattle.rules.specs.Output.{nonEmpty}
-use Rattle.rules.proofs.Tests.{and-left, and-right}
 use Rattle.rules.proofs.AllLaws.{all-drop}
-use Rattle.rules.proofs.ReelLaws.{header-is, rising-most}
+use Rattle.rules.proofs.ReelLaws.{nexts, nexts-cut, header-is}
 use Rattle.rules.proofs.BlockSizes.{all-map}
 use Rattle.rules.proofs.BlockLaws.{length-joined}
 use Rattle.rules.proofs.EvenLaws.{EvenBlock, even-size}
@@ -33,23 +31,10 @@ pub ends-first : (a : ℕ) (bs : List (List ℕ)) → ends a bs ≡ word a ++ be
 ends-first a [] = sym (append-nil (word a))
 ends-first a (b ∷ bs) = ap (word a ++_) (ends-first (a + length b) bs)
 
--- and as numbers
-abbrev pub endsAfter : ℕ → List (List ℕ) → List ℕ
-endsAfter a [] = []
-endsAfter a (b ∷ bs) = (a + length b) ∷ endsAfter (a + length b) bs
-
-after-cut : (s : List ℕ) (a : ℕ) (os : List ℕ) → rising (length s) a os ≡ true → os ≡ endsAfter a (cut s a os)
-after-cut s a [] r = refl
-after-cut s a (o ∷ os) r =
-    let l = ltb-true a o (and-left (ltb a o) _ r) in
-    let q = and-right (ltb a o) _ r in
-    let e : o ≡ a + length (slice a o s) = omega (arith, length-slice a o s (rising-most (length s) o os q)) in
-    ap₂ _∷_ e (after-cut s o os q ∙ ap (λ (n : ℕ). endsAfter n (cut s o os)) e)
-
 -- the offsets of a reel behind its first are those at which its blocks end
-pub offsets-after : (s : List ℕ) → isReel s ≡ true → offsets s ≡ endsAfter (firstOffset s) (blocksOf s)
+pub offsets-after : (s : List ℕ) → isReel s ≡ true → offsets s ≡ nexts (firstOffset s) (blocksOf s)
 unfolding blocksOf
-offsets-after s e = after-cut s (firstOffset s) (offsets s) (header-is s e .rises)
+offsets-after s e = sym (nexts-cut s (firstOffset s) (offsets s) (header-is s e .rises))
 
 -- ---- those of the blocks that have a record left
 
@@ -123,30 +108,30 @@ module _ (n : ℕ) (least : 1 ≤ n) where
 
     -- how many output blocks there are: one for each input block that ends behind the first record that is taken
     pub taken-count : (from a k : ℕ) {bs : List (List ℕ)} {recs : List (List (List ℕ))} → Both (EvenBlock n) bs recs → k * n ≡ from - a
-        → length (nonEmpty (map (map out) (takenAfter k recs))) ≡ countBehind from (endsAfter a bs)
+        → length (nonEmpty (map (map out) (takenAfter k recs))) ≡ countBehind from (nexts a bs)
     unfolding outs
     taken-count from a k none-left s = refl
     taken-count from a k (both {x = b} {y = rs} {xs = bs} {ys = recs} v h) s =
         go (λ t. taken-count from (a + length b) (k - length rs) h t) (block-step from a k v s)
       where
-        go : ((k - length rs) * n ≡ from - (a + length b) → length (nonEmpty (outs (k - length rs) recs)) ≡ countBehind from (endsAfter (a + length b) bs))
-            → Step from k (length rs) (a + length b) → length (nonEmpty (outs k (rs ∷ recs))) ≡ countBehind from (endsAfter a (b ∷ bs))
+        go : ((k - length rs) * n ≡ from - (a + length b) → length (nonEmpty (outs (k - length rs) recs)) ≡ countBehind from (nexts (a + length b) bs))
+            → Step from k (length rs) (a + length b) → length (nonEmpty (outs k (rs ∷ recs))) ≡ countBehind from (nexts a (b ∷ bs))
         go later (skipped l e t) = ap length (none-left-of k rs recs l) ∙ rw (le-ltb from (a + length b) e) (later t)
         go later (left l e t) = ap length (some-left-of k rs recs l) ∙ rw (lt-ltb from (a + length b) e) (ap suc (later t))
 
     -- where they end: each after as many outputs as its input block ends records behind the first that is taken
     pub taken-ends : (w from to a k j : ℕ) {bs : List (List ℕ)} {recs : List (List (List ℕ))} → Both (EvenBlock n) bs recs → All (All (λ r. length (out r) ≡ w)) recs
         → k * n ≡ from - a → j * n ≡ a - from
-        → behindEach (to + j * w) (map joined (nonEmpty (map (map out) (takenAfter k recs)))) ≡ endsBehind n w from to (endsAfter a bs)
+        → behindEach (to + j * w) (map joined (nonEmpty (map (map out) (takenAfter k recs)))) ≡ endsBehind n w from to (nexts a bs)
     unfolding outs
     taken-ends w from to a k j none-left o s t = refl
     taken-ends w from to a k j (both {x = b} {y = rs} {xs = bs} {ys = recs} v h) (also m o) s t =
         go (λ j′ s′ t′. taken-ends w from to (a + length b) (k - length rs) j′ h o s′ t′) (block-step from a k v s)
       where
         go : ((j′ : ℕ) → (k - length rs) * n ≡ from - (a + length b) → j′ * n ≡ a + length b - from
-            → behindEach (to + j′ * w) (map joined (nonEmpty (outs (k - length rs) recs))) ≡ endsBehind n w from to (endsAfter (a + length b) bs))
+            → behindEach (to + j′ * w) (map joined (nonEmpty (outs (k - length rs) recs))) ≡ endsBehind n w from to (nexts (a + length b) bs))
             → Step from k (length rs) (a + length b)
-            → behindEach (to + j * w) (map joined (nonEmpty (outs k (rs ∷ recs)))) ≡ endsBehind n w from to (endsAfter a (b ∷ bs))
+            → behindEach (to + j * w) (map joined (nonEmpty (outs k (rs ∷ recs)))) ≡ endsBehind n w from to (nexts a (b ∷ bs))
         go later (skipped l u s′) =
             ap (λ (z : List (List (List ℕ))). behindEach (to + j * w) (map joined z)) (none-left-of k rs recs l) ∙ rw (le-ltb from (a + length b) u) (later j s′ (omega arith))
         go later (left l u s′) =

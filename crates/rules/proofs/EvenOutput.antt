@@ -1,6 +1,6 @@
 -- The output of FF, as code finds it: its bytes are the outputs joined, in TF a block ends where its input block does, and in TR and TRF every block but the last holds as many
 -- records as fit. By the laws of records of equal length.
-use mathlib.Core.Path.{_≡_, refl, ap, ap₂, sym, _∙_, subst}
+use mathlib.Core.Path.{_≡_, refl, ap, ap₂, sym, _∙_}
 use mathlib.Core.Bool.{true, false, true≢false}
 use mathlib.Core.List.{List, [], _∷_, _++_, map}
 use Prim.Native.Nat.{ℕ, _+_, _-_, _*_, _/_, _≤_}
@@ -25,7 +25,7 @@ use Rattle.rules.proofs.ReelLaws.{header-is}
 use Rattle.rules.proofs.MeasureLaws.{map-joined}
 use Rattle.rules.proofs.RunParts.{blocked-records}
 use Rattle.rules.proofs.Never.{fixed-output, output-fits}
-use Rattle.rules.proofs.EvenLaws.{Even, EvenBlock, blocks-even, taken-even}
+use Rattle.rules.proofs.EvenLaws.{EvenBlock, blocks-even, taken-even}
 use Rattle.rules.proofs.EvenFilling.{stepped, even-count, even-ends}
 use Rattle.rules.proofs.EvenBlocks.{behindEach, offsets-after, endsBehind, countBehind, ends-first, taken-count, taken-ends}
 

@@ -1,7 +1,7 @@
 -- The offsets of FF are those of the output blocks: found by counting records, or from the input's own offsets. By what the rules write there in closed form.
-use mathlib.Core.Path.{_≡_, refl, ap, ap₂, sym, _∙_, subst}
-use mathlib.Core.Bool.{Bool, true, false}
-use mathlib.Core.List.{List, _++_, map}
+use mathlib.Core.Path.{_≡_, refl, ap, ap₂, sym, _∙_}
+use mathlib.Core.Bool.{false}
+use mathlib.Core.List.{List, _++_}
 use Prim.Native.Nat.{ℕ, _+_, _-_, _*_, _/_, _≤_, _<_}
 use native.Mathlib.Nat.{mul-le-mul, div-mul-le-self, le-mul-of-pos-right}
 use native.Mathlib.Omega.{arith}
@@ -9,7 +9,7 @@ use lib.ListN.{length, drop}
 use Rattle.rules.specs.Base.{joined}
 use Rattle.rules.specs.Halves.{over}
 use Rattle.rules.specs.Grammar.{tf}
-use Rattle.rules.specs.Plan.{Plan, isTF, recordLength, blockLength}
+use Rattle.rules.specs.Plan.{isTF, recordLength, blockLength}
 use Rattle.rules.specs.Reel.{word, offsets, ends}
 use Rattle.rules.specs.Blocks.{takenFrom}
 use Rattle.rules.proofs.ReelLaws.{length-ends}

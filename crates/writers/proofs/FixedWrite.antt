@@ -1,36 +1,33 @@
 -- In FF the offsets, and behind them the outputs of all records taken, are the offsets and the blocks of the output. By what the rules write there in closed form.
 use mathlib.Core.Path.{_≡_, refl, ap, ap₂, sym, _∙_, subst}
 use mathlib.Core.Bool.{Bool, true, false}
-use mathlib.Core.List.{List, [], _∷_, _++_, map}
+use mathlib.Core.List.{List, [], _∷_, map}
 use Prim.Native.Nat.{ℕ, _+_, _-_, _*_, _/_, _≤_}
 use native.Mathlib.Omega.{arith}
-use lib.ListN.{length, take, drop, length-append, length-drop}
+use lib.ListN.{length, take, drop, length-drop}
 use borrow.Rule.Slice.PartMut.{putMid}
 use Rattle.rules.specs.Base.{joined}
 use Rattle.rules.specs.Halves.{over}
-use Rattle.rules.specs.Grammar.{Format, ff, fv}
-use Rattle.rules.specs.Plan.{Plan, selects, recordLength}
-use Rattle.rules.specs.Reel.{ends, reelOf}
+use Rattle.rules.specs.Grammar.{ff, fv}
+use Rattle.rules.specs.Plan.{selects}
+use Rattle.rules.specs.Reel.{ends}
 use Rattle.rules.specs.Blocks.{takenFrom}
 use Rattle.rules.specs.Output.{outRecord}
 use Rattle.rules.proofs.ReelLaws.{length-ends, length-reel}
 use Rattle.rules.proofs.LentParts.{rest-over}
 use Rattle.rules.proofs.PlaceLaws.{over-behind}
 use Rattle.rules.proofs.Never.{output-other}
-use Rattle.rules.proofs.EvenLaws.{Even, even-size}
+use Rattle.rules.proofs.EvenLaws.{Even}
 use Rattle.rules.proofs.EvenOutput.{output-bytes, output-length}
 use Rattle.terms.specs.declared.Task.{Task}
-use Rattle.terms.specs.declared.Mode.{Mode}
 use Rattle.terms.specs.declared.Format.the-variants.{FF}
-use Rattle.terms.specs.Meaning.{modeOf}
-use Rattle.reels.specs.declared.Form.{Form}
 use Rattle.walks.specs.Walking.{fixedStart}
 use Rattle.tasks.specs.Promise.{formOf}
 use Rattle.fillings.proofs.FixedLaws.{is-fixed, record-some, data-even, records-all}
 use Rattle.writers.specs.Promise.{blocksIn, Ready, outOf, Lent, BodyPut}
-use Rattle.writers.specs.Fixed.{OutputsFit, BytesFit, BytesPut, EndsFit, EndsPut}
+use Rattle.writers.specs.Fixed.{BytesFit, BytesPut, EndsFit, EndsPut}
 use Rattle.writers.proofs.Readying.{count-is}
-use Rattle.writers.proofs.TurnLaws.{header-fits, input-small}
+use Rattle.writers.proofs.TurnLaws.{input-small}
 use Rattle.writers.proofs.LayingLaws.{fair-is, out-is}
 
 map-same : {f g : List ℕ → List ℕ} → ((r : List ℕ) → f r ≡ g r) → (rs : List (List ℕ)) → map f rs ≡ map g rs

@@ -8,10 +8,9 @@ use native.Mathlib.Nat.{suc-mul}
 use native.Mathlib.Omega.{arith}
 use lib.ListN.{length, take, drop, length-drop, length-map}
 use lib.Seq.{drop-drop, length-take-le}
-use borrow.Rule.Slice.PartMut.{putMid, mid-len}
+use borrow.Rule.Slice.PartMut.{putMid}
 use Rattle.rules.specs.Base.{joined}
 use Rattle.rules.specs.Halves.{over, Field}
-use Rattle.rules.specs.Places.{All}
 use Rattle.rules.specs.Plan.{selects}
 use Rattle.rules.proofs.AllLaws.{all-imply}
 use Rattle.rules.proofs.BlockSizes.{all-map}
@@ -21,9 +20,9 @@ use Rattle.rules.proofs.EvenLaws.{Even, Next, even-size, even-count, even-next,
 use Rattle.terms.specs.declared.Task.{Task}
 use Rattle.terms.specs.declared.Mode.{Mode}
 use Rattle.terms.specs.Meaning.{modeOf}
-use Rattle.rows.specs.Flat.{FlatFair, Fielded}
+use Rattle.rows.specs.Flat.{FlatFair}
 use Rattle.records.specs.Promise.{outBytes, Puts}
-use Rattle.offsets.proofs.Sending.{Sent, sent-start, sent-size, sent-length, sent-more, sent-end}
+use Rattle.offsets.proofs.Sending.{Sent, sent-start, sent-size, sent-more, sent-end}
 use Rattle.writers.specs.Promise.{outOf}
 use Rattle.writers.specs.Fixed.{OutputsFit, OutputsPut, BytesFit, BytesPut}
 use Rattle.writers.proofs.RecordLaws.{bytes-size, selects-as}

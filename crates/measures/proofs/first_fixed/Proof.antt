@@ -6,7 +6,7 @@ use lib.ListN.{length, length-drop}
 use borrow.Author.Needs.{needs}
 use borrow.Author.Tests.{not-true, not-false}
 use Rattle.measures.proofs.FairLaws.{asks, first-low, first-high, sound}
-use Rattle.measures.proofs.FixedSeek.{Asking, ask-start, ask-more, seek-some, seek-low, seek-high, seek-few, seek-inside, seek-readable, seek-stop, seek-end}
+use Rattle.measures.proofs.FixedSeek.{Asking, ask-start, ask-more, seek-some, seek-high, seek-few, seek-inside, seek-readable, seek-stop, seek-end}
 use Rattle.measures.proofs.first_fixed.Statement.{statement}
 use Rattle.measures.proofs.first_fixed.Tie as tie
 

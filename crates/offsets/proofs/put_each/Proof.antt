@@ -5,7 +5,7 @@ use native.Mathlib.Omega.{arith}
 use borrow.Author.Needs.{needs}
 use Rattle.rules.proofs.ReelLaws.{header-is}
 use Rattle.offsets.proofs.Sending.{sent-length}
-use Rattle.offsets.proofs.EachLaws.{Putting, each-start, each-word, each-count, each-small, each-room, each-more, each-end, first-room, rest-room, both-put}
+use Rattle.offsets.proofs.EachLaws.{Putting, each-start, each-word, each-small, each-room, each-more, each-end, first-room, rest-room, both-put}
 use Rattle.offsets.proofs.put_each.Statement.{statement}
 use Rattle.offsets.proofs.put_each.Tie as tie
 

@@ -2,7 +2,6 @@
 use mathlib.Core.Path.{_∙_}
 use Prim.Native.Nat.{_-_}
 use native.Mathlib.Omega.{arith}
-use borrow.Author.Needs.{needs}
 use Rattle.offsets.proofs.Sending.{sent-length}
 use Rattle.offsets.proofs.StepLaws.{Stepping, step-start, step-room, step-more, step-last, step-end}
 use Rattle.offsets.proofs.put_steps.Statement.{statement}
