@@ -5,6 +5,7 @@ ghost use lib.ListN.{length};
 ghost use Rattle.rules.specs.Halves.{over};
 ghost use Rattle.rules.specs.Output.{cost};
 ghost use Rattle.terms.specs.Meaning.{formatOf};
+ghost use Rattle.records.specs.Promise.{Covers};
 ghost use Rattle.tasks.specs.Promise.{lengthOf};
 ghost use Rattle.writers.specs.Writing.{sizeWord, offsetPut};
 ghost use Rattle.writers.specs.Promise.{Writable, DataPut, PiecePut, OffsetFits, NextFits, NextPut, Lent, BodyPut, ReelPut};
@@ -43,9 +44,10 @@ fn put_size(format: Format, at: usize, size: usize, out: &mut [u8])
 }
 
 // The output of a record, at the front of out: TR carries records unchanged.
-fn put_data(task: Task, fields: &[u16], record: &[u8], out: &mut [u8])
+fn put_data(task: Task, fields: &[u16], covered: bool, record: &[u8], out: &mut [u8])
     requires { ⌜ Writable task (now fields) (now «record») ⌝ }
     requires { ⌜ lengthOf task (length (now «record»)) ≤ length (now out) ⌝ }
+    requires { ⌜ Covers (now fields) (task .width) covered ⌝ }
     ensures { λ _. ⌜ DataPut task (now (fields .entry)) (now («record» .entry)) (now (out .entry)) (now (out .exit)) ⌝ }
 {
     let mode = task.mode;
@@ -56,7 +58,7 @@ fn put_data(task: Task, fields: &[u16], record: &[u8], out: &mut [u8])
             task.n,
             task.width,
             task.carries,
-            records::covers(fields, task.width),
+            covered,
             record,
             out,
         ),
@@ -66,7 +68,7 @@ fn put_data(task: Task, fields: &[u16], record: &[u8], out: &mut [u8])
             task.n,
             task.width,
             task.carries,
-            records::covers(fields, task.width),
+            covered,
             record,
             out,
         ),
@@ -74,16 +76,17 @@ fn put_data(task: Task, fields: &[u16], record: &[u8], out: &mut [u8])
 }
 
 // A record of a block: its word, and its output behind it.
-fn put_piece(task: Task, fields: &[u16], record: &[u8], at: usize, out: &mut [u8])
+fn put_piece(task: Task, fields: &[u16], covered: bool, record: &[u8], at: usize, out: &mut [u8])
     requires { ⌜ Writable task (now fields) (now «record») ⌝ }
     requires { ⌜ at + (task .cost + lengthOf task (length (now «record»))) ≤ length (now out) ⌝ }
+    requires { ⌜ Covers (now fields) (task .width) covered ⌝ }
     ensures { λ _. ⌜ PiecePut task (now (fields .entry)) (now («record» .entry)) at (now (out .entry)) (now (out .exit)) ⌝ }
 {
     let n = tasks::output_length(task, record.len());
     let format = task.format;
     put_size(format, at, n + 4, out);
     let from = at + task.cost;
-    put_data(task, fields, record, &mut out[from..]);
+    put_data(task, fields, covered, record, &mut out[from..]);
 }
 
 // Where a record opens a block, the block's offset goes into the header.
@@ -101,6 +104,7 @@ fn put_offset(base: usize, tally: Tally, more: Tally, out: &mut [u8])
 fn put_next(
     task: Task,
     fields: &[u16],
+    covered: bool,
     record: &[u8],
     base: usize,
     tally: Tally,
@@ -109,6 +113,7 @@ fn put_next(
 )
     requires { ⌜ Writable task (now fields) (now «record») ⌝ }
     requires { ⌜ NextFits task (length (now «record»)) base tally more (length (now out)) ⌝ }
+    requires { ⌜ Covers (now fields) (task .width) covered ⌝ }
     ensures { λ _. ⌜ NextPut task (now (fields .entry)) (now («record» .entry)) base tally more (now (out .entry)) (now (out .exit)) ⌝ }
 {
     put_offset(base, tally, more, out);
@@ -117,14 +122,16 @@ fn put_next(
     let size = more.size;
     put_size(format, end - size, size, out);
     let n = tasks::output_length(task, record.len());
-    put_piece(task, fields, record, end - (task.cost + n), out);
+    put_piece(task, fields, covered, record, end - (task.cost + n), out);
 }
 
-// One pass along the records from R on, in any format: the offsets from place 4 on, and behind them the blocks.
+// One pass along the records from R on, in any format: the offsets from place 4 on, and behind them the blocks. Whether the fields cover an output record is the
+// same for every record, and so asked once.
 fn write_walked(task: Task, fields: &[u16], s: &[u8], blocks: usize, out: &mut [u8])
     requires { ⌜ Lent task (now fields) (now s) blocks (length (now out)) ⌝ }
     ensures { λ _. ⌜ BodyPut task (now (fields .entry)) (now (s .entry)) blocks (now (out .entry)) (now (out .exit)) ⌝ }
 {
+    let covered = records::covers(fields, task.width);
     let form = tasks::form_of(task);
     let base = 4 * blocks + 8;
     let mut walk = walks::taken(form, s, task.first);
@@ -142,14 +149,11 @@ fn write_walked(task: Task, fields: &[u16], s: &[u8], blocks: usize, out: &mut [
                 begins,
                 next,
             } => {
-                let more = fillings::tallied(
-                    task,
-                    tally,
-                    begins,
-                    tasks::output_length(task, length),
-                );
+                let n = tasks::output_length(task, length);
+                let more = fillings::tallied(task, tally, begins, n);
                 let end = start + length;
-                put_next(task, fields, &s[start..end], base, tally, more, out);
+                let record = &s[start..end];
+                put_next(task, fields, covered, record, base, tally, more, out);
                 tally = more;
                 walk = next;
             }

@@ -16,22 +16,19 @@ enum-told c = search needs
 copy-reel-requires : tie.Need-copy-reel-requires
 copy-reel-requires c κs =
     let s = c .before .before .before .before .before .before in
-    copy-room (s .args .task) (s .args .fields .now) (s .args .«record» .now) (c .before .enum-told .given .1) refl _ (s .pre .1)
+    copy-room (s .args .task) (s .args .fields .now) (s .args .«record» .now) (c .before .enum-told .given .1) refl _ (s .pre .1 .0)
 
 enum-told-2 : tie.Need-enum-told-2
 enum-told-2 c = search needs
 
-covers-requires : tie.Need-covers-requires
-covers-requires c κs = search needs
-
 put-record-requires : tie.Need-put-record-requires
 put-record-requires c κs =
-    let s = c .before .before .before .before .before .before .before in
-    let told = c .before .before .enum-told2 .given .1 in (
+    let s = c .before .before .before .before .before .before in
+    let told = c .before .enum-told2 .given .1 in (
       s .pre .0 .fielded,
       (
         s .pre .0 .least (selects-as (s .args .task) (s .args .fields .now) (s .args .«record» .now) told true refl),
-        (record-room (s .args .task) (s .args .fields .now) (s .args .«record» .now) told refl _ (s .pre .1), (c .before .covers .ensures, s .pre .0 .long)),
+        (record-room (s .args .task) (s .args .fields .now) (s .args .«record» .now) told refl _ (s .pre .1 .0), (s .pre .1 .1, s .pre .0 .long)),
       ),
     )
 
@@ -41,22 +38,19 @@ enum-told-3 c = search needs
 copy-reel-requires-2 : tie.Need-copy-reel-requires-2
 copy-reel-requires-2 c κs =
     let s = c .before .before .before .before .before .before in
-    copy-room (s .args .task) (s .args .fields .now) (s .args .«record» .now) (c .before .enum-told3 .given .1) refl _ (s .pre .1)
+    copy-room (s .args .task) (s .args .fields .now) (s .args .«record» .now) (c .before .enum-told3 .given .1) refl _ (s .pre .1 .0)
 
 enum-told-4 : tie.Need-enum-told-4
 enum-told-4 c = search needs
 
-covers-requires-2 : tie.Need-covers-requires-2
-covers-requires-2 c κs = search needs
-
 put-record-requires-2 : tie.Need-put-record-requires-2
 put-record-requires-2 c κs =
-    let s = c .before .before .before .before .before .before .before in
-    let told = c .before .before .enum-told4 .given .1 in (
+    let s = c .before .before .before .before .before .before in
+    let told = c .before .enum-told4 .given .1 in (
       s .pre .0 .fielded,
       (
         s .pre .0 .least (selects-as (s .args .task) (s .args .fields .now) (s .args .«record» .now) told true refl),
-        (record-room (s .args .task) (s .args .fields .now) (s .args .«record» .now) told refl _ (s .pre .1), (c .before .covers2 .ensures, s .pre .0 .long)),
+        (record-room (s .args .task) (s .args .fields .now) (s .args .«record» .now) told refl _ (s .pre .1 .0), (s .pre .1 .1, s .pre .0 .long)),
       ),
     )
 
@@ -73,8 +67,8 @@ same-length-2 c = search needs
 
 returns-2 : tie.Need-returns-2
 returns-2 c =
-    let s = c .before .before .before .before .before .before .before .before .before .before in
-    data-selected (s .args .task) (s .args .fields .now) (s .args .«record» .now) _ _ (c .before .before .before .before .before .enum-told2 .given .1) refl (c .before .before .put-record .ensures)
+    let s = c .before .before .before .before .before .before .before .before .before in
+    data-selected (s .args .task) (s .args .fields .now) (s .args .«record» .now) _ _ (c .before .before .before .before .enum-told2 .given .1) refl (c .before .before .put-record .ensures)
 
 same-length-3 : tie.Need-same-length-3
 same-length-3 c = search needs
@@ -89,8 +83,8 @@ same-length-4 c = search needs
 
 returns-4 : tie.Need-returns-4
 returns-4 c =
-    let s = c .before .before .before .before .before .before .before .before .before .before in
-    data-selected (s .args .task) (s .args .fields .now) (s .args .«record» .now) _ _ (c .before .before .before .before .before .enum-told4 .given .1) refl (c .before .before .put-record2 .ensures)
+    let s = c .before .before .before .before .before .before .before .before .before in
+    data-selected (s .args .task) (s .args .fields .now) (s .args .«record» .now) _ _ (c .before .before .before .before .enum-told4 .given .1) refl (c .before .before .put-record2 .ensures)
 
 pub put-data-spec : {M : Type 1} → statement M
 put-data-spec =
@@ -99,12 +93,10 @@ put-data-spec =
     enum-told
     copy-reel-requires
     enum-told-2
-    covers-requires
     put-record-requires
     enum-told-3
     copy-reel-requires-2
     enum-told-4
-    covers-requires-2
     put-record-requires-2
     same-length
     returns

@@ -26,7 +26,9 @@ sub-put-piece : tie.Need-sub-put-piece
 sub-put-piece c = search needs
 
 put-piece-requires : tie.Need-put-piece-requires
-put-piece-requires c κs = search needs
+put-piece-requires c κs =
+    let s = c .before .before .before .before .before .before .before .before .before .before .before .before .before .before .before in
+    (s .pre .0, (search needs, s .pre .1 .1))
 
 same-length : tie.Need-same-length
 same-length c = search needs

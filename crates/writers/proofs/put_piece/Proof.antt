@@ -30,7 +30,9 @@ part-put-data-end : tie.Need-part-put-data-end
 part-put-data-end c = search needs
 
 put-data-requires : tie.Need-put-data-requires
-put-data-requires c κs = search needs
+put-data-requires c κs =
+    let s = c .before .before .before .before .before .before .before .before .before .before in
+    (s .pre .0, (search needs, s .pre .1 .1))
 
 same-length : tie.Need-same-length
 same-length c = search needs
@@ -39,7 +41,7 @@ returns : tie.Need-returns
 returns c =
     let s = c .before .before .before .before .before .before .before .before .before .before .before .before .before in
     let n = c .before .before .before .before .before .before .before .before .before .output-length in
-    piece-put (s .args .task) (s .args .fields .now) (s .args .«record» .now) (s .pre .0) (s .args .at) (s .args .out .now) (s .pre .1) (n .result) (n .ensures) _ _ (c .before .before .before .before .before .before .before .put-size .ensures) (c .before .before .put-data .ensures)
+    piece-put (s .args .task) (s .args .fields .now) (s .args .«record» .now) (s .pre .0) (s .args .at) (s .args .out .now) (s .pre .1 .0) (n .result) (n .ensures) _ _ (c .before .before .before .before .before .before .before .put-size .ensures) (c .before .before .put-data .ensures)
 
 pub put-piece-spec : {M : Type 1} → statement M
 put-piece-spec =

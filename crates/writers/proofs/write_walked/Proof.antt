@@ -13,29 +13,32 @@ use Rattle.writers.proofs.write_walked.Statement.{statement}
 use Rattle.writers.proofs.write_walked.Tie as tie
 
 abbrev Inv-loop : tie.InvT-loop
-Inv-loop task fields s blocks out₀ form base walk₀ tally₀ out walk tally = (y : Lent task fields s blocks (length out₀)) → Laying out₀ y out walk tally
+Inv-loop task fields s blocks out₀ covered form base walk₀ tally₀ out walk tally = (y : Lent task fields s blocks (length out₀)) → Laying out₀ y out walk tally
 
 abbrev μ-loop : tie.MeasureT-loop
-μ-loop task fields s blocks out₀ form base walk₀ tally₀ out walk tally = bytesLeft s walk
+μ-loop task fields s blocks out₀ covered form base walk₀ tally₀ out walk tally = bytesLeft s walk
+
+covers-requires : tie.Need-covers-requires Inv-loop μ-loop
+covers-requires c κs = search needs
 
 form-of-requires : tie.Need-form-of-requires Inv-loop μ-loop
 form-of-requires c κs = search needs
 
 mul-base : tie.Need-mul-base Inv-loop μ-loop
-mul-base c = omega (arith, few-blocks (c .before .before .before .before .pre .ready))
+mul-base c = omega (arith, few-blocks (c .before .before .before .before .before .pre .ready))
 
 add-base : tie.Need-add-base Inv-loop μ-loop
-add-base c = omega (arith, few-blocks (c .before .before .before .before .pre .ready))
+add-base c = omega (arith, few-blocks (c .before .before .before .before .before .pre .ready))
 
 taken-requires : tie.Need-taken-requires Inv-loop μ-loop
-taken-requires c κs = sound (c .before .before .before .before .pre .ready) (c .form-of .ensures)
+taken-requires c κs = sound (c .before .before .before .before .before .pre .ready) (c .form-of .ensures)
 
 loop-holds : tie.Need-loop-holds Inv-loop μ-loop
 loop-holds c = λ y. laying-start _ y (c .before .form-of .ensures) (c .taken .ensures)
 
 record-requires : tie.Need-record-requires Inv-loop μ-loop
 record-requires c κs =
-    let y = c .before .before .before .before .before .before .pre in
+    let y = c .before .before .before .before .before .before .before .pre in
     stands (y .ready) (c .before .before .form-of .ensures) (c .loop .inv y .walks)
 
 enum-known-read : tie.Need-enum-known-read Inv-loop μ-loop
@@ -43,35 +46,35 @@ enum-known-read c = search needs
 
 output-length-requires : tie.Need-output-length-requires Inv-loop μ-loop
 output-length-requires c κs =
-    let x = c .before .before .before .before .before .before .before .before .before .before .pre .ready in
+    let x = c .before .before .before .before .before .before .before .before .before .before .before .pre .ready in
     (omega (arith, width-small x), omega (arith, record-ends x (c .before .before .before .«record» .ensures) (c .before .read .given .1)))
 
 tallied-requires : tie.Need-tallied-requires Inv-loop μ-loop
 tallied-requires c κs =
-    let y = c .before .before .before .before .before .before .before .before .before .before .before .pre in
+    let y = c .before .before .before .before .before .before .before .before .before .before .before .before .pre in
     let l = c .before .before .before .before .before .loop .inv y in
-    laying-small (c .before .before .before .before .before .before .before .before .before .before .before .args .out .now) y l (c .output-length .result)
-    (omega (arith, c .output-length .ensures, length-most (c .before .before .before .before .before .before .before .before .before .before .before .args .task) (c .before .before .read .given .0 .1 .0), width-small (y .ready), record-ends (y .ready) (c .before .before .before .before .«record» .ensures) (c .before .before .read .given .1)))
+    laying-small (c .before .before .before .before .before .before .before .before .before .before .before .before .args .out .now) y l (c .output-length .result)
+    (omega (arith, c .output-length .ensures, length-most (c .before .before .before .before .before .before .before .before .before .before .before .before .args .task) (c .before .before .read .given .0 .1 .0), width-small (y .ready), record-ends (y .ready) (c .before .before .before .before .«record» .ensures) (c .before .before .read .given .1)))
 
 add-end : tie.Need-add-end Inv-loop μ-loop
-add-end c = omega (arith, record-ends (c .before .before .before .before .before .before .before .before .before .before .before .before .pre .ready) (c .before .before .before .before .before .«record» .ensures) (c .before .before .before .read .given .1))
+add-end c = omega (arith, record-ends (c .before .before .before .before .before .before .before .before .before .before .before .before .before .pre .ready) (c .before .before .before .before .before .«record» .ensures) (c .before .before .before .read .given .1))
 
-sub-put-next : tie.Need-sub-put-next Inv-loop μ-loop
-sub-put-next c = search needs
+sub-record : tie.Need-sub-record Inv-loop μ-loop
+sub-record c = search needs
 
-part-put-next-start : tie.Need-part-put-next-start Inv-loop μ-loop
-part-put-next-start c = search needs
+part-record-start : tie.Need-part-record-start Inv-loop μ-loop
+part-record-start c = search needs
 
-part-put-next-end : tie.Need-part-put-next-end Inv-loop μ-loop
-part-put-next-end c = inside (c .before .before .before .before .before .«record» .ensures) (c .before .before .before .read .given .1) .ends
+part-record-end : tie.Need-part-record-end Inv-loop μ-loop
+part-record-end c = inside (c .before .before .before .before .before .«record» .ensures) (c .before .before .before .read .given .1) .ends
 
 put-next-requires : tie.Need-put-next-requires Inv-loop μ-loop
 put-next-requires c κs =
-    let y = c .before .before .before .before .before .before .before .before .before .before .before .before .before .before .pre in
+    let y = c .before .before .before .before .before .before .before .before .before .before .before .before .before .before .before .pre in
     let l = c .before .before .before .before .before .before .before .before .loop .inv y in
     let u = turn (y .ready) (c .before .before .before .before .before .before .before .before .before .before .form-of .ensures) (l .walks) (c .before .before .before .before .before .before .before .«record» .ensures) (c .before .before .before .before .before .read .given .1) in
     let v = (tally-read _ _ _ _ _ _ _ (c .before .before .tallied .ensures) (c .before .before .before .output-length .ensures) (record-long (c .before .before .before .before .before .before .before .«record» .ensures) (c .before .before .before .before .before .read .given .1))) in
-    (laying-writable (c .before .before .before .before .before .before .before .before .before .before .before .before .before .before .args .out .now) y l u _ v (record-few (y .ready) (c .before .before .before .before .before .before .before .«record» .ensures) (c .before .before .before .before .before .read .given .1)), laying-fits (c .before .before .before .before .before .before .before .before .before .before .before .before .before .before .args .out .now) y l u _ v)
+    (laying-writable (c .before .before .before .before .before .before .before .before .before .before .before .before .before .before .before .args .out .now) y l u _ v (record-few (y .ready) (c .before .before .before .before .before .before .before .«record» .ensures) (c .before .before .before .before .before .read .given .1)), (laying-fits (c .before .before .before .before .before .before .before .before .before .before .before .before .before .before .before .args .out .now) y l u _ v, c .before .before .before .before .before .before .before .before .before .before .before .covers .ensures))
 
 loop-less : tie.Need-loop-less Inv-loop μ-loop
 loop-less c = inside (c .before .before .before .before .before .before .before .before .before .before .«record» .ensures) (c .before .before .before .before .before .before .before .before .read .given .1) .less
@@ -80,40 +83,40 @@ loop-again : tie.Need-loop-again Inv-loop μ-loop
 loop-again c = λ y.
     let l = c .before .before .before .before .before .before .before .before .before .before .before .loop .inv y in
     let u = turn (y .ready) (c .before .before .before .before .before .before .before .before .before .before .before .before .before .form-of .ensures) (l .walks) (c .before .before .before .before .before .before .before .before .before .before .«record» .ensures) (c .before .before .before .before .before .before .before .before .read .given .1) in
-    laying-next (c .before .before .before .before .before .before .before .before .before .before .before .before .before .before .before .before .before .args .out .now) y l u _ (tally-read _ _ _ _ _ _ _ (c .before .before .before .before .before .tallied .ensures) (c .before .before .before .before .before .before .output-length .ensures) (record-long (c .before .before .before .before .before .before .before .before .before .before .«record» .ensures) (c .before .before .before .before .before .before .before .before .read .given .1))) _ (c .before .before .put-next .ensures)
+    laying-next (c .before .before .before .before .before .before .before .before .before .before .before .before .before .before .before .before .before .before .args .out .now) y l u _ (tally-read _ _ _ _ _ _ _ (c .before .before .before .before .before .tallied .ensures) (c .before .before .before .before .before .before .output-length .ensures) (record-long (c .before .before .before .before .before .before .before .before .before .before .«record» .ensures) (c .before .before .before .before .before .before .before .before .read .given .1))) _ (c .before .before .put-next .ensures)
 
 enum-told : tie.Need-enum-told Inv-loop μ-loop
 enum-told c = search needs
 
 mul-put-word : tie.Need-mul-put-word Inv-loop μ-loop
-mul-put-word c = omega (arith, few-blocks (c .before .before .before .before .before .before .before .before .before .before .pre .ready))
+mul-put-word c = omega (arith, few-blocks (c .before .before .before .before .before .before .before .before .before .before .before .pre .ready))
 
 add-put-word : tie.Need-add-put-word Inv-loop μ-loop
-add-put-word c = omega (arith, few-blocks (c .before .before .before .before .before .before .before .before .before .before .pre .ready))
+add-put-word c = omega (arith, few-blocks (c .before .before .before .before .before .before .before .before .before .before .before .pre .ready))
 
 add-put-word-2 : tie.Need-add-put-word-2 Inv-loop μ-loop
 add-put-word-2 c =
-    let y = c .before .before .before .before .before .before .before .before .before .before .before .pre in
+    let y = c .before .before .before .before .before .before .before .before .before .before .before .before .pre in
     let l = c .before .before .before .before .before .loop .inv y in
-    omega (arith, laying-within (c .before .before .before .before .before .before .before .before .before .before .before .args .out .now) y l .long, y .ready .most)
+    omega (arith, laying-within (c .before .before .before .before .before .before .before .before .before .before .before .before .args .out .now) y l .long, y .ready .most)
 
 put-word-requires : tie.Need-put-word-requires Inv-loop μ-loop
 put-word-requires c κs =
-    let y = c .before .before .before .before .before .before .before .before .before .before .before .pre in
+    let y = c .before .before .before .before .before .before .before .before .before .before .before .before .pre in
     let l = c .before .before .before .before .before .loop .inv y in
-    omega (arith, header-fits (y .ready), y .ready .roomy, laying-length (c .before .before .before .before .before .before .before .before .before .before .before .args .out .now) y l)
+    omega (arith, header-fits (y .ready), y .ready .roomy, laying-length (c .before .before .before .before .before .before .before .before .before .before .before .before .args .out .now) y l)
 
 same-length : tie.Need-same-length Inv-loop μ-loop
 same-length c =
-    let y = c .before .before .before .before .before .before .before .before .before .before .before .before .before .before .pre in
+    let y = c .before .before .before .before .before .before .before .before .before .before .before .before .before .before .before .pre in
     let l = c .before .before .before .before .before .before .before .before .loop .inv y in
-    c .before .before .put-word .kept .0 ∙ laying-length (c .before .before .before .before .before .before .before .before .before .before .before .before .before .before .args .out .now) y l
+    c .before .before .put-word .kept .0 ∙ laying-length (c .before .before .before .before .before .before .before .before .before .before .before .before .before .before .before .args .out .now) y l
 
 returns : tie.Need-returns Inv-loop μ-loop
 unfolding BodyPut
 returns c = λ y.
     let l = c .before .before .before .before .before .before .before .before .loop .inv y in
-    laying-end (c .before .before .before .before .before .before .before .before .before .before .before .before .before .before .args .out .now) y l (ended (c .before .before .before .before .before .before .before .«record» .ensures) (c .before .before .before .before .before .enum-told .given .1) (form-given (y .ready .is) (c .before .before .before .before .before .before .before .before .before .before .form-of .ensures)) (l .walks)) _ (c .before .before .put-word .ensures)
+    laying-end (c .before .before .before .before .before .before .before .before .before .before .before .before .before .before .before .args .out .now) y l (ended (c .before .before .before .before .before .before .before .«record» .ensures) (c .before .before .before .before .before .enum-told .given .1) (form-given (y .ready .is) (c .before .before .before .before .before .before .before .before .before .before .form-of .ensures)) (l .walks)) _ (c .before .before .put-word .ensures)
 
 pub write-walked-spec : {M : Type 1} → statement M
 write-walked-spec =
@@ -121,6 +124,7 @@ write-walked-spec =
     (tie.spec
     Inv-loop
     μ-loop
+    covers-requires
     form-of-requires
     mul-base
     add-base
@@ -131,9 +135,9 @@ write-walked-spec =
     output-length-requires
     tallied-requires
     add-end
-    sub-put-next
-    part-put-next-start
-    part-put-next-end
+    sub-record
+    part-record-start
+    part-record-end
     put-next-requires
     loop-less
     loop-again
