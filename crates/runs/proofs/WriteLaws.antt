@@ -18,6 +18,7 @@ use Rattle.rules.specs.Output.{blockOf}
 use Rattle.rules.specs.Run.{Ran as RuleRan, ranOf, convert, outputBlocks}
 use Rattle.rules.specs.Accepted.{Accepted}
 use Rattle.rules.specs.Lent.{zoneF, runAnswer, outputAfter}
+use Rattle.rules.proofs.Bounds.{reel-most}
 use Rattle.rules.proofs.BlocksOutcome.{reads-give}
 use Rattle.rules.proofs.CopyLaws.{copy-reel}
 use Rattle.rules.proofs.LentParts.{front-over}
@@ -49,8 +50,8 @@ module _ {task : Task} {fields s : List ℕ} {blocks room : ℕ} {p : Plan} {x :
       ap (λ (z : RuleRan). z .reel) (w .writes)
       ∙ copy-reel p ok (sym (y .given .is .mode) ∙ e) s (w .recs) (reads-give p ok s a (w .reel) (w .recs) (w .reads))
 
-  pub copy-fits : modeOf (task .mode) ≡ tc → All Byte s → length s ≤ room
-  copy-fits e a = subst (λ (z : List ℕ). length z ≤ room) (copy-is e a) (parts .roomy)
+  pub copy-fits : modeOf (task .mode) ≡ tc → All Byte s → (length s ≤ 65536) × (length s ≤ room)
+  copy-fits e a = (reel-most s (parts .reel), subst (λ (z : List ℕ). length z ≤ room) (copy-is e a) (parts .roomy))
 
   -- the others
   reel-is : x .reel ≡ reelOf (blocksIn p (parts .recs))
@@ -89,7 +90,7 @@ module _ {task : Task} {fields s : List ℕ} {blocks : ℕ} {old new : List ℕ}
   unfolding ReelPut
   wrote e h = record { is = λ p x y. over-front (reelOf (blocksIn p (parts y .recs))) old new x (reel-is y) (h (lent-to y e)) }
 
-pub copy-room : {task : Task} {fields s : List ℕ} {blocks room : ℕ} → Finishing task fields s blocks room → modeOf (task .mode) ≡ tc → All Byte s → length s ≤ room
+pub copy-room : {task : Task} {fields s : List ℕ} {blocks room : ℕ} → Finishing task fields s blocks room → modeOf (task .mode) ≡ tc → All Byte s → (length s ≤ 65536) × (length s ≤ room)
 copy-room y e a = copy-fits (y .given) e a
 
 pub lent-on : {task : Task} {fields s : List ℕ} {blocks room : ℕ} → Finishing task fields s blocks room → isTC (modeOf (task .mode)) ≡ false → Lent task fields s blocks room

@@ -63,7 +63,7 @@ fn write(task: Task, fields: &[u16], s: &[u8], blocks: usize, out: &mut [u8])
 {
     let mode = task.mode;
     match mode {
-        Mode::TC => writers::copy_reel(s, out),
+        Mode::TC => copies::copy(s, out),
         Mode::TF => writers::write_reel(task, fields, s, blocks, out),
         Mode::TR => writers::write_reel(task, fields, s, blocks, out),
         Mode::TRF => writers::write_reel(task, fields, s, blocks, out),

@@ -1,5 +1,4 @@
 pub mod PlacingLaws
-pub mod CopyingLaws
 pub mod Gathering
 pub mod FilledLaws
 pub mod LaidLaws

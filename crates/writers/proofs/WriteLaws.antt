@@ -92,9 +92,6 @@ write-says old y q =
 
 -- ---- one outcome only
 
-pub copy-only-one : (s old : List ℕ) {x z : List ℕ} → x ≡ over 0 s old → z ≡ over 0 s old → x ≡ z
-copy-only-one s old a b = a ∙ sym b
-
 pub write-only-one : {task : Task} {xs s : List ℕ} {blocks : ℕ} (old : List ℕ) → Lent task xs s blocks (length old) → {x z : List ℕ} → ReelPut task xs s blocks old x → ReelPut task xs s blocks old z → x ≡ z
 unfolding ReelPut
 write-only-one old y a b = a y ∙ sym (b y)

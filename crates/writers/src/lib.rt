@@ -18,18 +18,6 @@ use terms::Mode;
 use terms::Task;
 use walks::RecordRead;
 
-// Copies a reel (TC), or a record, into the front of out.
-pub fn copy_reel(s: &[u8], out: &mut [u8])
-    requires { ⌜ length (now s) ≤ length (now out) ⌝ }
-    ensures { λ _. ⌜ now (out .exit) ≡ over 0 (now (s .entry)) (now (out .entry)) ⌝ }
-{
-    let mut i = 0;
-    while i < s.len() {
-        out[i] = s[i];
-        i += 1;
-    }
-}
-
 // The word of a block, or of a record: only FV has them.
 fn put_size(format: Format, at: usize, size: usize, out: &mut [u8])
     requires { ⌜ size < 65536 ⌝ }
@@ -52,7 +40,7 @@ fn put_data(task: Task, fields: &[u16], covered: bool, record: &[u8], out: &mut 
 {
     let mode = task.mode;
     match mode {
-        Mode::TC => copy_reel(record, out),
+        Mode::TC => copies::copy(record, out),
         Mode::TF => records::put_record(
             fields,
             task.n,
@@ -62,7 +50,7 @@ fn put_data(task: Task, fields: &[u16], covered: bool, record: &[u8], out: &mut 
             record,
             out,
         ),
-        Mode::TR => copy_reel(record, out),
+        Mode::TR => copies::copy(record, out),
         Mode::TRF => records::put_record(
             fields,
             task.n,

@@ -13,8 +13,8 @@ use Rattle.runs.proofs.write.Tie as tie
 enum-told : tie.Need-enum-told
 enum-told c = search needs
 
-copy-reel-requires : tie.Need-copy-reel-requires
-copy-reel-requires c κs = copy-room (c .before .before .before .before .before .before .pre) (ap modeOf (c .before .enum-told .given .1)) (bytes-of (c .before .before .before .before .before .before .args .s .now) (λ i. omega (arith, c .before .before .before .before .shared-slice-known2 .given i)))
+copy-requires : tie.Need-copy-requires
+copy-requires c κs = copy-room (c .before .before .before .before .before .before .pre) (ap modeOf (c .before .enum-told .given .1)) (bytes-of (c .before .before .before .before .before .before .args .s .now) (λ i. omega (arith, c .before .before .before .before .shared-slice-known2 .given i)))
 
 enum-told-2 : tie.Need-enum-told-2
 enum-told-2 c = search needs
@@ -38,7 +38,7 @@ same-length : tie.Need-same-length
 same-length c = search needs
 
 returns : tie.Need-returns
-returns c = copied (ap modeOf (c .before .before .before .before .enum-told .given .1)) (bytes-of (c .before .before .before .before .before .before .before .before .before .args .s .now) (λ i. omega (arith, c .before .before .before .before .before .before .before .shared-slice-known2 .given i))) (c .before .before .copy-reel .ensures)
+returns c = copied (ap modeOf (c .before .before .before .before .enum-told .given .1)) (bytes-of (c .before .before .before .before .before .before .before .before .before .args .s .now) (λ i. omega (arith, c .before .before .before .before .before .before .before .shared-slice-known2 .given i))) (c .before .before .copy .ensures)
 
 same-length-2 : tie.Need-same-length-2
 same-length-2 c = search needs
@@ -63,7 +63,7 @@ write-spec =
     tie.close
     (tie.spec
     enum-told
-    copy-reel-requires
+    copy-requires
     enum-told-2
     write-reel-requires
     enum-told-3

@@ -8,15 +8,14 @@ use Rattle.writers.proofs.put_data.Tie as tie
 use Rattle.writers.proofs.put_data.Reads as reads
 use Rattle.writers.proofs.put_data.Lts as lts
 use Rattle.records.proofs.put_record.Reads as put-record-reads
-use Rattle.writers.proofs.copy_reel.Reads as copy-reel-reads
 
 enum-told : tie.Need-enum-told
 enum-told c = search needs
 
-copy-reel-requires : tie.Need-copy-reel-requires
-copy-reel-requires c κs =
+copy-requires : tie.Need-copy-requires
+copy-requires c κs =
     let s = c .before .before .before .before .before .before in
-    copy-room (s .args .task) (s .args .fields .now) (s .args .«record» .now) (c .before .enum-told .given .1) refl _ (s .pre .1 .0)
+    (s .pre .0 .long, copy-room (s .args .task) (s .args .fields .now) (s .args .«record» .now) (c .before .enum-told .given .1) refl _ (s .pre .1 .0))
 
 enum-told-2 : tie.Need-enum-told-2
 enum-told-2 c = search needs
@@ -35,10 +34,10 @@ put-record-requires c κs =
 enum-told-3 : tie.Need-enum-told-3
 enum-told-3 c = search needs
 
-copy-reel-requires-2 : tie.Need-copy-reel-requires-2
-copy-reel-requires-2 c κs =
+copy-requires-2 : tie.Need-copy-requires-2
+copy-requires-2 c κs =
     let s = c .before .before .before .before .before .before in
-    copy-room (s .args .task) (s .args .fields .now) (s .args .«record» .now) (c .before .enum-told3 .given .1) refl _ (s .pre .1 .0)
+    (s .pre .0 .long, copy-room (s .args .task) (s .args .fields .now) (s .args .«record» .now) (c .before .enum-told3 .given .1) refl _ (s .pre .1 .0))
 
 enum-told-4 : tie.Need-enum-told-4
 enum-told-4 c = search needs
@@ -60,7 +59,7 @@ same-length c = search needs
 returns : tie.Need-returns
 returns c =
     let s = c .before .before .before .before .before .before .before .before .before in
-    data-copied (s .args .task) (s .args .fields .now) (s .args .«record» .now) _ _ (c .before .before .before .before .enum-told .given .1) refl (c .before .before .copy-reel .ensures)
+    data-copied (s .args .task) (s .args .fields .now) (s .args .«record» .now) _ _ (c .before .before .before .before .enum-told .given .1) refl (c .before .before .copy .ensures)
 
 same-length-2 : tie.Need-same-length-2
 same-length-2 c = search needs
@@ -76,7 +75,7 @@ same-length-3 c = search needs
 returns-3 : tie.Need-returns-3
 returns-3 c =
     let s = c .before .before .before .before .before .before .before .before .before in
-    data-copied (s .args .task) (s .args .fields .now) (s .args .«record» .now) _ _ (c .before .before .before .before .enum-told3 .given .1) refl (c .before .before .copy-reel2 .ensures)
+    data-copied (s .args .task) (s .args .fields .now) (s .args .«record» .now) _ _ (c .before .before .before .before .enum-told3 .given .1) refl (c .before .before .copy2 .ensures)
 
 same-length-4 : tie.Need-same-length-4
 same-length-4 c = search needs
@@ -91,11 +90,11 @@ put-data-spec =
     tie.close
     (tie.spec
     enum-told
-    copy-reel-requires
+    copy-requires
     enum-told-2
     put-record-requires
     enum-told-3
-    copy-reel-requires-2
+    copy-requires-2
     enum-told-4
     put-record-requires-2
     same-length
