@@ -13,18 +13,24 @@ use Rattle.rules.specs.Answer.{Answer, fine, refuse, refused, _>>=_, _>>_, unle
 use Rattle.rules.specs.Places.{All, noMore, also, Byte}
 use Rattle.rules.specs.Grammar.{tc}
 use Rattle.rules.specs.Reel.{isReel}
-use Rattle.rules.specs.Plan.{Plan, selects, isTC}
+use Rattle.rules.specs.Plan.{Plan, selects, isTC, recordLength}
 use Rattle.rules.specs.Blocks.{takenFrom}
 use Rattle.rules.specs.Output.{permits}
 use Rattle.rules.specs.Run.{Ran as RuleRan, outBlocks, ranOf, housed, convert, outputBlocks}
 use Rattle.rules.specs.Lent.{runAnswer}
 use Rattle.rules.proofs.AnswerLaws.{fine-each}
-use Rattle.rules.proofs.BlocksOutcome.{reads-give}
-use Rattle.rules.proofs.RunParts.{bad-block}
+use Rattle.rules.proofs.AllLaws.{all-imply}
+use Rattle.rules.proofs.ReelLaws.{all-joined, all-blocks}
+use Rattle.rules.proofs.BlocksOutcome.{holds-of, reads-give}
+use Rattle.rules.proofs.RunParts.{bad-block, taken-all-of}
+use Rattle.rules.proofs.OutBlockWords.{holds-whole}
 use Rattle.rules.proofs.Never.{all-of, permits-other, holds-taken, all-fit}
 use Rattle.rules.proofs.CopyLaws.{copy-blocks, copy-reel}
 use Rattle.reels.specs.declared.ReelRead.{ReelRead}
 use Rattle.reels.specs.declared.ReelRead.the-variants.{Read, NotReel, BadBlock}
+use Rattle.rows.specs.Flat.{FlatFair}
+use Rattle.records.specs.Promise.{Asks}
+use Rattle.records.proofs.PromiseLaws.{fair-of, asks-nothing, permits-of}
 use Rattle.walks.specs.Promise.{Good}
 use Rattle.measures.specs.declared.Measured.{Measured}
 use Rattle.measures.specs.declared.Measured.the-variants.{Fits}
@@ -124,6 +130,16 @@ module _ {task : Task} {fields s : List ℕ} where
   unfolding FirstUnpermitted
   first-asked e r h =
       record { is = λ p recs x g. h p recs (record { fair = record { is = x .is; good = g }; flat = x .flat; zone = x .zone; selecting = ap selects (sym (x .is .mode)) ∙ e }) }
+
+-- where no field asks anything of a half, no record taken has one that is not permitted
+pub none-asked : (task : Task) (fields s : List ℕ) → All Byte s → Asks fields false → FirstUnpermitted task fields s 0
+unfolding FirstUnpermitted takenFrom
+none-asked task fields s a h p recs x =
+    let ok = x .fair .good .accepted in
+    let fair = subst (λ (xs : List ℕ). FlatFair xs (p .fields) (recordLength (p .input)) (recordLength (p .output))) (sym (x .flat)) (fair-of p ok) in
+    fine-each 13 (permits p) (p .first)
+    (all-imply (λ r w. sym (permits-of p fields r true (x .zone) (x .selecting) fair (w .long (x .selecting)) (asks-nothing fields r (w .bytes) h)))
+    (all-joined (taken-all-of (p .first - 1) (holds-whole p ok (all-blocks s a) (holds-of p ok 1 (all-blocks s a) recs (x .fair .good .records))))))
 
 -- ---- 14
 

@@ -1,5 +1,6 @@
 // Refusals 11 to 15 of a run, in their order and each over the whole reel, before anything is written: document 01, "Refusal numbers".
 ghost use mathlib.Core.Path.{_≡_};
+ghost use Rattle.measures.specs.Promise.{Selected, FirstUnpermitted};
 ghost use Rattle.checks.specs.Promise.{refusedRun, housedRun, GivenPlan, ReadBy, Unpermitted, MeasuredRun, CheckedRun, Checked};
 use measures::Measured;
 use reels::ReelRead;
@@ -49,6 +50,17 @@ fn housed(room: usize, length: usize, records: usize, blocks: usize) -> Ran
     }
 }
 
+// Refusal 13 of a plan that selects fields: where all of them are copies, no record need be looked at.
+fn unpermitted_selected(task: Task, fields: &[u16], s: &[u8]) -> usize
+    requires { ⌜ Selected task (now fields) (now s) ⌝ }
+    ensures { λ r. ⌜ FirstUnpermitted task (now (fields .entry)) (now (s .entry)) r ⌝ }
+{
+    if !records::asks(fields) {
+        return 0;
+    }
+    measures::first_unpermitted(task, fields, s)
+}
+
 // Refusal 13: the first record taken with a half that is not permitted, or 0. TC and TR ask nothing of halves.
 fn unpermitted(task: Task, fields: &[u16], s: &[u8]) -> usize
     requires { ⌜ ReadBy task (now fields) (now s) ⌝ }
@@ -57,9 +69,9 @@ fn unpermitted(task: Task, fields: &[u16], s: &[u8]) -> usize
     let mode = task.mode;
     match mode {
         Mode::TC => 0,
-        Mode::TF => measures::first_unpermitted(task, fields, s),
+        Mode::TF => unpermitted_selected(task, fields, s),
         Mode::TR => 0,
-        Mode::TRF => measures::first_unpermitted(task, fields, s),
+        Mode::TRF => unpermitted_selected(task, fields, s),
     }
 }
 
