@@ -22,9 +22,8 @@ use Rattle.rules.proofs.FieldSteps.{length-fieldBytes, field-room, length-writt
 use Rattle.terms.specs.Meaning.{fieldOf}
 use Rattle.terms.specs.declared.Field.{Field}
 use Rattle.rows.specs.Flat.{flatOf, fieldAt, FlatFair}
-use Rattle.rows.proofs.FlatLaws.{fields-many, fields-left}
+use Rattle.rows.proofs.FlatLaws.{fields-many, fields-left, output-of-row}
 use Rattle.records.specs.Promise.{fartherOf, reachOf, Covers, groundOf}
-use Rattle.records.proofs.WalkLaws.{output-of-row}
 
 -- ---- one field
 

@@ -2,11 +2,11 @@
 -- the tail behind them, are the output record of the rules. It holds since each part comes back in the place from which it was lent.
 use mathlib.Core.Path.{_≡_, refl, ap, ap₂, sym, subst, _∙_}
 use mathlib.Core.Bool.{Bool, true, false, cond}
-use mathlib.Core.List.{List, _++_, append-nil}
+use mathlib.Core.List.{List, append-nil}
 use Prim.Native.Nat.{ℕ, _+_, _-_, _*_, _≤_}
 use native.Mathlib.Numerals.{add-one}
 use native.Mathlib.Omega.{arith}
-use lib.ListN.{length, take, drop, getD, replicate, length-replicate, length-drop, drop-of-length-le}
+use lib.ListN.{length, take, drop, getD, replicate, length-replicate, length-drop}
 use lib.Seq.{take-all}
 use borrow.Rule.Slice.PartMut.{putMid}
 use Rattle.rules.specs.Halves.{copy, pack, unpack, outputSize, Field as RuleField, over, halves, bytes, outHalves, value}
@@ -14,7 +14,7 @@ use Rattle.rules.specs.Rows.{KindWithin}
 use Rattle.rules.specs.Lent.{zoneF}
 use Rattle.rules.specs.RecordParts.{Fits, convertedBytes, fieldBytes, writtenBytes}
 use Rattle.rules.proofs.AllLaws.{all-imply}
-use Rattle.rules.proofs.PlaceLaws.{over-behind}
+use Rattle.rules.proofs.PlaceLaws.{over-behind, over-whole}
 use Rattle.rules.proofs.FieldSteps.{writtenBytes-step, length-fieldBytes, length-writtenBytes, out-bytes}
 use Rattle.rules.proofs.LentParts.{part-length, part-over, front-over}
 use Rattle.terms.specs.Meaning.{kindOf, fieldOf}
@@ -24,17 +24,12 @@ use Rattle.halves.specs.Promise.{packedInto, unpackedInto}
 use Rattle.halves.proofs.PromiseLaws.{packed-whole, unpacked-whole}
 use Rattle.rows.specs.Flat.{flatOf, kindAt, fieldAt, FlatFair, Fielded}
 use Rattle.records.specs.Promise.{Writes, outBytes, Puts, Covers, groundOf}
-use Rattle.rows.proofs.FlatLaws.{fields-many, field-is, fits-at, sizes-at}
-use Rattle.records.proofs.WalkLaws.{kind-copy, kind-pack, kind-unpack, output-of-row}
+use Rattle.rows.proofs.FlatLaws.{fields-many, field-is, output-of-row, fits-at, sizes-at}
+use Rattle.records.proofs.WalkLaws.{kind-copy, kind-pack, kind-unpack}
 use Rattle.records.proofs.CheckLaws.{lentInput, part-input, Reads, reads-inside, length-input}
 use Rattle.records.proofs.CoverLaws.{grounded}
 
 -- ---- one field
-
--- all of a part is written anew
-over-whole : (vs out : List ℕ) → length out ≤ length vs → over 0 vs out ≡ vs
-over-whole vs out h =
-    sym (front-over (length vs) out vs refl) ∙ ap (λ (x : List ℕ). vs ++ x) (drop-of-length-le out h) ∙ append-nil vs
 
 -- what is left in a field's part, by the number of its kind
 module _ (k : ℕ) (s d : List ℕ) (sizes : KindWithin (kindOf (kindAt k) (length s) (length d))) where

@@ -1,20 +1,18 @@
 -- Walking the fields by their numbers: where those before place i pass a test, every field passes it exactly if those from i on do. It holds since
 -- each field is read back from its own five numbers.
-use mathlib.Core.Path.{_≡_, refl, ap, sym, _∙_}
+use mathlib.Core.Path.{_≡_, refl, ap, _∙_}
 use mathlib.Core.Bool.{Bool, true, false}
-use mathlib.Core.List.{List, [], append-nil}
+use mathlib.Core.List.{List}
 use Prim.Native.Nat.{ℕ, _+_, _*_, _≤_}
 use native.Mathlib.Omega.{arith}
 use lib.ListN.{length, drop, getD, drop-of-length-le}
 use borrow.Author.Tests.{eq-eqb, ne-eqb}
 use Rattle.rules.specs.Base.{every}
-use Rattle.rules.specs.Halves.{outputSize, Field as RuleField}
-use Rattle.terms.specs.Meaning.{fieldOf, noField}
+use Rattle.rules.specs.Halves.{Field as RuleField}
+use Rattle.terms.specs.Meaning.{fieldOf}
 use Rattle.terms.specs.declared.Kind.the-variants.{Copy, Pack, Unpack}
-use Rattle.terms.specs.declared.Field.{Field}
 use Rattle.rows.specs.Flat.{flatOf, kindAt, fieldAt}
-use Rattle.rows.specs.Kept.{fieldFor}
-use Rattle.rows.proofs.FlatLaws.{fields-many, field-is, field-kept, fields-left}
+use Rattle.rows.proofs.FlatLaws.{fields-many, fields-left}
 
 -- ---- the numbers of one field
 
@@ -33,16 +31,6 @@ kind-pack k e = rw e
 pub kind-unpack : (k : ℕ) → (k ≡ 0 → ⊥) → (k ≡ 1 → ⊥) → kindAt k ≡ Unpack
 unfolding kindAt
 kind-unpack k no-copy no-pack = rw (ne-eqb k 0 no-copy, ne-eqb k 1 no-pack)
-
--- a copy's size stands in both places
-pub output-of-row : {xs : List ℕ} (fs : List RuleField) → xs ≡ flatOf fs → (i : ℕ) → 5 * i + 5 ≤ length xs → fieldAt xs i .output ≡ outputSize (fieldOf (fieldAt xs i) .kind)
-unfolding fieldFor
-output-of-row {xs} fs flat i l =
-    let d = fieldOf noField in
-    let kept : fieldAt xs i ≡ fieldFor (getD fs i d) =
-    ap (λ (ys : List ℕ). fieldAt ys i) (flat ∙ sym (append-nil (flatOf fs))) ∙ field-kept d fs [] i (omega (arith, fields-many fs flat))
-    in
-    ap (λ (f : Field). f .output) kept ∙ ap (λ (f : RuleField). outputSize (f .kind)) (sym (field-is fs flat i l d))
 
 -- ---- field by field
 

@@ -100,6 +100,16 @@ module _ {xs : List ℕ} (fs : List RuleField) (flat : xs ≡ flatOf fs) where
     pub field-is : (d : RuleField) → fieldOf (fieldAt xs i) ≡ getD fs i d
     field-is d = ap (λ (ys : List ℕ). fieldOf (fieldAt ys i)) flat ∙ field-back d fs i (omega (arith, fields-many))
 
+    -- a copy's size stands in both places
+    pub output-of-row : fieldAt xs i .output ≡ outputSize (fieldOf (fieldAt xs i) .kind)
+    unfolding fieldFor
+    output-of-row =
+        let d = fieldOf noField in
+        let kept : fieldAt xs i ≡ fieldFor (getD fs i d) =
+        ap (λ (ys : List ℕ). fieldAt ys i) (flat ∙ sym (append-nil (flatOf fs))) ∙ field-kept d fs [] i (omega (arith, fields-many))
+        in
+        ap (λ (f : Field). f .output) kept ∙ ap (λ (f : RuleField). outputSize (f .kind)) (sym (field-is d))
+
     -- the next field, and those behind it
     pub fields-left : drop i fs ≡ fieldOf (fieldAt xs i) ∷ drop (i + 1) fs
     fields-left =

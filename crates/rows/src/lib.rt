@@ -24,7 +24,7 @@ fn kind_number(f: Field) -> u16
 }
 
 // How many bytes a field writes: a copy has one size.
-pub fn output_size(f: Field) -> usize
+fn output_size(f: Field) -> usize
     ensures { λ r. ⌜ r ≡ outputSize (fieldOf f .kind) ⌝ }
 {
     let kind = f.kind;

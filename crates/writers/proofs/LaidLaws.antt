@@ -11,11 +11,10 @@ use Rattle.rules.specs.Grammar.{Format}
 use Rattle.rules.specs.Reel.{word, ends}
 use Rattle.rules.specs.Output.{blockOf, cost, total}
 use Rattle.rules.proofs.SizeLaws.{length-over}
-use Rattle.rules.proofs.PlaceLaws.{over-nothing, over-behind}
+use Rattle.rules.proofs.PlaceLaws.{over-nothing, over-behind, over-apart, over-part}
 use Rattle.rules.proofs.WordLaws.{length-word}
 use Rattle.rules.proofs.FillLaws.{total-snoc}
 use Rattle.writers.specs.Writing.{sizeWord, pieceOf}
-use Rattle.writers.proofs.PlacingLaws.{over-apart, over-part}
 use Rattle.writers.proofs.Gathering.{bodyOf, block-parts, body-one, body-snoc, length-sizeWord, length-piece}
 use Rattle.writers.proofs.FilledLaws.{bytesIn, bytes-snoc, length-snoc}
 

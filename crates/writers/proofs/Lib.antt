@@ -1,4 +1,3 @@
-pub mod PlacingLaws
 pub mod Gathering
 pub mod FilledLaws
 pub mod LaidLaws
