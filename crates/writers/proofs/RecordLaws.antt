@@ -38,6 +38,9 @@ size-as e at size out new q = q ∙ sym (ap (λ (f : Format). over at (sizeWord 
 pub size-room : {format : Format} → format ≡ FV → (at n : ℕ) → at + cost (formatOf format) ≤ n → at + 4 ≤ n
 size-room e at n l = subst (λ (f : Format). at + cost (formatOf f) ≤ n) e l
 
+pub word-cost : {format : Format} {c : ℕ} → format ≡ FV → c ≡ cost (formatOf format) → c ≡ 4
+word-cost e k = k ∙ ap (λ (f : Format). cost (formatOf f)) e
+
 -- ---- the output
 
 -- B's n bytes, and with CV the data past A's n

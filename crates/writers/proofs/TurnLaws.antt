@@ -1,14 +1,14 @@
 -- One turn of the pass: the record that the walk tells is the first of those that are left, and its output has the length that is computed for it. By the walk's laws;
 -- and numbers that stay far from wrapping, since the reel has at most 65,536 bytes.
 use mathlib.Core.Path.{_≡_, ap, sym, _∙_, subst}
-use mathlib.Core.Bool.{Bool}
+use mathlib.Core.Bool.{Bool, true≢false}
 use mathlib.Core.List.{List, _∷_}
 use Prim.Native.Nat.{ℕ, _+_, _-_, _*_, _≤_}
 use native.Mathlib.Omega.{arith}
 use lib.ListN.{length, take, drop}
 use Rattle.rules.specs.Grammar.{Format, Size, two, one}
 use Rattle.rules.specs.Reel.{reelOf}
-use Rattle.rules.specs.Plan.{recordLength}
+use Rattle.rules.specs.Plan.{recordLength, isTC}
 use Rattle.rules.specs.Rows.{SizeWithin}
 use Rattle.rules.specs.Blocks.{leastData, takenFrom}
 use Rattle.rules.specs.Output.{outRecord}
@@ -16,6 +16,8 @@ use Rattle.rules.proofs.Bounds.{reel-most}
 use Rattle.rules.proofs.ReelLaws.{length-reel}
 use Rattle.rules.proofs.MeasureLaws.{cost-high}
 use Rattle.terms.specs.declared.Task.{Task}
+use Rattle.terms.specs.declared.Format.the-variants.{FU}
+use Rattle.terms.specs.Meaning.{formatOf}
 use Rattle.reels.specs.declared.Form.{Form}
 use Rattle.walks.specs.declared.Walk.{Walk}
 use Rattle.walks.specs.declared.RecordRead.{RecordRead}
@@ -73,6 +75,10 @@ module _ {task : Task} {s : List ℕ} {blocks room : ℕ} (x : Ready task s bloc
         }
 
   -- ---- numbers that are far from wrapping
+
+  -- FU has TC alone
+  pub no-FU : task .format ≡ FU → ⊥
+  no-FU e = true≢false (sym (ap isTC (x .good .accepted .required .FU-with-TC (sym (x .is .format) ∙ ap formatOf e))) ∙ x .other)
 
   pub header-fits : 4 * blocks + 8 ≤ length (reelOf (blocksIn (x .p) (x .recs)))
   header-fits = omega (arith, length-reel (blocksIn (x .p) (x .recs)), count-is x)

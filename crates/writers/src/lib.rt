@@ -4,32 +4,17 @@ ghost use Prim.Native.Nat.{_+_, _≤_, _<_};
 ghost use lib.ListN.{length};
 ghost use Rattle.rules.specs.Halves.{over};
 ghost use Rattle.rules.specs.Output.{cost};
-ghost use Rattle.terms.specs.Meaning.{formatOf};
 ghost use Rattle.records.specs.Promise.{Covers};
 ghost use Rattle.tasks.specs.Promise.{lengthOf};
-ghost use Rattle.writers.specs.Writing.{sizeWord, offsetPut};
+ghost use Rattle.writers.specs.Writing.{offsetPut};
 ghost use Rattle.writers.specs.Promise.{Writable, DataPut, PiecePut, OffsetFits, NextFits, NextPut, Lent, BodyPut, ReelPut};
 
 mod fixed;
 
 use fillings::Tally;
 use terms::Format;
-use terms::Mode;
 use terms::Task;
 use walks::RecordRead;
-
-// The word of a block, or of a record: only FV has them.
-fn put_size(format: Format, at: usize, size: usize, out: &mut [u8])
-    requires { ⌜ size < 65536 ⌝ }
-    requires { ⌜ at + cost (formatOf format) ≤ length (now out) ⌝ }
-    ensures { λ _. ⌜ now (out .exit) ≡ over at (sizeWord (formatOf format) size) (now (out .entry)) ⌝ }
-{
-    match format {
-        Format::FF => {}
-        Format::FV => reels::put_length_word(out, at, size),
-        Format::FU => {}
-    }
-}
 
 // The output of a record, at the front of out: TR carries records unchanged.
 fn put_data(task: Task, fields: &[u16], covered: bool, record: &[u8], out: &mut [u8])
@@ -39,9 +24,8 @@ fn put_data(task: Task, fields: &[u16], covered: bool, record: &[u8], out: &mut 
     ensures { λ _. ⌜ DataPut task (now (fields .entry)) (now («record» .entry)) (now (out .entry)) (now (out .exit)) ⌝ }
 {
     let mode = task.mode;
-    match mode {
-        Mode::TC => copies::copy(record, out),
-        Mode::TF => records::put_record(
+    if combinations::selects(mode) {
+        records::put_record(
             fields,
             task.n,
             task.width,
@@ -49,30 +33,29 @@ fn put_data(task: Task, fields: &[u16], covered: bool, record: &[u8], out: &mut 
             covered,
             record,
             out,
-        ),
-        Mode::TR => copies::copy(record, out),
-        Mode::TRF => records::put_record(
-            fields,
-            task.n,
-            task.width,
-            task.carries,
-            covered,
-            record,
-            out,
-        ),
+        );
+        return;
     }
+    copies::copy(record, out);
 }
 
-// A record of a block: its word, and its output behind it.
-fn put_piece(task: Task, fields: &[u16], covered: bool, record: &[u8], at: usize, out: &mut [u8])
+// A record of a block, whose output has n bytes: its word, and its output behind it.
+fn put_piece(
+    task: Task,
+    fields: &[u16],
+    covered: bool,
+    record: &[u8],
+    n: usize,
+    at: usize,
+    out: &mut [u8],
+)
     requires { ⌜ Writable task (now fields) (now «record») ⌝ }
     requires { ⌜ at + (task .cost + lengthOf task (length (now «record»))) ≤ length (now out) ⌝ }
     requires { ⌜ Covers (now fields) (task .width) covered ⌝ }
+    requires { ⌜ (n ≡ lengthOf task (length (now «record»))) × (task .format ≡ Format.FV) ⌝ }
     ensures { λ _. ⌜ PiecePut task (now (fields .entry)) (now («record» .entry)) at (now (out .entry)) (now (out .exit)) ⌝ }
 {
-    let n = tasks::output_length(task, record.len());
-    let format = task.format;
-    put_size(format, at, n + 4, out);
+    reels::put_length_word(out, at, n + 4);
     let from = at + task.cost;
     put_data(task, fields, covered, record, &mut out[from..]);
 }
@@ -94,6 +77,7 @@ fn put_next(
     fields: &[u16],
     covered: bool,
     record: &[u8],
+    n: usize,
     base: usize,
     tally: Tally,
     more: Tally,
@@ -102,21 +86,21 @@ fn put_next(
     requires { ⌜ Writable task (now fields) (now «record») ⌝ }
     requires { ⌜ NextFits task (length (now «record»)) base tally more (length (now out)) ⌝ }
     requires { ⌜ Covers (now fields) (task .width) covered ⌝ }
+    requires { ⌜ (n ≡ lengthOf task (length (now «record»))) × (task .format ≡ Format.FV) ⌝ }
     ensures { λ _. ⌜ NextPut task (now (fields .entry)) (now («record» .entry)) base tally more (now (out .entry)) (now (out .exit)) ⌝ }
 {
     put_offset(base, tally, more, out);
-    let format = task.format;
     let end = base + more.bytes;
     let size = more.size;
-    put_size(format, end - size, size, out);
-    let n = tasks::output_length(task, record.len());
-    put_piece(task, fields, covered, record, end - (task.cost + n), out);
+    reels::put_length_word(out, end - size, size);
+    put_piece(task, fields, covered, record, n, end - (task.cost + n), out);
 }
 
-// One pass along the records from R on, in any format: the offsets from place 4 on, and behind them the blocks. Whether the fields cover an output record is the
+// In FV: one pass along the records from R on. The offsets go from place 4 on, and the blocks behind them. Whether the fields cover an output record is the
 // same for every record, and so asked once.
 fn write_walked(task: Task, fields: &[u16], s: &[u8], blocks: usize, out: &mut [u8])
     requires { ⌜ Lent task (now fields) (now s) blocks (length (now out)) ⌝ }
+    requires { ⌜ task .format ≡ Format.FV ⌝ }
     ensures { λ _. ⌜ BodyPut task (now (fields .entry)) (now (s .entry)) blocks (now (out .entry)) (now (out .exit)) ⌝ }
 {
     let covered = records::covers(fields, task.width);
@@ -141,7 +125,7 @@ fn write_walked(task: Task, fields: &[u16], s: &[u8], blocks: usize, out: &mut [
                 let more = fillings::tallied(task, tally, begins, n);
                 let end = start + length;
                 let record = &s[start..end];
-                put_next(task, fields, covered, record, base, tally, more, out);
+                put_next(task, fields, covered, record, n, base, tally, more, out);
                 tally = more;
                 walk = next;
             }
@@ -153,7 +137,7 @@ fn write_walked(task: Task, fields: &[u16], s: &[u8], blocks: usize, out: &mut [
     }
 }
 
-// The offsets from place 4 on, and behind them the blocks.
+// The offsets from place 4 on, and behind them the blocks. FU has TC alone, whose output is its input.
 fn put_body(task: Task, fields: &[u16], s: &[u8], blocks: usize, out: &mut [u8])
     requires { ⌜ Lent task (now fields) (now s) blocks (length (now out)) ⌝ }
     ensures { λ _. ⌜ BodyPut task (now (fields .entry)) (now (s .entry)) blocks (now (out .entry)) (now (out .exit)) ⌝ }
@@ -162,7 +146,7 @@ fn put_body(task: Task, fields: &[u16], s: &[u8], blocks: usize, out: &mut [u8])
     match format {
         Format::FF => fixed::write(task, fields, s, blocks, out),
         Format::FV => write_walked(task, fields, s, blocks, out),
-        Format::FU => write_walked(task, fields, s, blocks, out),
+        Format::FU => {}
     }
 }
 

@@ -1,5 +1,6 @@
 -- The offset, the word of the block, and the record, one after the other.
-use Rattle.writers.proofs.RecordLaws.{next-put}
+use native.Mathlib.Omega.{arith}
+use Rattle.writers.proofs.RecordLaws.{size-as, word-cost, next-put}
 use borrow.Author.Needs.{needs}
 use Rattle.writers.proofs.put_next.Statement.{statement}
 use Rattle.writers.proofs.put_next.Tie as tie
@@ -10,14 +11,15 @@ put-offset-requires c κs = search needs
 add-end : tie.Need-add-end
 add-end c = search needs
 
-sub-put-size : tie.Need-sub-put-size
-sub-put-size c = search needs
+sub-put-length-word : tie.Need-sub-put-length-word
+sub-put-length-word c = search needs
 
-put-size-requires : tie.Need-put-size-requires
-put-size-requires c κs = search needs
-
-output-length-requires : tie.Need-output-length-requires
-output-length-requires c κs = search needs
+put-length-word-requires : tie.Need-put-length-word-requires
+put-length-word-requires c κs =
+    let s = c .before .before .before .before .before .before .before .before .before in
+    let x = s .pre .1 .0 in
+    let four = word-cost (s .pre .1 .1 .1 .1) (s .pre .0 .costs) in
+    (omega (arith, x .inside, x .whole, x .piece, x .header), omega (arith, x .most, x .whole, x .header))
 
 add-put-piece : tie.Need-add-put-piece
 add-put-piece c = search needs
@@ -27,7 +29,7 @@ sub-put-piece c = search needs
 
 put-piece-requires : tie.Need-put-piece-requires
 put-piece-requires c κs =
-    let s = c .before .before .before .before .before .before .before .before .before .before .before .before .before .before .before in
+    let s = c .before .before .before .before .before .before .before .before .before .before .before .before .before .before in
     (s .pre .0, (search needs, s .pre .1 .1))
 
 same-length : tie.Need-same-length
@@ -35,9 +37,9 @@ same-length c = search needs
 
 returns : tie.Need-returns
 returns c =
-    let s = c .before .before .before .before .before .before .before .before .before .before .before .before .before .before .before .before .before .before in
-    let n = c .before .before .before .before .before .output-length in
-    next-put (s .args .task) (s .args .fields .now) (s .args .«record» .now) (s .args .base) (s .args .tally) (s .args .more) (s .args .out .now) _ _ _ (n .result) (n .ensures) (c .before .before .before .before .before .before .before .before .before .before .before .before .before .put-offset .ensures) (c .before .before .before .before .before .before .before .before .put-size .ensures) (c .before .before .put-piece .ensures)
+    let s = c .before .before .before .before .before .before .before .before .before .before .before .before .before .before .before .before .before in
+    next-put (s .args .task) (s .args .fields .now) (s .args .«record» .now) (s .args .base) (s .args .tally) (s .args .more) (s .args .out .now) _ _ _ (s .args .n) (s .pre .1 .1 .1 .0)
+    (c .before .before .before .before .before .before .before .before .before .before .before .before .put-offset .ensures) (size-as (s .pre .1 .1 .1 .1) _ _ _ _ (c .before .before .before .before .before .before .before .put-length-word .ensures)) (c .before .before .put-piece .ensures)
 
 pub put-next-spec : {M : Type 1} → statement M
 put-next-spec =
@@ -45,9 +47,8 @@ put-next-spec =
     (tie.spec
     put-offset-requires
     add-end
-    sub-put-size
-    put-size-requires
-    output-length-requires
+    sub-put-length-word
+    put-length-word-requires
     add-put-piece
     sub-put-piece
     put-piece-requires

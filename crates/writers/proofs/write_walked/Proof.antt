@@ -1,10 +1,11 @@
 -- Before each turn the blocks so far are laid, so that a turn lays the next record behind them, or in a block of its own.
-use mathlib.Core.Path.{_∙_}
+use mathlib.Core.Path.{ap, sym, _∙_}
 use native.Mathlib.Omega.{arith}
 use borrow.Author.Needs.{needs}
 use lib.ListN.{length}
 use Rattle.walks.specs.Promise.{bytesLeft}
 use Rattle.walks.proofs.PromiseLaws.{inside, ended}
+use Rattle.tasks.specs.Promise.{lengthOf}
 use Rattle.tasks.proofs.LengthLaws.{form-given, length-most}
 use Rattle.writers.specs.Promise.{Lent, BodyPut}
 use Rattle.writers.proofs.TurnLaws.{record-long, sound, stands, turn, header-fits, few-blocks, width-small, record-ends, record-few}
@@ -25,20 +26,20 @@ form-of-requires : tie.Need-form-of-requires Inv-loop μ-loop
 form-of-requires c κs = search needs
 
 mul-base : tie.Need-mul-base Inv-loop μ-loop
-mul-base c = omega (arith, few-blocks (c .before .before .before .before .before .pre .ready))
+mul-base c = omega (arith, few-blocks (c .before .before .before .before .before .pre .0 .ready))
 
 add-base : tie.Need-add-base Inv-loop μ-loop
-add-base c = omega (arith, few-blocks (c .before .before .before .before .before .pre .ready))
+add-base c = omega (arith, few-blocks (c .before .before .before .before .before .pre .0 .ready))
 
 taken-requires : tie.Need-taken-requires Inv-loop μ-loop
-taken-requires c κs = sound (c .before .before .before .before .before .pre .ready) (c .form-of .ensures)
+taken-requires c κs = sound (c .before .before .before .before .before .pre .0 .ready) (c .form-of .ensures)
 
 loop-holds : tie.Need-loop-holds Inv-loop μ-loop
 loop-holds c = λ y. laying-start _ y (c .before .form-of .ensures) (c .taken .ensures)
 
 record-requires : tie.Need-record-requires Inv-loop μ-loop
 record-requires c κs =
-    let y = c .before .before .before .before .before .before .before .pre in
+    let y = c .before .before .before .before .before .before .before .pre .0 in
     stands (y .ready) (c .before .before .form-of .ensures) (c .loop .inv y .walks)
 
 enum-known-read : tie.Need-enum-known-read Inv-loop μ-loop
@@ -46,18 +47,18 @@ enum-known-read c = search needs
 
 output-length-requires : tie.Need-output-length-requires Inv-loop μ-loop
 output-length-requires c κs =
-    let x = c .before .before .before .before .before .before .before .before .before .before .before .pre .ready in
+    let x = c .before .before .before .before .before .before .before .before .before .before .before .pre .0 .ready in
     (omega (arith, width-small x), omega (arith, record-ends x (c .before .before .before .«record» .ensures) (c .before .read .given .1)))
 
 tallied-requires : tie.Need-tallied-requires Inv-loop μ-loop
 tallied-requires c κs =
-    let y = c .before .before .before .before .before .before .before .before .before .before .before .before .pre in
+    let y = c .before .before .before .before .before .before .before .before .before .before .before .before .pre .0 in
     let l = c .before .before .before .before .before .loop .inv y in
     laying-small (c .before .before .before .before .before .before .before .before .before .before .before .before .args .out .now) y l (c .output-length .result)
     (omega (arith, c .output-length .ensures, length-most (c .before .before .before .before .before .before .before .before .before .before .before .before .args .task) (c .before .before .read .given .0 .1 .0), width-small (y .ready), record-ends (y .ready) (c .before .before .before .before .«record» .ensures) (c .before .before .read .given .1)))
 
 add-end : tie.Need-add-end Inv-loop μ-loop
-add-end c = omega (arith, record-ends (c .before .before .before .before .before .before .before .before .before .before .before .before .before .pre .ready) (c .before .before .before .before .before .«record» .ensures) (c .before .before .before .read .given .1))
+add-end c = omega (arith, record-ends (c .before .before .before .before .before .before .before .before .before .before .before .before .before .pre .0 .ready) (c .before .before .before .before .before .«record» .ensures) (c .before .before .before .read .given .1))
 
 sub-record : tie.Need-sub-record Inv-loop μ-loop
 sub-record c = search needs
@@ -70,11 +71,11 @@ part-record-end c = inside (c .before .before .before .before .before .«record�
 
 put-next-requires : tie.Need-put-next-requires Inv-loop μ-loop
 put-next-requires c κs =
-    let y = c .before .before .before .before .before .before .before .before .before .before .before .before .before .before .before .pre in
+    let y = c .before .before .before .before .before .before .before .before .before .before .before .before .before .before .before .pre .0 in
     let l = c .before .before .before .before .before .before .before .before .loop .inv y in
     let u = turn (y .ready) (c .before .before .before .before .before .before .before .before .before .before .form-of .ensures) (l .walks) (c .before .before .before .before .before .before .before .«record» .ensures) (c .before .before .before .before .before .read .given .1) in
     let v = (tally-read _ _ _ _ _ _ _ (c .before .before .tallied .ensures) (c .before .before .before .output-length .ensures) (record-long (c .before .before .before .before .before .before .before .«record» .ensures) (c .before .before .before .before .before .read .given .1))) in
-    (laying-writable (c .before .before .before .before .before .before .before .before .before .before .before .before .before .before .before .args .out .now) y l u _ v (record-few (y .ready) (c .before .before .before .before .before .before .before .«record» .ensures) (c .before .before .before .before .before .read .given .1)), (laying-fits (c .before .before .before .before .before .before .before .before .before .before .before .before .before .before .before .args .out .now) y l u _ v, c .before .before .before .before .before .before .before .before .before .before .before .covers .ensures))
+    (laying-writable (c .before .before .before .before .before .before .before .before .before .before .before .before .before .before .before .args .out .now) y l u _ v (record-few (y .ready) (c .before .before .before .before .before .before .before .«record» .ensures) (c .before .before .before .before .before .read .given .1)), (laying-fits (c .before .before .before .before .before .before .before .before .before .before .before .before .before .before .before .args .out .now) y l u _ v, (c .before .before .before .before .before .before .before .before .before .before .before .covers .ensures, (c .before .before .before .output-length .ensures ∙ sym (ap (lengthOf (c .before .before .before .before .before .before .before .before .before .before .before .before .before .before .before .args .task)) (record-long (c .before .before .before .before .before .before .before .«record» .ensures) (c .before .before .before .before .before .read .given .1))), c .before .before .before .before .before .before .before .before .before .before .before .before .before .before .before .pre .1))))
 
 loop-less : tie.Need-loop-less Inv-loop μ-loop
 loop-less c = inside (c .before .before .before .before .before .before .before .before .before .before .«record» .ensures) (c .before .before .before .before .before .before .before .before .read .given .1) .less
@@ -89,26 +90,26 @@ enum-told : tie.Need-enum-told Inv-loop μ-loop
 enum-told c = search needs
 
 mul-put-word : tie.Need-mul-put-word Inv-loop μ-loop
-mul-put-word c = omega (arith, few-blocks (c .before .before .before .before .before .before .before .before .before .before .before .pre .ready))
+mul-put-word c = omega (arith, few-blocks (c .before .before .before .before .before .before .before .before .before .before .before .pre .0 .ready))
 
 add-put-word : tie.Need-add-put-word Inv-loop μ-loop
-add-put-word c = omega (arith, few-blocks (c .before .before .before .before .before .before .before .before .before .before .before .pre .ready))
+add-put-word c = omega (arith, few-blocks (c .before .before .before .before .before .before .before .before .before .before .before .pre .0 .ready))
 
 add-put-word-2 : tie.Need-add-put-word-2 Inv-loop μ-loop
 add-put-word-2 c =
-    let y = c .before .before .before .before .before .before .before .before .before .before .before .before .pre in
+    let y = c .before .before .before .before .before .before .before .before .before .before .before .before .pre .0 in
     let l = c .before .before .before .before .before .loop .inv y in
     omega (arith, laying-within (c .before .before .before .before .before .before .before .before .before .before .before .before .args .out .now) y l .long, y .ready .most)
 
 put-word-requires : tie.Need-put-word-requires Inv-loop μ-loop
 put-word-requires c κs =
-    let y = c .before .before .before .before .before .before .before .before .before .before .before .before .pre in
+    let y = c .before .before .before .before .before .before .before .before .before .before .before .before .pre .0 in
     let l = c .before .before .before .before .before .loop .inv y in
     omega (arith, header-fits (y .ready), y .ready .roomy, laying-length (c .before .before .before .before .before .before .before .before .before .before .before .before .args .out .now) y l)
 
 same-length : tie.Need-same-length Inv-loop μ-loop
 same-length c =
-    let y = c .before .before .before .before .before .before .before .before .before .before .before .before .before .before .before .pre in
+    let y = c .before .before .before .before .before .before .before .before .before .before .before .before .before .before .before .pre .0 in
     let l = c .before .before .before .before .before .before .before .before .loop .inv y in
     c .before .before .put-word .kept .0 ∙ laying-length (c .before .before .before .before .before .before .before .before .before .before .before .before .before .before .before .args .out .now) y l
 

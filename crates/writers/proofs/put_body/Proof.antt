@@ -1,0 +1,52 @@
+-- By the format; no plan but of TC is in FU.
+use Rattle.writers.specs.Promise.{BodyPut}
+use Rattle.writers.proofs.TurnLaws.{no-FU}
+use borrow.Author.Needs.{needs}
+use Rattle.writers.proofs.put_body.Statement.{statement}
+use Rattle.writers.proofs.put_body.Tie as tie
+
+enum-told : tie.Need-enum-told
+enum-told c = search needs
+
+write-requires : tie.Need-write-requires
+write-requires c κs = search needs
+
+enum-told-2 : tie.Need-enum-told-2
+enum-told-2 c = search needs
+
+write-walked-requires : tie.Need-write-walked-requires
+write-walked-requires c κs = search needs
+
+enum-told-3 : tie.Need-enum-told-3
+enum-told-3 c = search needs
+
+same-length : tie.Need-same-length
+same-length c = search needs
+
+returns : tie.Need-returns
+returns c = search needs
+
+same-length-2 : tie.Need-same-length-2
+same-length-2 c = search needs
+
+returns-2 : tie.Need-returns-2
+returns-2 c = search needs
+
+returns-3 : tie.Need-returns-3
+unfolding BodyPut
+returns-3 c = λ y. absurd (no-FU (y .ready) (c .enum-told3 .given .1))
+
+pub put-body-spec : {M : Type 1} → statement M
+put-body-spec =
+    tie.close
+    (tie.spec
+    enum-told
+    write-requires
+    enum-told-2
+    write-walked-requires
+    enum-told-3
+    same-length
+    returns
+    same-length-2
+    returns-2
+    returns-3)
