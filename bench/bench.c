@@ -4,6 +4,7 @@
  */
 #include "plain.h"
 
+#include <pthread.h>
 #include <stdbool.h>
 #include <stdio.h>
 #include <stdlib.h>
@@ -327,6 +328,49 @@ static void once_row(const struct work *w)
     sink += say_name(w);
 }
 
+/* ---- the stack of a call */
+
+enum { STACK = 1 << 20, PAINT = 0xA7 };
+static _Alignas(4096) uint8_t stack[STACK];
+
+/* What a thread runs: nothing, or one call. */
+struct called {
+    uint64_t (*call)(const struct work *);
+    const struct work *work;
+};
+
+static void *call_once(void *given)
+{
+    const struct called *c = given;
+    if (c->call)
+        sink += c->call(c->work);
+    return NULL;
+}
+
+/* How many bytes of a painted stack, which grows downwards, a thread leaves changed. */
+static size_t painted_use(struct called c)
+{
+    pthread_t thread;
+    pthread_attr_t how;
+    memset(stack, PAINT, STACK);
+    if (pthread_attr_init(&how) || pthread_attr_setstack(&how, stack, STACK) || pthread_create(&thread, &how, call_once, &c) || pthread_join(thread, NULL))
+        exit(1);
+    size_t i = 0;
+    while (i < STACK && stack[i] == PAINT)
+        i++;
+    return STACK - i;
+}
+
+/* Without what a thread takes that calls nothing. */
+static void stack_row(const struct work *w)
+{
+    struct times t;
+    compare(w, &t);
+    size_t none = painted_use((struct called){NULL, w});
+    size_t ours = painted_use((struct called){call_ours, w}) - none, plain = painted_use((struct called){call_plain, w}) - none;
+    printf("| %s | %zu | %zu |\n", w->name, ours, plain);
+}
+
 static void (*row)(const struct work *w) = timed_row;
 
 static const char mixed[] = "1,(P,16,9),1/17,(P,16,9),10/33,(P,16,9),19/49,(U,8,15),28/57,(U,8,15),43";
@@ -481,6 +525,13 @@ int main(int argc, char **argv)
     const char *how = argc > 1 ? argv[1] : "";
     if (strcmp(how, "once") == 0) {
         row = once_row;
+        workloads();
+        return 0;
+    }
+    if (strcmp(how, "stack") == 0) {
+        row = stack_row;
+        puts("| workload | ours, bytes of stack | plain C, bytes of stack |");
+        puts("|---|---|---|");
         workloads();
         return 0;
     }
