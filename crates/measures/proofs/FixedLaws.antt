@@ -1,16 +1,15 @@
 -- In FF what an output measures is found by division, and of TF by looking at each offset of the input. By the laws of records of equal length, and by going along the offsets.
-use mathlib.Core.Path.{_≡_, refl, ap, ap₂, sym, _∙_}
+use mathlib.Core.Path.{_≡_, refl, ap, sym, _∙_}
 use mathlib.Core.Bool.{true}
-use mathlib.Core.List.{List, [], _∷_}
+use mathlib.Core.List.{List, []}
 use Prim.Native.Nat.{ℕ, suc, _+_, _*_, _≤_, _<_}
-use native.Mathlib.Numerals.{add-one}
 use native.Mathlib.Omega.{arith}
 use lib.ListN.{length, drop}
 use borrow.Author.Tests.{lt-ltb, le-ltb}
 use Rattle.rules.specs.Reel.{blockCount, offsets, isReel}
 use Rattle.rules.specs.ReelPlaces.{wordAt}
 use Rattle.rules.proofs.ReelLaws.{header-is}
-use Rattle.rules.proofs.HeaderSteps.{next-at, count-at, offsets-step, offsets-end}
+use Rattle.rules.proofs.HeaderSteps.{count-at, offsets-next, offsets-end}
 use Rattle.rules.proofs.EvenBlocks.{countBehind}
 
 -- ---- the offsets of the input behind a place
@@ -38,11 +37,6 @@ module _ {s : List ℕ} {from count blocks i : ℕ} (k : Behind s from count blo
   pub behind-small : count ≤ 65536
   behind-small = omega (arith, there, k .all, header-is s (k .reel) .most)
 
-  step : i < count → (o : ℕ) → o ≡ wordAt s (4 * i + 8) → drop i (offsets s) ≡ o ∷ drop (i + 1) (offsets s)
-  step l o e =
-      offsets-step s there i (omega (arith, k .all))
-      ∙ ap₂ (λ (x j : ℕ). x ∷ drop j (offsets s)) (next-at s i ∙ sym e) (sym (add-one i))
-
   pub behind-more : i < count → (o : ℕ) → o ≡ wordAt s (4 * i + 8) → from < o → Behind s from count (blocks + 1) (i + 1)
   behind-more l o e h =
       record {
@@ -50,7 +44,7 @@ module _ {s : List ℕ} {from count blocks i : ℕ} (k : Behind s from count blo
         all = k .all;
         upto = omega arith;
         few = omega (arith, k .few);
-        left = sym (sym (k .left) ∙ ap (λ (x : List ℕ). blocks + countBehind from x) (step l o e) ∙ rw (lt-ltb from o h) (let z : blocks + suc (countBehind from (drop (i + 1) (offsets s))) ≡ blocks + 1 + countBehind from (drop (i + 1) (offsets s)) = omega arith in z));
+        left = sym (sym (k .left) ∙ ap (λ (x : List ℕ). blocks + countBehind from x) (offsets-next s there i o (omega (arith, k .all)) e) ∙ rw (lt-ltb from o h) (let z : blocks + suc (countBehind from (drop (i + 1) (offsets s))) ≡ blocks + 1 + countBehind from (drop (i + 1) (offsets s)) = omega arith in z));
       }
 
   pub behind-same : i < count → (o : ℕ) → o ≡ wordAt s (4 * i + 8) → o ≤ from → Behind s from count blocks (i + 1)
@@ -60,7 +54,7 @@ module _ {s : List ℕ} {from count blocks i : ℕ} (k : Behind s from count blo
         all = k .all;
         upto = omega arith;
         few = omega (arith, k .few);
-        left = sym (sym (k .left) ∙ ap (λ (x : List ℕ). blocks + countBehind from x) (step l o e) ∙ rw (le-ltb from o h) refl);
+        left = sym (sym (k .left) ∙ ap (λ (x : List ℕ). blocks + countBehind from x) (offsets-next s there i o (omega (arith, k .all)) e) ∙ rw (le-ltb from o h) refl);
       }
 
   pub behind-end : count ≤ i → blocks ≡ countBehind from (offsets s)

@@ -81,12 +81,8 @@ fn measure_walked(task: Task, s: &[u8]) -> Measured
                 begins,
                 next,
             } => {
-                let more = fillings::tallied(
-                    task,
-                    tally,
-                    begins,
-                    tasks::output_length(task, length),
-                );
+                let n = tasks::output_length(task, length);
+                let more = fillings::tallied(task, tally, begins, n);
                 if more.size >= over {
                     return Measured::TooLong { record: number };
                 }

@@ -1,10 +1,9 @@
 -- Offsets by the input's blocks: each turn looks at one offset of the input more, and puts one or none. By going along the input's offsets.
-use mathlib.Core.Path.{_≡_, refl, ap, ap₂, sym, _∙_}
+use mathlib.Core.Path.{_≡_, refl, ap, sym, _∙_}
 use mathlib.Core.Bool.{Bool, true, false, cond}
 use mathlib.Core.List.{List, [], _∷_, _++_, append-nil}
 use Prim.Native.Nat.{ℕ, suc, _+_, _-_, _*_, _/_, _≤_, _<_}
 use native.Mathlib.Nat.{mul-le-mul, div-le-self}
-use native.Mathlib.Numerals.{add-one}
 use native.Mathlib.Omega.{arith}
 use lib.Dec.{ltb}
 use lib.ListN.{length, drop, length-append}
@@ -16,7 +15,7 @@ use Rattle.rules.proofs.PlaceLaws.{over-nothing, over-behind}
 use Rattle.rules.proofs.WordLaws.{length-word}
 use Rattle.rules.proofs.ReelLaws.{header-is}
 use Rattle.rules.proofs.ReelSteps.{offset-most}
-use Rattle.rules.proofs.HeaderSteps.{next-at, count-at, offsets-step, offsets-end}
+use Rattle.rules.proofs.HeaderSteps.{next-at, count-at, offsets-next, offsets-end}
 use Rattle.rules.proofs.EvenBlocks.{endsBehind}
 use Rattle.offsets.specs.Small.{EndSmall, EachSmall}
 use Rattle.offsets.proofs.Sending.{Sent, sent-start, sent-size, sent-length, sent-more, sent-end}
@@ -88,9 +87,6 @@ module _ {n w : ℕ} {s : List ℕ} {from base count : ℕ} {old out : List ℕ}
   pub each-count : count ≤ 65536
   each-count = omega (arith, there, k .all, header-is s (k .reel) .most)
 
-  step : i < count → (o : ℕ) → o ≡ wordAt s (4 * i + 8) → drop i (offsets s) ≡ o ∷ drop (i + 1) (offsets s)
-  step l o e = offsets-step s there i (omega (arith, k .all)) ∙ ap₂ (λ (x j : ℕ). x ∷ drop j (offsets s)) (next-at s i ∙ sym e) (sym (add-one i))
-
   module _ (l : i < count) (o : ℕ) (e : o ≡ wordAt s (4 * i + 8)) where
     pub each-small : EachSmall n w base → EndSmall n w base o at
     each-small x =
@@ -103,7 +99,7 @@ module _ {n w : ℕ} {s : List ℕ} {from base count : ℕ} {old out : List ℕ}
         }
 
     left-is : endsBehind n w from base (drop i (offsets s)) ≡ endsBehind n w from base (o ∷ []) ++ endsBehind n w from base (drop (i + 1) (offsets s))
-    left-is = ap (endsBehind n w from base) (step l o e) ∙ behind-cons n w from base o (drop (i + 1) (offsets s))
+    left-is = ap (endsBehind n w from base) (offsets-next s there i o (omega (arith, k .all)) e) ∙ behind-cons n w from base o (drop (i + 1) (offsets s))
 
     pub each-room : at + length (endsBehind n w from base (o ∷ [])) ≤ length out
     each-room =
