@@ -25,7 +25,7 @@ use Rattle.walks.specs.Walking.{fixedStart}
 use Rattle.fillings.proofs.FixedLaws.{record-some, data-even}
 use Rattle.tasks.specs.Promise.{formOf}
 use Rattle.measures.specs.Promise.{Fair, Selected, answerAt, FirstUnpermitted}
-use Rattle.measures.proofs.FairLaws.{answer-at, asks, first-low, first-high, s-short}
+use Rattle.measures.proofs.FairLaws.{answer-at, asks, first-high, s-short}
 use Rattle.measures.proofs.SeekLaws.{Lent, lent-of, readable, permits-is}
 
 -- ---- the search
@@ -109,9 +109,6 @@ module _ (task : Task) (fields s : List ℕ) {form : Form} {from : ℕ} {block :
 
     pub seek-some : 1 ≤ task .n
     seek-some = record-some (fair .is) (fair .good) f
-
-    pub seek-low : 1 ≤ task .first
-    seek-low = first-low (asks g fair)
 
     pub seek-high : task .first ≤ 65536
     seek-high = first-high (asks g fair)

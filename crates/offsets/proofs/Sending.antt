@@ -41,7 +41,3 @@ module _ {from : ℕ} {all old out : List ℕ} {at : ℕ} {left : List ℕ} (s :
 
   pub sent-end : left ≡ [] → out ≡ over from all old
   sent-end e = s .is ∙ ap (λ (x : List ℕ). over from x old) (sym (s .split ∙ ap (s .done ++_) e ∙ append-nil (s .done)))
-
-  -- the same bytes left, told otherwise
-  pub sent-as : {other : List ℕ} {next : ℕ} → left ≡ other → next ≡ at → Sent from all old out next other
-  sent-as e n = record { done = s .done; is = s .is; here = n ∙ s .here; split = s .split ∙ ap (s .done ++_) e; roomy = s .roomy }

@@ -133,9 +133,6 @@ module _ (limit w : ℕ) (some : 1 ≤ w) (holds : w ≤ limit) where
   pub per-full : limit < limit / w * w + w
   per-full = lt-div-mul-add some
 
-  pub even-step : (rs : List (List ℕ)) → 1 ≤ length rs → All (λ r. length r ≡ w) rs → filled limit 0 0 rs ≡ take (limit / w) rs ∷ filled limit 0 0 (drop (limit / w) rs)
-  even-step = filled-step limit 0 0 w (limit / w) per-one (omega (arith, per-fit)) (omega (arith, per-full))
-
   pub even-count : (rs : List (List ℕ)) → All (λ r. length r ≡ w) rs → length (filled limit 0 0 rs) ≡ (length rs + limit / w - 1) / (limit / w)
   even-count = filled-count limit 0 0 w (limit / w) per-one (omega (arith, per-fit)) (omega (arith, per-full))
 
