@@ -28,6 +28,10 @@ module _ (limit c : ℕ) (t : Tally) (n : ℕ) where
   unfolding overfillsOf
   over-later e = sym (ap (λ (b : Bool). b || ltb limit (t .size + (c + n))) (ne-eqb (t .blocks) 0 e))
 
+  -- the same of a sum that is made otherwise
+  pub over-sum : (t .blocks ≡ 0 → ⊥) → (k : ℕ) → k ≡ t .size + (c + n) → ltb limit k ≡ overfillsOf limit c t n
+  over-sum e k q = ap (ltb limit) q ∙ over-later e
+
 module _ (task : Task) (t : Tally) (begins : Bool) (n : ℕ) where
   pub opens-as : (m : Mode) → modeOf (task .mode) ≡ m → opensIn m (task .limit) (task .cost) t begins n ≡ opensOf task t begins n
   unfolding opensOf
@@ -113,3 +117,8 @@ tally-grown task t begins n = go (opensIn (modeOf (task .mode)) (task .limit) (t
         (record { blocks = t .blocks; size = t .size + (task .cost + n); bytes = t .bytes + (task .cost + n) }))
     go true = record { blocks = omega arith; size = λ l. omega arith; bytes = omega arith }
     go false = record { blocks = omega arith; size = λ l. omega arith; bytes = omega arith }
+
+-- ---- one outcome only
+
+pub tally-only-one : (task : Task) (t : Tally) (begins : Bool) (n : ℕ) {x y : Tally} → x ≡ tallyOf task t begins n → y ≡ tallyOf task t begins n → x ≡ y
+tally-only-one task t begins n a b = a ∙ sym b

@@ -141,3 +141,9 @@ module _ (base : ℕ) (ends old : List ℕ) (roomy : 4 + length (word base ++ en
   both-put first new p q =
       q ∙ ap (over 8 ends) p
       ∙ over-behind 4 8 (word base) ends old (omega (arith, length-word base)) (omega (arith, length-append (word base) ends, length-word base))
+
+-- ---- one outcome only
+
+pub each-only-one : (n w : ℕ) (s : List ℕ) (from base : ℕ) (old : List ℕ) {x y : List ℕ}
+    → x ≡ over 4 (word base ++ endsBehind n w from base (offsets s)) old → y ≡ over 4 (word base ++ endsBehind n w from base (offsets s)) old → x ≡ y
+each-only-one n w s from base old a b = a ∙ sym b

@@ -53,3 +53,8 @@ module _ {step base end : ℕ} {old out : List ℕ} {at next : ℕ} (k : Steppin
 
   pub step-end : end ≤ next → (new : List ℕ) → new ≡ over at (word end) out → new ≡ over 4 (stepped (end - base) step base end) old
   step-end h new q = sent-end (sent-more (k .sent) (word end) [] (last-left h) (at + 4) (omega (arith, length-word end)) new q) refl
+
+-- ---- one outcome only
+
+pub steps-only-one : (step base end : ℕ) (old : List ℕ) {x y : List ℕ} → x ≡ over 4 (stepped (end - base) step base end) old → y ≡ over 4 (stepped (end - base) step base end) old → x ≡ y
+steps-only-one step base end old a b = a ∙ sym b

@@ -18,6 +18,7 @@ use Rattle.reels.proofs.ReelTold.{tells}
 use Rattle.walks.specs.declared.Walk.{Walk}
 use Rattle.walks.specs.declared.RecordRead.{RecordRead}
 use Rattle.walks.specs.declared.RecordRead.the-variants.{Record, End}
+use Rattle.walks.specs.Walking.{fixedStart}
 use Rattle.walks.specs.Promise.{Good, Walks, Begun, Passed, Says, Inside, Lies, Told, Taken}
 
 -- ---- a reel that was read
@@ -60,3 +61,9 @@ module _ (form : Form) where
 
   pub taken-only-one : (s : List ℕ) (first : ℕ) {x y : Walk} → Taken form s first x → Taken form s first y → x ≡ y
   taken-only-one s first a b = a .is ∙ sym (b .is)
+
+  pub start-only-one : (s : List ℕ) (first : ℕ) {x y : ℕ} → x ≡ fixedStart form s first → y ≡ fixedStart form s first → x ≡ y
+  start-only-one s first a b = a ∙ sym b
+
+pub rest-only-one : (s : List ℕ) (from : ℕ) {x y : List ℕ} → x ≡ drop from s → y ≡ drop from s → x ≡ y
+rest-only-one s from a b = a ∙ sym b

@@ -42,7 +42,7 @@ loop-again : tie.Need-loop-again Inv-loop μ-loop
 loop-again c =
     let k = c .before .before .before .loop .inv in
     let w = c .before .word2 .ensures .0 in
-    ⊎-elim (λ h. rw (h .1) (behind-more k (omega arith) _ w (h .0 .taken))) (λ h. rw (h .1) (behind-same k (omega arith) _ w (h .0 .left))) (c .if1 .came)
+    ⊎-elim (λ h. rw (h .1) (behind-more k (omega arith) _ w (omega (arith, h .0 .taken)))) (λ h. rw (h .1) (behind-same k (omega arith) _ w (omega (arith, h .0 .left)))) (c .if1 .came)
 
 returns : tie.Need-returns Inv-loop μ-loop
 returns c = behind-end (c .before .loop .inv) (omega arith)

@@ -7,7 +7,7 @@ use Rattle.reels.specs.declared.Form.{Form}
 use Rattle.walks.specs.Walking.{fixedStart}
 use Rattle.tasks.specs.Promise.{formOf}
 use Rattle.measures.proofs.FairLaws.{asks, first-low, first-high, sound}
-use Rattle.fillings.proofs.FixedLaws.{record-some}
+use Rattle.fillings.proofs.FixedLaws.{record-some, width-least}
 use Rattle.measures.proofs.FixedMeasure.{fixed-from, fixed-measures, bytes-small}
 use Rattle.measures.proofs.measure_fixed.Statement.{statement}
 use Rattle.measures.proofs.measure_fixed.Tie as tie
@@ -29,7 +29,10 @@ start c =
     c .before .before .fixed-start .ensures ∙ ap (λ (f : Form). fixedStart f (c .before .before .before .before .before .args .s .now) (c .before .before .before .before .before .args .task .first)) (c .before .before .before .form-of .ensures)
 
 div-records : tie.Need-div-records
-div-records c = record-some (c .before .before .before .before .before .pre .0 .given .fair .is) (c .before .before .before .before .before .pre .0 .given .fair .good) (c .before .before .before .before .before .pre .1)
+div-records c =
+    let x = c .before .before .before .before .before .pre .0 .given .fair in
+    let f = c .before .before .before .before .before .pre .1 in
+    omega (arith, record-some (x .is) (x .good) f, width-least (x .is) (x .good) f)
 
 fixed-blocks-requires : tie.Need-fixed-blocks-requires
 fixed-blocks-requires c κs = fixed-from (c .before .before .before .before .before .pre .0) (c .before .before .before .before .before .pre .1) (start c) _ (ap length (c .before .rest .ensures))

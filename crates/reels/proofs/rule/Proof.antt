@@ -1,11 +1,12 @@
 -- By the test of the block's length, and what its format's own way says.
+use native.Mathlib.Omega.{arith}
 use borrow.Author.Needs.{needs}
 use Rattle.reels.proofs.RecordsLaws.{judged-long}
 use Rattle.reels.proofs.rule.Statement.{statement}
 use Rattle.reels.proofs.rule.Tie as tie
 
 returns : tie.Need-returns
-returns c = judged-long _ _ (c .before .before .before .pre) (c .if1 .taken)
+returns c = judged-long _ _ (c .before .before .before .pre) (omega arith)
 
 enum-told : tie.Need-enum-told
 enum-told c = search needs
