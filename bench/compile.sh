@@ -64,10 +64,11 @@ compiled_c() {
 }
 
 # Links the program that measures, FOLDER/measure, from the plain converter and ours: measuring PROCESSOR GCC FOLDER OURS WORDS..
+# What measures stands behind what is measured, so that it does not move it: under the emulator a loop that comes to lie across a page takes up to half more.
 measuring() {
     local name
     for name in plain bench; do
         compiled_c "$1" "$2" "$3" "$name" "${@:5}"
     done
-    "$2" -o "$3/measure" "$3/bench.o" "$3/plain.o" "$4"
+    "$2" -o "$3/measure" -Wl,--whole-archive "$4" -Wl,--no-whole-archive "$3/plain.o" "$3/bench.o"
 }
