@@ -1,3 +1,6 @@
 pub mod TestLaws
 pub mod TallyLaws
 pub mod FixedLaws
+pub mod Gathering
+pub mod FilledLaws
+pub mod GatheredLaws

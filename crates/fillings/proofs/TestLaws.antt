@@ -11,15 +11,15 @@ use Rattle.rules.specs.Base.{joined}
 use Rattle.rules.specs.Grammar.{Mode, tc, tf, tr, trf}
 use Rattle.rules.specs.Plan.{Plan, isTC, blockLength}
 use Rattle.rules.specs.Blocks.{takenFrom}
-use Rattle.rules.specs.Output.{outRecord, cost, total, filledB, blocked}
+use Rattle.rules.specs.Output.{outRecord, cost}
 use Rattle.rules.specs.Run.{fitting, outputs, outputBlocks}
-use Rattle.rules.proofs.FillSteps.{through, summed, Measure, unmeasured, opening, behind, measure, measured, filled-blocks, filled-bytes}
-use Rattle.rules.proofs.FitSteps.{eachBlock, nonEmpty-blocks, nonEmpty-bytes, fitsAlone, together-fits, alone-fits}
+use Rattle.rules.proofs.FillSteps.{Measure, unmeasured, opening, behind, measure}
+use Rattle.rules.proofs.FitSteps.{fitsAlone, together-fits, alone-fits}
 use Rattle.rules.proofs.MeasureLaws.{map-joined, alone-step}
 use Rattle.rules.proofs.RunParts.{blocked-records}
 use Rattle.walks.specs.Marks.{markedAll, bytesOf, onMarked}
 use Rattle.walks.proofs.MarksLaws.{all-records, all-length, all-map}
-use Rattle.walks.proofs.SizesLaws.{measureMarked, each-marked, fitsMarked, fits-marked}
+use Rattle.walks.proofs.SizesLaws.{measureMarked, fitsMarked, fits-marked}
 
 -- one record more, whose output has so many bytes: in TF a mark opens a block
 abbrev pub stepOf : Mode → ℕ → ℕ → Measure → Bool × ℕ → Measure
@@ -45,16 +45,7 @@ tests-marked limit c m [] = refl
 tests-marked limit c m ((true, n) ∷ xs) = ap (leb (c + (c + n)) limit ∷_) (tests-marked limit c (opening c c m n) xs)
 tests-marked limit c m ((false, n) ∷ xs) = ap (leb (m .size + (c + n)) limit ∷_) (tests-marked limit c (behind c c m n) xs)
 
-through-marked : (c : ℕ) (m : Measure) (xs : List (Bool × ℕ)) → through (measureMarked c c) m xs ≡ through (λ k x. measureMarked c c k x) m xs
-through-marked c m [] = refl
-through-marked c m ((true, n) ∷ xs) = through-marked c (opening c c m n) xs
-through-marked c m ((false, n) ∷ xs) = through-marked c (behind c c m n) xs
-
 -- ---- the steps of TR and TRF
-
-through-bytes : (g : Measure → ℕ → Measure) (m : Measure) (xs : List (Bool × ℕ)) → through (λ k x. g k (x .1)) m xs ≡ through g m (map bytesOf xs)
-through-bytes g m [] = refl
-through-bytes g m (x ∷ xs) = through-bytes g (g m (x .1)) xs
 
 module _ (limit c : ℕ) where
   tests-alone : (m : Measure) (xs : List (Bool × ℕ)) → (1 ≤ m .blocks → c ≤ m .size)
@@ -113,34 +104,3 @@ module _ (p : Plan) (recs : List (List (List ℕ))) where
   -- refusal 14's tests, step by step
   pub all-tests : isTC (p .mode) ≡ false → fitting (p .mode) p outs ≡ testsFrom (stepOf (p .mode) limit c) limit unmeasured (lengths p takenMarked)
   all-tests e = tests-in (p .mode) e
-
-  -- the measure is that of these blocks
-  pub record Totals (bs : List (List (List ℕ))) (m : Measure) : Type 0 where
-    pub blocks : length bs ≡ m .blocks
-    pub bytes : summed (map (total c c) bs) ≡ m .bytes
-
-  totals-other : Totals (filledB p (joined outs)) (through (λ k x. measure limit c c k (x .1)) unmeasured (lengths p takenMarked))
-  unfolding filledB
-  totals-other =
-      let e : measured limit c c unmeasured (map length (joined outs)) ≡ through (λ k x. measure limit c c k (x .1)) unmeasured (lengths p takenMarked)
-      = ap (measured limit c c unmeasured) alone-lengths ∙ sym (through-bytes (measure limit c c) unmeasured (lengths p takenMarked)) in
-      record {
-        blocks = filled-blocks limit c c (joined outs) ∙ ap (λ (m : Measure). m .blocks) e;
-        bytes = filled-bytes limit c c (joined outs) ∙ ap (λ (m : Measure). m .bytes) e;
-      }
-
-  totals-in : (m : Mode) → isTC m ≡ false → Totals (blocked m p outs) (through (stepOf m limit c) unmeasured (lengths p takenMarked))
-  totals-in tc e = absurd (true≢false e)
-  totals-in tf e =
-      let q : eachBlock c c unmeasured (map (map length) outs) ≡ through (λ k x. measureMarked c c k x) unmeasured (lengths p takenMarked)
-      = each-marked c c (map (map length) outs) unmeasured ∙ ap (through (measureMarked c c) unmeasured) all-lengths ∙ through-marked c unmeasured (lengths p takenMarked) in
-      record {
-        blocks = nonEmpty-blocks c c limit outs ∙ ap (λ (m : Measure). m .blocks) q;
-        bytes = nonEmpty-bytes c c limit outs ∙ ap (λ (m : Measure). m .bytes) q;
-      }
-  totals-in tr e = totals-other
-  totals-in trf e = totals-other
-
-  -- the output blocks, step by step
-  pub all-totals : isTC (p .mode) ≡ false → Totals (outputBlocks p recs) (through (stepOf (p .mode) limit c) unmeasured (lengths p takenMarked))
-  all-totals e = totals-in (p .mode) e

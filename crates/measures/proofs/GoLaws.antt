@@ -1,20 +1,22 @@
 -- The pass that measures: refusal 14's tests of all records taken, and their measure, are those that the records left give from the tally on. By the walk.
-use mathlib.Core.Path.{_≡_, refl, ap, ap₂, sym, _∙_, subst}
+use mathlib.Core.Path.{_≡_, ap, ap₂, sym, _∙_, subst}
 use mathlib.Core.Bool.{Bool}
-use mathlib.Core.List.{List, [], _∷_}
+use mathlib.Core.List.{List, [], _∷_, map}
 use Prim.Native.Nat.{ℕ, _+_, _-_, _*_, _≤_, _<_}
 use native.Mathlib.Omega.{arith}
 use lib.Dec.{leb}
-use lib.ListN.{length}
+use lib.ListN.{length, length-map}
 use lib.Seq.{slice}
 use borrow.Author.Tests.{le-leb, lt-leb}
 use Rattle.rules.specs.Answer.{fine, refused, each}
 use Rattle.rules.specs.Plan.{Plan, blockLength}
 use Rattle.rules.specs.Blocks.{leastData}
-use Rattle.rules.specs.Output.{cost}
+use Rattle.rules.specs.Base.{joined}
+use Rattle.rules.specs.Output.{outRecord, blockOf, cost}
 use Rattle.rules.specs.Run.{outputBlocks}
-use Rattle.rules.proofs.FillSteps.{through, Measure, unmeasured}
-use Rattle.rules.proofs.FitSteps.{each-pass, each-stop, length-measured}
+use Rattle.rules.proofs.FillSteps.{Measure, unmeasured}
+use Rattle.rules.proofs.ReelLaws.{length-reel}
+use Rattle.rules.proofs.FitSteps.{each-pass, each-stop}
 use Rattle.terms.specs.declared.Task.{Task}
 use Rattle.reels.specs.declared.Form.{Form}
 use Rattle.walks.specs.declared.Walk.{Walk}
@@ -30,7 +32,9 @@ use Rattle.fillings.specs.Tallying.{tallyOf, Small}
 use Rattle.measures.specs.Promise.{Measuring, Measurable, fitAnswer, answerOf, measuredOf, Measures}
 use Rattle.measures.proofs.PromiseLaws.{measured-long, measured-fits}
 use Rattle.measures.proofs.FairLaws.{left-few, asks, first-high, s-short, sound, walks-first}
-use Rattle.fillings.proofs.TestLaws.{stepOf, testsFrom, lengths, takenMarked, all-count, all-tests, all-totals}
+use Rattle.fillings.proofs.TestLaws.{stepOf, testsFrom, lengths, takenMarked, all-count, all-tests}
+use Rattle.fillings.proofs.FilledLaws.{Filled, filled-start, filled-more, filled-end}
+use Rattle.fillings.proofs.GatheredLaws.{outs, gathered-is, starts-is}
 use Rattle.fillings.proofs.TallyLaws.{measureOf, empty, tally-is, bounded, Grown, tally-grown}
 
 -- ---- a turn, by any step
@@ -47,19 +51,18 @@ module _ (step : Measure → Bool × ℕ → Measure) (limit number : ℕ) (m u 
       ap (λ (l : List (Bool × ℕ)). each 14 (λ holds. holds) number (testsFrom step limit m l)) is
       ∙ each-stop 14 (λ holds. holds) number (leb (step m x .size) limit) (testsFrom step limit (step m x) xs) (ap (λ (k : Measure). leb (k .size) limit) e ∙ lt-leb (u .size) limit l)
 
-  turn-through : through step m all ≡ through step u xs
-  turn-through = ap (through step m) is ∙ ap (λ (k : Measure). through step k xs) e
-
 -- ---- the pass
 
 abbrev planStep : Plan → Measure → Bool × ℕ → Measure
 planStep p = stepOf (p .mode) (blockLength (p .output)) (cost (p .format))
 
-pub record Goes (p : Plan) (s : List ℕ) (recs : List (List (List ℕ))) (w : Walk) (number : ℕ) (m : Measure) : Type 0 where
+pub record Goes (task : Task) (p : Plan) (s : List ℕ) (recs : List (List (List ℕ))) (w : Walk) (number : ℕ) (t : Tally) : Type 0 where
   pub rest : List (Bool × List ℕ)
   pub walks : Walks p s w rest
-  pub tests : fitAnswer p recs ≡ each 14 (λ holds. holds) number (testsFrom (planStep p) (blockLength (p .output)) m (lengths p rest))
-  pub totals : through (planStep p) unmeasured (lengths p (takenMarked p recs)) ≡ through (planStep p) m (lengths p rest)
+  pub tests : fitAnswer p recs ≡ each 14 (λ holds. holds) number (testsFrom (planStep p) (blockLength (p .output)) (measureOf t) (lengths p rest))
+  pub closed : List (List (List ℕ))
+  pub now : List (List ℕ)
+  pub filled : Filled (p .format) task (outputBlocks p recs) closed now t (outs p rest)
   pub counts : p .first + length (takenMarked p recs) ≡ number + length rest
 
 pub record Going (task : Task) (s : List ℕ) (w : Walk) (number : ℕ) (t : Tally) : Type 0 where
@@ -67,7 +70,7 @@ pub record Going (task : Task) (s : List ℕ) (w : Walk) (number : ℕ) (t : Tal
   pub blocks : t .blocks + task .first ≤ number
   pub size : t .size ≤ t .bytes
   pub bytes : t .bytes + 200000 * task .first ≤ 200000 * number
-  pub goes : (p : Plan) (recs : List (List (List ℕ))) → Measuring task s p recs → Goes p s recs w number (measureOf t)
+  pub goes : (p : Plan) (recs : List (List (List ℕ))) → Measuring task s p recs → Goes task p s recs w number t
 
 start-tests : {task : Task} {s : List ℕ} (p : Plan) (recs : List (List (List ℕ))) → Measuring task s p recs
     → fitAnswer p recs ≡ each 14 (λ holds. holds) (task .first) (testsFrom (planStep p) (blockLength (p .output)) unmeasured (lengths p (takenMarked p recs)))
@@ -98,7 +101,9 @@ module _ (task : Task) {s : List ℕ} {form : Form} (f : form ≡ formOf task) {
           rest = takenMarked p recs;
           walks = walks-first (asks f (x .fair)) t;
           tests = start-tests p recs x;
-          totals = refl;
+          closed = [];
+          now = [];
+          filled = filled-start (p .format) task (outs p (takenMarked p recs)) (gathered-is (x .fair .is) recs (x .other)) (starts-is (x .fair .is) recs);
           counts = omega (arith, x .fair .is .first);
         };
       }
@@ -131,19 +136,30 @@ module _ (task : Task) {s : List ℕ} {form : Form} (f : form ≡ formOf task) {
           }
 
       module _ {p : Plan} {recs : List (List (List ℕ))} (x : Measuring task s p recs) where
-        goes-in : Goes p s recs w number (measureOf t)
+        goes-in : Goes task p s recs w number t
         goes-in = k .goes p recs x
 
         passes : Passed p s (goes-in .rest) start size begins next
         passes = passed h e (asks f (x .fair) .form-is) (goes-in .walks)
 
+        out-long : length (outRecord p (slice start (start + size) s)) ≡ lengthOf task size
+        out-long =
+            out-length (x .fair .is) (x .fair .good .accepted) (slice start (start + size) s)
+            (let z : leastData p ≤ length (slice start (start + size) s) = omega (arith, passes .long, lent-length h e) in z)
+            ∙ ap (lengthOf task) (lent-length h e)
+
         left-is : lengths p (goes-in .rest) ≡ (begins, lengthOf task size) ∷ lengths p (passes .more)
         left-is =
             ap (lengths p) (passes .is)
-            ∙ ap (λ (n : ℕ). (begins, n) ∷ lengths p (passes .more))
-            (out-length (x .fair .is) (x .fair .good .accepted) (slice start (start + size) s)
-            (let z : leastData p ≤ length (slice start (start + size) s) = omega (arith, passes .long, lent-length h e) in z)
-            ∙ ap (lengthOf task) (lent-length h e))
+            ∙ ap (λ (n : ℕ). (begins, n) ∷ lengths p (passes .more)) out-long
+
+        -- the blocks so far, with this record
+        filled-next : (next : List (List (List ℕ))) × (last : List (List ℕ))
+            × Filled (p .format) task (outputBlocks p recs) next last (tallyOf task t begins (lengthOf task size)) (outs p (passes .more))
+        filled-next =
+            let w = subst (λ (l : List (Bool × List ℕ)). Filled (p .format) task (outputBlocks p recs) (goes-in .closed) (goes-in .now) t (outs p l)) (passes .is) (goes-in .filled) in
+            let m = filled-more (p .format) task (x .fair .is .costs) (outputBlocks p recs) (goes-in .closed) t begins (outRecord p (slice start (start + size) s)) (outs p (passes .more)) (goes-in .now) w in
+            (m .0, m .1, subst (λ (n : ℕ). Filled (p .format) task (outputBlocks p recs) (m .0) (m .1) (tallyOf task t begins n) (outs p (passes .more))) out-long (m .2))
 
         step-is : planStep p (measureOf t) (begins, lengthOf task size) ≡ measureOf (tallyOf task t begins (lengthOf task size))
         step-is = sym (tally-is (x .fair .is) t begins (lengthOf task size))
@@ -155,8 +171,9 @@ module _ (task : Task) {s : List ℕ} {form : Form} (f : form ≡ formOf task) {
             (let z : blockLength (p .output) < tallyOf task t begins (lengthOf task size) .size = omega (arith, x .fair .is .limit) in z))
 
         goes-more : tallyOf task t begins (lengthOf task size) .size ≤ task .limit
-            → Goes p s recs next (number + 1) (measureOf (tallyOf task t begins (lengthOf task size)))
+            → Goes task p s recs next (number + 1) (tallyOf task t begins (lengthOf task size))
         goes-more l =
+            let m = filled-next in
             record {
               rest = passes .more;
               walks = passes .walks;
@@ -164,9 +181,9 @@ module _ (task : Task) {s : List ℕ} {form : Form} (f : form ≡ formOf task) {
                   goes-in .tests
                   ∙ turn-pass (planStep p) (blockLength (p .output)) number (measureOf t) _ (begins, lengthOf task size) _ (lengths p (passes .more)) left-is step-is
                   (let z : tallyOf task t begins (lengthOf task size) .size ≤ blockLength (p .output) = omega (arith, x .fair .is .limit) in z);
-              totals =
-                  goes-in .totals
-                  ∙ turn-through (planStep p) (blockLength (p .output)) number (measureOf t) _ (begins, lengthOf task size) _ (lengths p (passes .more)) left-is step-is;
+              closed = m .0;
+              now = m .1;
+              filled = m .2;
               counts = omega (arith, goes-in .counts, ap length (passes .is));
             }
 
@@ -189,19 +206,21 @@ module _ (task : Task) {s : List ℕ} {form : Form} (f : form ≡ formOf task) {
               size = g .size (k .size);
               bytes = omega (arith, k .bytes, g .bytes, b .cost, a .0, a .1, q, length-most task size);
               goes = λ p recs x.
-                  subst (λ (z : Tally). Goes p s recs next (number + 1) (measureOf z)) u-is
+                  subst (Goes task p s recs next (number + 1)) u-is
                   (goes-more x (subst (λ (z : Tally). z .size ≤ task .limit) (sym u-is) l));
             }
 
     module _ (e : r ≡ End) {p : Plan} {recs : List (List (List ℕ))} (x : Measuring task s p recs) where
-      goes-last : Goes p s recs w number (measureOf t)
+      goes-last : Goes task p s recs w number t
       goes-last = k .goes p recs x
 
       nothing : goes-last .rest ≡ []
       nothing = ended h e (asks f (x .fair) .form-is) (goes-last .walks)
 
-      all-is : through (planStep p) unmeasured (lengths p (takenMarked p recs)) ≡ measureOf t
-      all-is = goes-last .totals ∙ ap (λ (l : List (Bool × List ℕ)). through (planStep p) (measureOf t) (lengths p l)) nothing
+      all-filled : (t .blocks ≡ length (outputBlocks p recs)) × (t .bytes ≡ length (joined (map (blockOf (p .format)) (outputBlocks p recs))))
+      all-filled =
+          filled-end (p .format) task
+          (subst (λ (l : List (Bool × List ℕ)). Filled (p .format) task (outputBlocks p recs) (goes-last .closed) (goes-last .now) t (outs p l)) nothing (goes-last .filled))
 
       all-fit : fitAnswer p recs ≡ fine tt
       unfolding each
@@ -211,11 +230,9 @@ module _ (task : Task) {s : List ℕ} {form : Form} (f : form ≡ formOf task) {
 
       goes-end : answerOf (Fits (t .blocks) (number - task .first) (4 * t .blocks + 8 + t .bytes)) ≡ measuredOf p recs
       goes-end =
-          let a = all-totals p recs (x .other) in
-          let b : length (outputBlocks p recs) ≡ t .blocks = a .blocks ∙ ap (λ (m : Measure). m .blocks) all-is in
-          let c = a .bytes ∙ ap (λ (m : Measure). m .bytes) all-is in
-          measured-fits p recs all-fit (sym b) (omega (arith, goes-last .counts, ap length nothing, all-count p recs, x .fair .is .first))
-          (omega (arith, length-measured (blockLength (p .output)) (p .format) (outputBlocks p recs), b, c))
+          let bs = map (blockOf (p .format)) (outputBlocks p recs) in
+          measured-fits p recs all-fit (all-filled .0) (omega (arith, goes-last .counts, ap length nothing, all-count p recs, x .fair .is .first))
+          (omega (arith, length-reel bs, length-map (outputBlocks p recs) (blockOf (p .format)), all-filled .0, all-filled .1))
 
     pub go-end : r ≡ End → Measures task s (Fits (t .blocks) (number - task .first) (4 * t .blocks + 8 + t .bytes))
     unfolding Measures

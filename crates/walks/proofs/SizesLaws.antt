@@ -1,12 +1,12 @@
--- TF's output blocks by marks: the measure of the blocks, and refusal 14's test of each record, go along the marked lengths, and each mark opens a
--- block. By going along the blocks and their records.
+-- TF's output blocks by marks: refusal 14's test of each record goes along the marked lengths, and each mark opens a block. By going along the blocks and
+-- their records.
 use mathlib.Core.Path.{_≡_, refl, ap}
 use mathlib.Core.Bool.{Bool, true, false}
 use mathlib.Core.List.{List, [], _∷_, _++_}
 use Prim.Native.Nat.{ℕ, _+_}
 use lib.Dec.{leb}
-use Rattle.rules.proofs.FillSteps.{through, Measure, opening, behind}
-use Rattle.rules.proofs.FitSteps.{eachBlock, fitsAfter, fitsEach}
+use Rattle.rules.proofs.FillSteps.{Measure, opening, behind}
+use Rattle.rules.proofs.FitSteps.{fitsAfter, fitsEach}
 use Rattle.walks.specs.Marks.{marked, markedAll}
 
 -- ---- the measure
@@ -16,18 +16,6 @@ module _ (c d : ℕ) where
   abbrev pub measureMarked : Measure → Bool × ℕ → Measure
   measureMarked m (true, n) = opening c d m n
   measureMarked m (false, n) = behind c d m n
-
-  behind-marked : (m : Measure) (ns : List ℕ) (bs : List (List ℕ))
-      → ((k : Measure) → eachBlock c d k bs ≡ through measureMarked k (markedAll bs))
-      → eachBlock c d (through (behind c d) m ns) bs ≡ through measureMarked m (marked false ns ++ markedAll bs)
-  behind-marked m [] bs ih = ih m
-  behind-marked m (n ∷ ns) bs ih = behind-marked (behind c d m n) ns bs ih
-
-  -- the blocks of records of these lengths
-  pub each-marked : (bs : List (List ℕ)) (m : Measure) → eachBlock c d m bs ≡ through measureMarked m (markedAll bs)
-  each-marked [] m = refl
-  each-marked ([] ∷ bs) m = each-marked bs m
-  each-marked ((n ∷ ns) ∷ bs) m = behind-marked (opening c d m n) ns bs (λ k. each-marked bs k)
 
 -- ---- refusal 14
 

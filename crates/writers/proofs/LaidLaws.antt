@@ -15,8 +15,8 @@ use Rattle.rules.proofs.PlaceLaws.{over-nothing, over-behind, over-apart, over-
 use Rattle.rules.proofs.WordLaws.{length-word}
 use Rattle.rules.proofs.FillLaws.{total-snoc}
 use Rattle.writers.specs.Writing.{sizeWord, pieceOf}
-use Rattle.writers.proofs.Gathering.{bodyOf, block-parts, body-one, body-snoc, length-sizeWord, length-piece}
-use Rattle.writers.proofs.FilledLaws.{bytesIn, bytes-snoc, length-snoc}
+use Rattle.writers.proofs.BlockParts.{bodyOf, block-parts, body-one, body-snoc, length-sizeWord, length-piece}
+use Rattle.fillings.proofs.FilledLaws.{bytesIn, bytes-snoc, length-snoc}
 
 -- ---- the offsets of blocks, where the first starts at a
 

@@ -33,10 +33,11 @@ use Rattle.fillings.specs.Tallying.{opensOf, tallyOf, Small}
 use Rattle.fillings.proofs.TallyLaws.{empty, tally-opens, tally-behind}
 use Rattle.writers.specs.Writing.{sizeWord, pieceOf, offsetPut}
 use Rattle.writers.specs.Promise.{blocksIn, outOf, Writable, NextFits, nextPut, NextPut, Lent}
-use Rattle.writers.proofs.FilledLaws.{allOf, all-done, soFar, bytesIn, sizeOf, length-snoc, least, Filled, filled-start, filled-opens, behind-some, filled-behind}
+use Rattle.fillings.proofs.FilledLaws.{allOf, all-done, soFar, bytesIn, sizeOf, length-snoc, least, Filled, filled-start, filled-opens, behind-some, filled-behind}
 use Rattle.writers.proofs.LaidLaws.{laid, laid-nothing, laid-length, laid-ends, laid-opens, laid-behind}
 use Rattle.writers.proofs.RecordLaws.{offset-opens, offset-stays}
-use Rattle.writers.proofs.Readying.{outs, marksIn, gathered-is, starts-is, count-is}
+use Rattle.fillings.proofs.GatheredLaws.{outs, gathered-is, starts-is}
+use Rattle.writers.proofs.Readying.{marksIn, count-is}
 use Rattle.writers.proofs.TurnLaws.{walks-first, Turn, header-fits, few-blocks, width-small, cost-small}
 
 -- the tally behind a record that was read

@@ -1,5 +1,4 @@
-pub mod Gathering
-pub mod FilledLaws
+pub mod BlockParts
 pub mod LaidLaws
 pub mod RecordLaws
 pub mod Readying

@@ -28,7 +28,7 @@ use Rattle.tasks.specs.Promise.{tailOf, lengthOf}
 use Rattle.tasks.proofs.LengthLaws.{length-selected, length-carried}
 use Rattle.writers.specs.Writing.{sizeWord, pieceOf, offsetPut}
 use Rattle.writers.specs.Promise.{outOf, Writable, DataPut, PiecePut, nextPut, NextPut}
-use Rattle.writers.proofs.Gathering.{length-sizeWord}
+use Rattle.writers.proofs.BlockParts.{length-sizeWord}
 
 -- ---- the word
 

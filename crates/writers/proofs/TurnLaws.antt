@@ -28,7 +28,8 @@ use Rattle.walks.proofs.PromiseLaws.{passed, inside, lent, lent-length}
 use Rattle.tasks.specs.Promise.{formOf, lengthOf}
 use Rattle.tasks.proofs.LengthLaws.{form-given, out-length}
 use Rattle.writers.specs.Promise.{blocksIn, Ready}
-use Rattle.writers.proofs.Readying.{outs, marksIn, count-is}
+use Rattle.fillings.proofs.GatheredLaws.{outs}
+use Rattle.writers.proofs.Readying.{marksIn, count-is}
 
 record-most : (f : Format) (z : Size) → SizeWithin f z → recordLength z ≤ 4096
 record-most f (two n m) w = w .0 .1

@@ -14,10 +14,10 @@ use Rattle.rules.proofs.FillLaws.{total-snoc}
 use Rattle.terms.specs.Meaning.{modeOf}
 use Rattle.terms.specs.declared.Task.{Task}
 use Rattle.walks.specs.Marks.{markedAll}
 use Rattle.fillings.specs.declared.Tally.{Tally}
 use Rattle.fillings.specs.Tallying.{overfillsOf, opensIn, opensOf, tallyOf}
 use Rattle.fillings.proofs.TallyLaws.{tally-opens, tally-behind, over-first, over-later, empty}
-use Rattle.writers.proofs.Gathering.{gather, gathered}
+use Rattle.fillings.proofs.Gathering.{gather, gathered}
 
 -- ---- the blocks so far
 
@@ -192,3 +192,18 @@ module _ (f : Format) (task : Task) where
           bytes = omega (arith, w .bytes, length-snoc f closed now, length-snoc f closed (now ++ (r ∷ [])), total-snoc 0 (cost f) (cost f) now r);
           first = λ z. absurd (omega arith);
         })
+
+    -- either way
+    pub filled-more : (now : List (List ℕ)) → Filled all closed now t ((begins, r) ∷ more)
+        → (next : List (List (List ℕ))) × (last : List (List ℕ)) × Filled all next last (tallyOf task t begins (length r)) more
+    filled-more now w = go (opensOf task t begins (length r)) refl
+      where
+        go : (b : Bool) → opensOf task t begins (length r) ≡ b → (next : List (List (List ℕ))) × (last : List (List ℕ)) × Filled all next last (tallyOf task t begins (length r)) more
+        go true o = (soFar closed now, r ∷ [], filled-opens now w o)
+        go false o = (closed, now ++ (r ∷ []), filled-behind now w o)
+
+  -- behind the last record the tally is that of all blocks
+  pub filled-end : {all closed : List (List (List ℕ))} {now : List (List ℕ)} {t : Tally} → Filled all closed now t [] → (t .blocks ≡ length all) × (t .bytes ≡ length (bytesIn f all))
+  filled-end {all} {closed} {now} w =
+      let e : soFar closed now ≡ all = all-done closed now ∙ w .left in
+      (w .blocks ∙ ap length e, w .bytes ∙ ap (λ (bs : List (List (List ℕ))). length (bytesIn f bs)) e)
