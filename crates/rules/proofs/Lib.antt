@@ -74,7 +74,6 @@ pub mod PartLaws
 pub mod LentParts
 pub mod HeaderSteps
 pub mod ReelSteps
-pub mod ReelWriting
 pub mod Bounds
 pub mod MarkLaws
 pub mod LineLaws

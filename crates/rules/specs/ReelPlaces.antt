@@ -1,13 +1,12 @@
 -- A reel and its blocks by place, for contracts of code that walks over them: the word at a place, the pieces and the records from a place on.
 use mathlib.Core.Bool.{Bool, true, cond, _&&_}
-use mathlib.Core.List.{List, [], _∷_, _++_, map}
+use mathlib.Core.List.{List, [], _∷_, map}
 use mathlib.Core.Option.{Option, none, some}
 use Prim.Native.Nat.{ℕ, suc, _+_, _-_, _*_, _/_, _%_}
 use lib.Dec.{leb, eqb}
 use lib.ListN.{length, drop, getD}
 use Rattle.rules.specs.Base.{every, isEmpty}
 use Rattle.rules.specs.Grammar.{Format, ff, fv, fu}
-use Rattle.rules.specs.Reel.{word, ends}
 use Rattle.rules.specs.Plan.{Plan, recordLength}
 use Rattle.rules.specs.Blocks.{Piece, fixedFrom, wordLength, headed, variableFrom, leastData, dataOf}
 
@@ -24,10 +23,6 @@ wordAt s i = numberOf (getD s i 0) (getD s (i + 1) 0) (getD s (i + 2) 0) (getD s
 -- offset number i of the k+1 offsets, from 0
 abbrev pub offsetAt : List ℕ → ℕ → ℕ
 offsetAt s i = wordAt s (4 * i + 4)
-
--- the count and the offsets of the reel of some blocks
-unfoldable pub headerOf : List (List ℕ) → List ℕ
-headerOf bs = word (length bs) ++ ends (4 * length bs + 8) bs
 
 -- ---- the pieces of a block
 
