@@ -1,4 +1,5 @@
-// Writing a reel: the block count, then in one pass along the records the offsets and the blocks. Document 01, "The reel" and "Blocks and records".
+// Writing a reel: the block count, then the offsets and the blocks, in FV in one pass along the records, in FF (`fixed`) without a walk. Document 01, "The reel" and
+// "Blocks and records".
 ghost use mathlib.Core.Path.{_≡_};
 ghost use Prim.Native.Nat.{_+_, _≤_, _<_};
 ghost use lib.ListN.{length};
@@ -71,7 +72,7 @@ fn put_offset(base: usize, tally: Tally, more: Tally, out: &mut [u8])
 }
 
 // A record in its place: where it opens a block, the block's offset; then the word of its block, which says the block's size so far; then its own word and its
-// output. So the blocks up to here stand whole behind each record.
+// output. Since the block's word is put anew with each record, the blocks so far are whole after every record, and none has to be closed.
 fn put_next(
     task: Task,
     fields: &[u16],
