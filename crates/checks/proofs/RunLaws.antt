@@ -29,8 +29,9 @@ use Rattle.rules.proofs.CopyLaws.{copy-blocks, copy-reel}
 use Rattle.reels.specs.declared.ReelRead.{ReelRead}
 use Rattle.reels.specs.declared.ReelRead.the-variants.{Read, NotReel, BadBlock}
 use Rattle.rows.specs.Flat.{FlatFair}
-use Rattle.records.specs.Promise.{Asks}
-use Rattle.records.proofs.PromiseLaws.{fair-of, asks-nothing, permits-of}
+use Rattle.values.specs.Promise.{Asks}
+use Rattle.rows.proofs.ReadLaws.{fair-of}
+use Rattle.values.proofs.PromiseLaws.{asks-nothing, permits-of}
 use Rattle.walks.specs.Promise.{Good}
 use Rattle.measures.specs.declared.Measured.{Measured}
 use Rattle.measures.specs.declared.Measured.the-variants.{Fits}

@@ -55,7 +55,7 @@ fn unpermitted_selected(task: Task, fields: &[u16], s: &[u8]) -> usize
     requires { ⌜ Selected task (now fields) (now s) ⌝ }
     ensures { λ r. ⌜ FirstUnpermitted task (now (fields .entry)) (now (s .entry)) r ⌝ }
 {
-    if !records::asks(fields) {
+    if !values::asks(fields) {
         return 0;
     }
     measures::first_unpermitted(task, fields, s)

@@ -20,7 +20,7 @@ use Rattle.terms.specs.declared.Task.{Task}
 use Rattle.terms.specs.declared.Format.the-variants.{FF}
 use Rattle.reels.specs.declared.Form.{Form}
 use Rattle.rows.specs.Flat.{Readable}
-use Rattle.records.specs.Promise.{Permits}
+use Rattle.values.specs.Promise.{Permits}
 use Rattle.walks.specs.Walking.{fixedStart}
 use Rattle.fillings.proofs.FixedLaws.{record-some, data-even}
 use Rattle.tasks.specs.Promise.{formOf}

@@ -20,7 +20,7 @@ use Rattle.rules.proofs.MeasureLaws.{kinds-within, permits-halves}
 use Rattle.terms.specs.declared.Task.{Task}
 use Rattle.reels.specs.declared.Form.{Form}
 use Rattle.rows.specs.Flat.{flatOf, FlatFair, Readable}
-use Rattle.records.specs.Promise.{Permits}
+use Rattle.values.specs.Promise.{Permits}
 use Rattle.walks.specs.declared.Walk.{Walk}
 use Rattle.walks.specs.declared.RecordRead.{RecordRead}
 use Rattle.walks.specs.declared.RecordRead.the-variants.{Record, End}

@@ -43,7 +43,7 @@ fn first_walked(task: Task, fields: &[u16], s: &[u8]) -> usize
                 next,
             } => {
                 let end = start + length;
-                if !records::permitted(fields, &s[start..end]) {
+                if !values::permitted(fields, &s[start..end]) {
                     return number;
                 }
                 w = next;
@@ -115,7 +115,7 @@ fn first_fixed(task: Task, fields: &[u16], s: &[u8]) -> usize
     let mut number = first;
     while at < data.len() {
         let end = at + n;
-        if !records::permitted(fields, &data[at..end]) {
+        if !values::permitted(fields, &data[at..end]) {
             return number;
         }
         at = end;

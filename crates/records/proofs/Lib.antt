@@ -1,6 +1,4 @@
 mod FlattenLaws
-mod WalkLaws
-mod CheckLaws
 mod CoverLaws
 mod PutLaws
 pub mod PromiseLaws

@@ -25,8 +25,7 @@ use Rattle.halves.proofs.PromiseLaws.{packed-whole, unpacked-whole}
 use Rattle.rows.specs.Flat.{flatOf, kindAt, fieldAt, FlatFair, Fielded}
 use Rattle.records.specs.Promise.{Writes, outBytes, Puts, Covers, groundOf}
 use Rattle.rows.proofs.FlatLaws.{fields-many, field-is, output-of-row, fits-at, sizes-at}
-use Rattle.records.proofs.WalkLaws.{kind-copy, kind-pack, kind-unpack}
-use Rattle.records.proofs.CheckLaws.{lentInput, part-input, Reads, reads-inside, length-input}
+use Rattle.rows.proofs.ReadLaws.{kind-copy, kind-pack, kind-unpack, lentInput, part-input, Reads, reads-inside, length-input}
 use Rattle.records.proofs.CoverLaws.{grounded}
 
 -- ---- one field

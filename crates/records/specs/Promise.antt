@@ -1,32 +1,14 @@
--- What looking at a record answers and what writing its output leaves, for all fields that the lent numbers may be: there is one list of
--- them.
+-- What writing the output of a record leaves, for all fields that the lent numbers may be: there is one list of them.
 use mathlib.Core.Path.{_≡_}
-use mathlib.Core.Bool.{Bool, true, false, cond, not}
+use mathlib.Core.Bool.{Bool, cond}
 use mathlib.Core.List.{List, [], _∷_, _++_}
-use Prim.Native.Nat.{ℕ, _+_, _-_, _≤_, max}
+use Prim.Native.Nat.{ℕ, _+_, _-_, max}
 use lib.Dec.{leb}
-use lib.ListN.{length, take, drop, replicate}
-use Rattle.rules.specs.Base.{every}
-use Rattle.rules.specs.Halves.{halves, bytes, Kind, copy, pack, unpack, outputSize, Field, over, outHalves, value}
-use Rattle.rules.specs.Permitted.{permitted}
-use Rattle.rules.specs.Output.{mayBe}
+use lib.ListN.{take, drop, replicate}
+use Rattle.rules.specs.Halves.{halves, bytes, outputSize, Field, over, outHalves, value}
 use Rattle.rules.specs.Lent.{zoneF}
 use Rattle.rules.specs.RecordParts.{writtenBytes}
 use Rattle.rows.specs.Flat.{flatOf, FlatFair}
-
--- whether the halves of the first a bytes are permitted
-unfoldable pub Permits : List ℕ → List ℕ → Bool → Type 0
-Permits xs r x = (fs : List Field) (a b : ℕ) → FlatFair xs fs a b → a ≤ length r → x ≡ mayBe (permitted zoneF fs) 0 (halves (take a r))
-
--- a copy takes any halves, pack and unpack ask something of them
-abbrev pub takesAny : Kind → Bool
-takesAny (copy s) = true
-takesAny (pack n m) = false
-takesAny (unpack n m) = false
-
--- whether some field asks something of a record
-unfoldable pub Asks : List ℕ → Bool → Type 0
-Asks xs x = (fs : List Field) → xs ≡ flatOf fs → x ≡ not (every (λ f. takesAny (f .kind)) fs)
 
 -- the fields in order, a later one over an earlier one
 unfoldable pub Writes : List ℕ → List ℕ → List ℕ → List ℕ → Type 0

@@ -1,3 +1,4 @@
 pub mod KeptLaws
 pub mod FlatLaws
 pub mod RowLaws
+pub mod ReadLaws

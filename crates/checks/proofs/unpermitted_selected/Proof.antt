@@ -4,7 +4,7 @@ use native.Mathlib.Omega.{arith}
 use borrow.Author.Needs.{needs}
 use borrow.Author.Tests.{not-true}
 use Rattle.rules.proofs.HalfBytes.{all-bytes}
-use Rattle.records.specs.Promise.{Asks}
+use Rattle.values.specs.Promise.{Asks}
 use Rattle.checks.proofs.RunLaws.{none-asked}
 use Rattle.checks.proofs.unpermitted_selected.Statement.{statement}
 use Rattle.checks.proofs.unpermitted_selected.Tie as tie

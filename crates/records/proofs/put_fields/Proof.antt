@@ -7,8 +7,7 @@ use borrow.Rule.Slice.PartMut.{same-len-mid}
 use borrow.Author.Needs.{needs}
 use Rattle.terms.specs.declared.Field.{Field}
 use Rattle.rows.specs.Flat.{kindAt}
-use Rattle.records.proofs.WalkLaws.{kind-of-row}
-use Rattle.records.proofs.CheckLaws.{Reads}
+use Rattle.rows.proofs.ReadLaws.{kind-of-row, Reads}
 use Rattle.records.proofs.PutLaws.{Lies, lies-at, read-inside, write-low, write-inside, part-within, part-filled, part-put, Writing, write-start, write-more, write-end}
 use Rattle.records.proofs.put_fields.Statement.{statement}
 use Rattle.records.proofs.put_fields.Tie as tie

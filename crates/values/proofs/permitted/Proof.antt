@@ -1,4 +1,4 @@
--- `records::permitted` meets its contract: before each turn what is left to ask is of the fields from i on.
+-- `values::permitted` meets its contract: before each turn what is left to ask is of the fields from i on.
 use mathlib.Core.Path.{_≡_, sym, _∙_}
 use Prim.Native.Nat.{_-_}
 use native.Mathlib.Omega.{arith}
@@ -8,10 +8,11 @@ use Rattle.rules.specs.Places.{All, Byte}
 use Rattle.rules.proofs.HalfBytes.{all-bytes}
 use Rattle.terms.specs.Meaning.{fieldOf}
 use Rattle.rows.specs.Flat.{fieldAt}
-use Rattle.records.proofs.WalkLaws.{Left, left-start, left-more, left-fails, left-end}
-use Rattle.records.proofs.CheckLaws.{Reads, reads-at, length-input, mayRead, part-read, permits-not, permits-all}
-use Rattle.records.proofs.permitted.Statement.{statement}
-use Rattle.records.proofs.permitted.Tie as tie
+use Rattle.rows.proofs.ReadLaws.{Reads, reads-at, length-input}
+use Rattle.values.proofs.WalkLaws.{Left, left-start, left-more, left-fails, left-end}
+use Rattle.values.proofs.CheckLaws.{mayRead, part-read, permits-not, permits-all}
+use Rattle.values.proofs.permitted.Statement.{statement}
+use Rattle.values.proofs.permitted.Tie as tie
 
 abbrev Inv-loop : tie.InvT-loop
 Inv-loop fields «record» count i₀ i = Left (mayRead «record») fields i

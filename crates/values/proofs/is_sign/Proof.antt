@@ -1,7 +1,7 @@
--- `records::is_sign` meets its contract: each way through its test gives what the test of a sign gives.
+-- `values::is_sign` meets its contract: each way through its test gives what the test of a sign gives.
 use borrow.Author.Tests.{le-leb, lt-leb}
-use Rattle.records.proofs.is_sign.Statement.{statement}
-use Rattle.records.proofs.is_sign.Tie as tie
+use Rattle.values.proofs.is_sign.Statement.{statement}
+use Rattle.values.proofs.is_sign.Tie as tie
 
 returns : tie.Need-returns
 returns c = rw (le-leb _ _ (c .if1 .taken))

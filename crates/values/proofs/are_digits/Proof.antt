@@ -1,8 +1,8 @@
--- `records::are_digits` meets its contract: each way through its tests gives what the two halves are.
+-- `values::are_digits` meets its contract: each way through its tests gives what the two halves are.
 use mathlib.Core.Path.{sym, _∙_}
 use borrow.Author.Needs.{needs}
-use Rattle.records.proofs.are_digits.Statement.{statement}
-use Rattle.records.proofs.are_digits.Tie as tie
+use Rattle.values.proofs.are_digits.Statement.{statement}
+use Rattle.values.proofs.are_digits.Tie as tie
 
 is-digit-requires : tie.Need-is-digit-requires
 is-digit-requires c κs = search needs

@@ -1,13 +1,13 @@
--- `records::input_permitted` meets its contract: the number says the kind, and a copy may have any input.
+-- `values::input_permitted` meets its contract: the number says the kind, and a copy may have any input.
 use mathlib.Core.Path.{sym}
 use native.Mathlib.Omega.{arith}
 use lib.ListN.{length}
 use borrow.Author.Needs.{needs}
 use Rattle.rules.proofs.HalfBytes.{all-bytes}
-use Rattle.records.proofs.WalkLaws.{kind-pack, kind-unpack}
-use Rattle.records.proofs.CheckLaws.{copy-any}
-use Rattle.records.proofs.input_permitted.Statement.{statement}
-use Rattle.records.proofs.input_permitted.Tie as tie
+use Rattle.rows.proofs.ReadLaws.{kind-pack, kind-unpack}
+use Rattle.values.proofs.CheckLaws.{copy-any}
+use Rattle.values.proofs.input_permitted.Statement.{statement}
+use Rattle.values.proofs.input_permitted.Tie as tie
 
 returns : tie.Need-returns
 returns c =

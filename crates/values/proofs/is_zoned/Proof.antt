@@ -1,10 +1,10 @@
--- `records::is_zoned` meets its contract: from F0 to F9 the high half is F and the low half a digit, and only there.
+-- `values::is_zoned` meets its contract: from F0 to F9 the high half is F and the low half a digit, and only there.
 use mathlib.Core.Path.{sym, _∙_}
 use native.Mathlib.Omega.{arith}
 use borrow.Author.Tests.{lt-leb}
-use Rattle.records.proofs.CheckLaws.{zoned-test, zone-missing}
-use Rattle.records.proofs.is_zoned.Statement.{statement}
-use Rattle.records.proofs.is_zoned.Tie as tie
+use Rattle.values.proofs.CheckLaws.{zoned-test, zone-missing}
+use Rattle.values.proofs.is_zoned.Statement.{statement}
+use Rattle.values.proofs.is_zoned.Tie as tie
 
 returns : tie.Need-returns
 returns c = zoned-test (c .before .args .byte) (omega arith) (c .if1 .taken)

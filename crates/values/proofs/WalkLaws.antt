@@ -5,34 +5,12 @@ use mathlib.Core.Bool.{Bool, true, false}
 use mathlib.Core.List.{List}
 use Prim.Native.Nat.{ℕ, _+_, _*_, _≤_}
 use native.Mathlib.Omega.{arith}
-use lib.ListN.{length, drop, getD, drop-of-length-le}
-use borrow.Author.Tests.{eq-eqb, ne-eqb}
+use lib.ListN.{length, drop, drop-of-length-le}
 use Rattle.rules.specs.Base.{every}
 use Rattle.rules.specs.Halves.{Field as RuleField}
 use Rattle.terms.specs.Meaning.{fieldOf}
-use Rattle.terms.specs.declared.Kind.the-variants.{Copy, Pack, Unpack}
-use Rattle.rows.specs.Flat.{flatOf, kindAt, fieldAt}
+use Rattle.rows.specs.Flat.{flatOf, fieldAt}
 use Rattle.rows.proofs.FlatLaws.{fields-many, fields-left}
-
--- ---- the numbers of one field
-
-pub kind-of-row : (xs : List ℕ) (i : ℕ) → fieldAt xs i .kind ≡ kindAt (getD xs (5 * i) 0)
-unfolding fieldAt
-kind-of-row xs i = refl
-
-pub kind-copy : (k : ℕ) → k ≡ 0 → kindAt k ≡ Copy
-unfolding kindAt
-kind-copy k e = rw (eq-eqb k 0 e)
-
-pub kind-pack : (k : ℕ) → k ≡ 1 → kindAt k ≡ Pack
-unfolding kindAt
-kind-pack k e = rw e
-
-pub kind-unpack : (k : ℕ) → (k ≡ 0 → ⊥) → (k ≡ 1 → ⊥) → kindAt k ≡ Unpack
-unfolding kindAt
-kind-unpack k no-copy no-pack = rw (ne-eqb k 0 no-copy, ne-eqb k 1 no-pack)
-
--- ---- field by field
 
 -- the fields before place i pass: what is left to ask is of the others
 abbrev pub Left : (RuleField → Bool) → List ℕ → ℕ → Type 0

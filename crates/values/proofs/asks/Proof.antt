@@ -1,4 +1,4 @@
--- `records::asks` meets its contract: before each turn the fields before place i are copies.
+-- `values::asks` meets its contract: before each turn the fields before place i are copies.
 use mathlib.Core.Path.{_∙_}
 use Prim.Native.Nat.{_-_, _*_}
 use native.Mathlib.Omega.{arith}
@@ -6,11 +6,11 @@ use lib.ListN.{getD}
 use borrow.Author.Needs.{needs}
 use borrow.Author.Tests.{eq-eqb, ne-eqb}
 use Rattle.rules.specs.Halves.{Field}
-use Rattle.records.specs.Promise.{takesAny}
-use Rattle.records.proofs.WalkLaws.{Left, left-start, left-more, left-fails, left-end}
-use Rattle.records.proofs.CheckLaws.{copy-first, asks-some, asks-none}
-use Rattle.records.proofs.asks.Statement.{statement}
-use Rattle.records.proofs.asks.Tie as tie
+use Rattle.values.specs.Promise.{takesAny}
+use Rattle.values.proofs.WalkLaws.{Left, left-start, left-more, left-fails, left-end}
+use Rattle.values.proofs.CheckLaws.{copy-first, asks-some, asks-none}
+use Rattle.values.proofs.asks.Statement.{statement}
+use Rattle.values.proofs.asks.Tie as tie
 
 abbrev Inv-loop : tie.InvT-loop
 Inv-loop fields count i₀ i = Left (λ (f : Field). takesAny (f .kind)) fields i

@@ -1,4 +1,4 @@
--- `records::unpack_permitted` meets its contract: before each turn what is left to ask is of the bytes from i on, and of the last something else is asked.
+-- `values::unpack_permitted` meets its contract: before each turn what is left to ask is of the bytes from i on, and of the last something else is asked.
 use mathlib.Core.Path.{refl, sym, _∙_}
 use Prim.Native.Nat.{ℕ, _-_, _≤_}
 use native.Mathlib.Omega.{arith}
@@ -6,9 +6,9 @@ use lib.ListN.{length}
 use borrow.Author.Needs.{needs}
 use borrow.Author.Tests.{not-true, not-false}
 use Rattle.rules.specs.Halves.{unpack}
-use Rattle.records.proofs.CheckLaws.{BytesLeft, bytes-more, bytes-fail, unpack-inner, unpack-end}
-use Rattle.records.proofs.unpack_permitted.Statement.{statement}
-use Rattle.records.proofs.unpack_permitted.Tie as tie
+use Rattle.values.proofs.CheckLaws.{BytesLeft, bytes-more, bytes-fail, unpack-inner, unpack-end}
+use Rattle.values.proofs.unpack_permitted.Statement.{statement}
+use Rattle.values.proofs.unpack_permitted.Tie as tie
 
 abbrev Inv-loop : tie.InvT-loop
 Inv-loop input last i₀ i = (i ≤ last) × ((m : ℕ) → BytesLeft (unpack (length input) m) input i)

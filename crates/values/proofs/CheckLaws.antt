@@ -1,12 +1,12 @@
 -- Whether a record is permitted: of a field's input byte after byte, and of the record field after field. It holds since a kind asks the same of each
 -- byte but the last, and since a record is permitted exactly if each field may have its input.
-use mathlib.Core.Path.{_≡_, refl, ap, ap₂, sym, subst, _∙_}
+use mathlib.Core.Path.{_≡_, refl, ap, ap₂, sym, _∙_}
 use mathlib.Core.Bool.{Bool, true, false, cond, not, _&&_, and-true, false≢true}
 use mathlib.Core.List.{List}
 use Prim.Native.Nat.{ℕ, _+_, _-_, _*_, _/_, _%_, _≤_, _<_}
 use native.Mathlib.Omega.{arith}
 use lib.Dec.{eqb, leb}
-use lib.ListN.{length, take, drop, getD}
+use lib.ListN.{length, drop, getD}
 use borrow.Author.Tests.{eq-eqb, ne-eqb, le-leb, leb-true}
 use Rattle.rules.specs.Base.{every}
 use Rattle.rules.specs.Places.{All, Byte}
@@ -14,20 +14,18 @@ use Rattle.rules.specs.Halves.{halves, Kind as RuleKind, copy, pack, unpack, in
 use Rattle.rules.specs.Permitted.{digit, sign, kindAllows}
 use Rattle.rules.specs.Output.{mayBe}
 use Rattle.rules.specs.Lent.{zoneF}
-use Rattle.rules.specs.RecordParts.{Fits, fieldInput}
+use Rattle.rules.specs.RecordParts.{fieldInput}
 use Rattle.rules.proofs.AllLaws.{all-take, all-drop}
 use Rattle.rules.proofs.Tests.{within-of, within-high}
-use Rattle.rules.proofs.LentParts.{part-length}
 use Rattle.rules.proofs.PermittedLaws.{same-test}
 use Rattle.rules.proofs.FieldTests.{pack-byte-test, unpack-byte-test, bytes-step, bytes-end, copy-permitted, fields-tested}
 use Rattle.terms.specs.Meaning.{kindOf, fieldOf}
 use Rattle.terms.specs.declared.Kind.{Kind}
 use Rattle.terms.specs.declared.Kind.the-variants.{Copy, Pack, Unpack}
 use Rattle.terms.specs.declared.Field.{Field}
-use Rattle.rows.specs.Flat.{flatOf, kindAt, fieldAt, Readable}
-use Rattle.records.specs.Promise.{Permits, takesAny, Asks}
-use Rattle.rows.proofs.FlatLaws.{input-of, fits-at}
-use Rattle.records.proofs.WalkLaws.{kind-of-row, kind-copy}
+use Rattle.rows.specs.Flat.{flatOf, kindAt, fieldAt}
+use Rattle.values.specs.Promise.{Permits, takesAny, Asks}
+use Rattle.rows.proofs.ReadLaws.{kind-of-row, kind-copy, lentInput, part-input, Reads, length-input}
 
 -- ---- one byte
 
@@ -86,31 +84,6 @@ module _ (s : List ℕ) (m i : ℕ) where
       (ap (λ (j : ℕ). digit (getD s j 0 / 16) && sign (getD s j 0 % 16)) (let z : i ≡ length s - 1 = omega arith in z))
 
 -- ---- what a field reads
-
--- the part of the record that is lent for a field
-abbrev pub lentInput : Field → List ℕ → List ℕ
-lentInput f r = take (f .r - 1 + f .input - (f .r - 1)) (drop (f .r - 1) r)
-
-pub part-input : (f : Field) (r : List ℕ) → lentInput f r ≡ fieldInput (fieldOf f) r
-unfolding fieldInput fieldOf
-part-input f r = ap (λ (n : ℕ). take n (drop (f .r - 1) r)) (let z : f .r - 1 + f .input - (f .r - 1) ≡ inputSize (fieldOf f .kind) = omega (arith, input-of f) in z)
-
--- a field reads some of its record
-pub record Reads (f : Field) (r : List ℕ) : Type 0 where
-  pub low : 1 ≤ f .r
-  pub some : 1 ≤ f .input
-  pub high : f .r - 1 + f .input ≤ length r
-
-pub reads-inside : {a b : ℕ} (f : Field) (r : List ℕ) → Fits a b (fieldOf f) → a ≤ length r → Reads f r
-unfolding fieldOf
-reads-inside f r h long =
-    record { low = h .r-low; some = omega (arith, h .input-low, input-of f); high = omega (arith, h .r-low, h .input-high, input-of f) }
-
-pub reads-at : (xs r : List ℕ) (i : ℕ) → Readable xs (length r) → 5 * i + 5 ≤ length xs → (f : Field) → f ≡ fieldAt xs i → Reads f r
-reads-at xs r i k l f e = subst (λ (g : Field). Reads g r) (sym e) (reads-inside (fieldAt xs i) r (fits-at (k .fielded .fair) i l) (k .long))
-
-pub length-input : (f : Field) (r : List ℕ) → Reads f r → length (lentInput f r) ≡ f .input
-length-input f r h = part-length (f .r - 1) (f .input) r (h .high)
 
 -- a field may read this record
 abbrev pub mayRead : List ℕ → RuleField → Bool

@@ -1,0 +1,3 @@
+mod WalkLaws
+mod CheckLaws
+pub mod PromiseLaws
