@@ -1,16 +1,17 @@
 -- The promises about writing one record: what is written is what the rules say of an accepted plan, whatever it is written over, and each promise allows one
 -- outcome only. It holds since the numbers say which fields they are of.
-use mathlib.Core.Path.{_≡_, refl, ap, sym, _∙_}
-use mathlib.Core.Bool.{Bool, true}
-use mathlib.Core.List.{List, _++_}
-use Prim.Native.Nat.{ℕ, _≤_}
-use lib.ListN.{length, replicate}
+use mathlib.Core.Path.{_≡_, refl, ap, ap₂, sym, _∙_}
+use mathlib.Core.Bool.{Bool, true, false, cond}
+use mathlib.Core.List.{List, [], _++_}
+use Prim.Native.Nat.{ℕ, _+_, _-_, _≤_}
+use lib.ListN.{length, take, drop, replicate, length-append, length-drop, length-replicate}
 use borrow.Author.Tests.{leb-true}
-use Rattle.rules.specs.Halves.{Field, over}
+use Rattle.rules.specs.Halves.{Field, over, halves, bytes, outHalves, value}
 use Rattle.rules.specs.Plan.{Plan, recordLength}
 use Rattle.rules.specs.Output.{selected}
 use Rattle.rules.specs.Lent.{zoneF}
 use Rattle.rules.specs.RecordParts.{writtenBytes}
+use Rattle.rules.proofs.FieldSteps.{out-bytes, length-writtenBytes}
 use Rattle.rows.specs.Flat.{flatOf, FlatFair, Fielded}
 use Rattle.records.specs.Promise.{reachOf, Covers, outBytes, Puts}
 use Rattle.records.proofs.CoverLaws.{covered-same}
@@ -33,6 +34,21 @@ pub puts-of : (p : Plan) (xs r old new : List ℕ) → p .zone ≡ zoneF → Fla
     → Puts xs (recordLength (p .input)) (recordLength (p .output)) (p .carries) r old new → new ≡ over 0 (selected p r) old
 unfolding Puts
 puts-of p xs r old new z fair h = h (p .fields) fair ∙ ap (λ (v : List ℕ). over 0 v old) (selected-of p r z)
+
+-- B's n bytes, and with CV the data past A's n
+pub bytes-size : {xs : List ℕ} {n m : ℕ} {fs : List Field} → FlatFair xs fs n m → (c : Bool) (r : List ℕ) → n ≤ length r → length (outBytes n m fs c r) ≡ m + cond c (length r - n) 0
+unfolding outBytes
+bytes-size {n = n} {m} {fs} fair c r long =
+    length-append (bytes (outHalves zoneF value m fs (halves (take n r)))) (cond {A = List ℕ} c (drop n r) []) ∙ ap₂ (λ (i j : ℕ). i + j) size (tail c)
+  where
+    size : length (bytes (outHalves zoneF value m fs (halves (take n r)))) ≡ m
+    size =
+        ap length (out-bytes zoneF n m r long fs (fair .fits))
+        ∙ length-writtenBytes zoneF n m r long fs (replicate m 0x40) (fair .fits) (length-replicate {A = ℕ} m 0x40)
+
+    tail : (c : Bool) → length (cond {A = List ℕ} c (drop n r) []) ≡ cond {A = ℕ} c (length r - n) 0
+    tail true = length-drop n r
+    tail false = refl
 
 -- ---- one outcome only
 

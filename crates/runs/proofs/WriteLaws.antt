@@ -30,7 +30,8 @@ use Rattle.terms.specs.Meaning.{modeOf, fieldOf, fieldsIn, planIn, TaskIs}
 use Rattle.rows.specs.Flat.{flatOf, Short}
 use Rattle.rows.proofs.FlatLaws.{length-flat}
 use Rattle.rows.proofs.RowLaws.{short-of, flat-front}
-use Rattle.writers.specs.Promise.{blocksIn, Ready, Lent, ReelPut}
+use Rattle.fixed.specs.Promise.{blocksIn, Ready, Lent}
+use Rattle.writers.specs.Promise.{ReelPut}
 use Rattle.checks.specs.declared.Ran.{Ran}
 use Rattle.checks.specs.Promise.{ranStruct, Given, GivenPlan, Checked}
 use Rattle.runs.specs.Promise.{Runnable, Finishes, Finishing, Written, RanInto}

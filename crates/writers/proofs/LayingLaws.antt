@@ -1,30 +1,23 @@
 -- The pass that writes: before each turn the blocks so far are laid, and the tally is their measure. By what a record does to the blocks and to the output.
-use mathlib.Core.Path.{_≡_, refl, ap, ap₂, sym, _∙_, subst, subst₂}
-use mathlib.Core.Bool.{Bool, true, false, cond}
+use mathlib.Core.Path.{_≡_, refl, ap, ap₂, sym, _∙_, subst}
+use mathlib.Core.Bool.{Bool, true, false}
 use mathlib.Core.List.{List, [], _∷_, _++_, map}
 use Prim.Native.Nat.{ℕ, _+_, _-_, _*_, _≤_}
 use native.Mathlib.Omega.{arith}
-use lib.ListN.{length, take, drop}
+use lib.ListN.{length}
 use Rattle.rules.specs.Base.{joined}
-use Rattle.rules.specs.Halves.{over, bytes, outHalves, halves, value}
-use Rattle.rules.specs.Places.{All}
-use Rattle.rules.specs.Grammar.{Mode, Format}
+use Rattle.rules.specs.Halves.{over, bytes}
+use Rattle.rules.specs.Grammar.{Format}
 use Rattle.rules.specs.Reel.{word, ends, reelOf}
-use Rattle.rules.specs.Plan.{Plan, selects, recordLength}
-use Rattle.rules.specs.Output.{outRecord, selected, blockOf, cost}
+use Rattle.rules.specs.Plan.{Plan, selects}
+use Rattle.rules.specs.Output.{outRecord, blockOf, cost}
 use Rattle.rules.specs.Run.{outputBlocks}
-use Rattle.rules.specs.Lent.{zoneF}
-use Rattle.rules.specs.RecordParts.{Fits}
-use Rattle.rules.proofs.AllLaws.{all-imply}
 use Rattle.rules.proofs.ReelLaws.{length-reel}
 use Rattle.rules.proofs.FillLaws.{total-least}
 use Rattle.rules.proofs.BlockSizes.{least-selects}
-use Rattle.rules.proofs.RecordLaws.{fits-of}
 use Rattle.terms.specs.Meaning.{formatOf}
 use Rattle.terms.specs.declared.Task.{Task}
 use Rattle.reels.specs.declared.Form.{Form}
-use Rattle.rows.specs.Flat.{FlatFair}
-use Rattle.records.specs.Promise.{outBytes}
 use Rattle.walks.specs.declared.Walk.{Walk}
 use Rattle.walks.specs.Promise.{Walks, Taken}
 use Rattle.tasks.specs.Promise.{formOf, lengthOf}
@@ -32,13 +25,14 @@ use Rattle.fillings.specs.declared.Tally.{Tally}
 use Rattle.fillings.specs.Tallying.{opensOf, tallyOf, Small}
 use Rattle.fillings.proofs.TallyLaws.{empty, tally-opens, tally-behind}
 use Rattle.writers.specs.Writing.{sizeWord, pieceOf, offsetPut}
-use Rattle.writers.specs.Promise.{blocksIn, outOf, Writable, NextFits, nextPut, NextPut, Lent}
+use Rattle.fixed.specs.Promise.{blocksIn, Lent}
+use Rattle.writers.specs.Promise.{Writable, NextFits, nextPut, NextPut}
 use Rattle.fillings.proofs.FilledLaws.{allOf, all-done, soFar, bytesIn, sizeOf, length-snoc, least, Filled, filled-start, filled-opens, behind-some, filled-behind}
 use Rattle.writers.proofs.LaidLaws.{laid, laid-nothing, laid-length, laid-ends, laid-opens, laid-behind}
 use Rattle.writers.proofs.RecordLaws.{offset-opens, offset-stays}
 use Rattle.fillings.proofs.GatheredLaws.{outs, gathered-is, starts-is}
-use Rattle.writers.proofs.Readying.{marksIn, count-is}
-use Rattle.writers.proofs.TurnLaws.{walks-first, Turn, header-fits, few-blocks, width-small, cost-small}
+use Rattle.fixed.proofs.ReadyLaws.{marksIn, count-is, header-fits, few-blocks, fair-is, out-is}
+use Rattle.writers.proofs.TurnLaws.{walks-first, Turn, width-small, cost-small}
 
 -- the tally behind a record that was read
 pub tally-read : (task : Task) (t v : Tally) (begins : Bool) (n size k : ℕ) → v ≡ tallyOf task t begins n → n ≡ lengthOf task size → k ≡ size → v ≡ tallyOf task t begins (lengthOf task k)
@@ -53,30 +47,6 @@ module _ {task : Task} {xs s : List ℕ} {blocks : ℕ} (old : List ℕ) (y : Le
 
   costs : task .cost ≡ cost (formatOf (task .format))
   costs = y .ready .is .costs ∙ sym (ap cost (y .ready .is .format))
-
-  -- ---- a record
-
-  pub fair-is : FlatFair xs (p .fields) (task .n) (task .width)
-  fair-is =
-      record {
-        flat = y .flat;
-        fits = subst₂ (λ (a b : ℕ). All (Fits a b) (p .fields)) (sym (y .ready .is .n)) (sym (y .ready .is .width)) (fits-of p (y .ready .good .accepted));
-        sizes = all-imply (λ f w. w .kind) (y .ready .good .accepted .limits);
-      }
-
-  pub out-is : (r : List ℕ) → outRecord p r ≡ outOf task (p .fields) r
-  unfolding outRecord selected outOf outBytes
-  out-is r =
-      ap
-      (λ (z : ℕ). cond (selects (p .mode))
-      (bytes (outHalves z value (recordLength (p .output)) (p .fields) (halves (take (recordLength (p .input)) r))) ++ cond (p .carries) (drop (recordLength (p .input)) r) []) r)
-      (y .ready .zone)
-      ∙ ap₂
-      (λ (n m : ℕ). cond (selects (p .mode)) (bytes (outHalves zoneF value m (p .fields) (halves (take n r))) ++ cond (p .carries) (drop n r) []) r)
-      (sym (y .ready .is .n)) (sym (y .ready .is .width))
-      ∙ ap₂
-      (λ (m : Mode) (c : Bool). cond (selects m) (bytes (outHalves zoneF value (task .width) (p .fields) (halves (take (task .n) r))) ++ cond c (drop (task .n) r) []) r)
-      (sym (y .ready .is .mode)) (sym (y .ready .is .carries))
 
   -- ---- the pass
 
@@ -138,7 +108,7 @@ module _ {task : Task} {xs s : List ℕ} {blocks : ℕ} (old : List ℕ) (y : Le
       ap₂
       (λ (f : Format) (d : List ℕ). over (4 * blocks + 8 + v .bytes - (task .cost + lengthOf task (length r))) (pieceOf f d)
       (over (4 * blocks + 8 + v .bytes - v .size) (sizeWord f (v .size)) (offsetPut (4 * blocks + 8) t v out)))
-      (y .ready .is .format) (sym (out-is r))
+      (y .ready .is .format) (sym (out-is y r))
 
   module _ (closed : List (List (List ℕ))) (t : Tally) (begins : Bool) (r : List ℕ) (more : List (Bool × List ℕ)) (long : length (outRecord p r) ≡ lengthOf task (length r)) where
     added-opens : (now : List (List ℕ)) → Filled (p .format) task all closed now t ((begins, outRecord p r) ∷ more) → opensOf task t begins (length (outRecord p r)) ≡ true
@@ -275,7 +245,7 @@ module _ {task : Task} {xs s : List ℕ} {blocks : ℕ} (old : List ℕ) (y : Le
       laying-writable m =
           let k = within (added .filled) in
           record {
-            fielded = record { fields = p .fields; fair = fair-is };
+            fielded = record { fields = p .fields; fair = fair-is y };
             least = λ z. omega (arith, u .least, least-selects p (sym (ap selects (y .ready .is .mode)) ∙ z), y .ready .is .n);
             costs = costs;
             width = width-small (y .ready);
@@ -292,5 +262,5 @@ module _ {task : Task} {xs s : List ℕ} {blocks : ℕ} (old : List ℕ) (y : Le
             closed = added .earlier;
             now = added .last;
             filled = added .filled;
-            is = q (p .fields) fair-is ∙ ap (nextPut task (p .fields) r (4 * blocks + 8) t v) (l .is) ∙ added .put;
+            is = q (p .fields) (fair-is y) ∙ ap (nextPut task (p .fields) r (4 * blocks + 8) t v) (l .is) ∙ added .put;
           }

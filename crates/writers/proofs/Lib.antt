@@ -1,10 +1,6 @@
 pub mod BlockParts
 pub mod LaidLaws
 pub mod RecordLaws
-pub mod Readying
 pub mod TurnLaws
 pub mod LayingLaws
 pub mod WriteLaws
-pub mod OutputLaws
-pub mod EndsLaws
-pub mod FixedWrite

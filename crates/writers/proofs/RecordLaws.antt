@@ -1,21 +1,19 @@
 -- A record in its place: what each function leaves is the record's word and output over what was lent. By the laws of what is put over an output.
-use mathlib.Core.Path.{_≡_, refl, ap, ap₂, sym, _∙_, subst}
+use mathlib.Core.Path.{_≡_, refl, ap, sym, _∙_, subst}
 use mathlib.Core.Bool.{Bool, true, false, cond}
-use mathlib.Core.List.{List, [], _++_}
+use mathlib.Core.List.{List, _++_}
 use Prim.Native.Nat.{ℕ, _+_, _-_, _*_, _≤_, _<_}
 use native.Mathlib.Omega.{arith}
-use lib.ListN.{length, take, drop, replicate, length-append, length-drop, length-replicate}
+use lib.ListN.{length, take, drop}
 use borrow.Author.Tests.{lt-ltb, le-ltb}
 use borrow.Rule.Slice.PartMut.{putMid}
-use Rattle.rules.specs.Halves.{Field, over, bytes, outHalves, halves, value}
+use Rattle.rules.specs.Halves.{Field, over, bytes}
 use Rattle.rules.specs.Plan.{selects}
 use Rattle.rules.specs.Output.{cost}
-use Rattle.rules.specs.Lent.{zoneF}
 use Rattle.rules.specs.Reel.{word}
 use Rattle.rules.proofs.SizeLaws.{length-over}
 use Rattle.rules.proofs.PlaceLaws.{over-behind}
 use Rattle.rules.proofs.LentParts.{rest-over}
-use Rattle.rules.proofs.FieldSteps.{out-bytes, length-writtenBytes}
 use Rattle.terms.specs.Meaning.{modeOf, formatOf}
 use Rattle.terms.specs.declared.Mode.{Mode}
 use Rattle.terms.specs.declared.Format.{Format}
@@ -27,7 +25,10 @@ use Rattle.fillings.specs.declared.Tally.{Tally}
 use Rattle.tasks.specs.Promise.{tailOf, lengthOf}
 use Rattle.tasks.proofs.LengthLaws.{length-selected, length-carried}
 use Rattle.writers.specs.Writing.{sizeWord, pieceOf, offsetPut}
-use Rattle.writers.specs.Promise.{outOf, Writable, DataPut, PiecePut, nextPut, NextPut}
+use Rattle.fixed.specs.Promise.{outOf}
+use Rattle.writers.specs.Promise.{Writable, DataPut, PiecePut, nextPut, NextPut}
+use Rattle.records.proofs.PromiseLaws.{bytes-size}
+use Rattle.fixed.proofs.ReadyLaws.{selects-as}
 use Rattle.writers.proofs.BlockParts.{length-sizeWord}
 
 -- ---- the word
@@ -43,21 +44,6 @@ word-cost e k = k ∙ ap (λ (f : Format). cost (formatOf f)) e
 
 -- ---- the output
 
--- B's n bytes, and with CV the data past A's n
-pub bytes-size : {xs : List ℕ} {n m : ℕ} {fs : List Field} → FlatFair xs fs n m → (c : Bool) (r : List ℕ) → n ≤ length r → length (outBytes n m fs c r) ≡ m + cond c (length r - n) 0
-unfolding outBytes
-bytes-size {n = n} {m} {fs} fair c r long =
-    length-append (bytes (outHalves zoneF value m fs (halves (take n r)))) (cond {A = List ℕ} c (drop n r) []) ∙ ap₂ (λ (i j : ℕ). i + j) size (tail c)
-  where
-    size : length (bytes (outHalves zoneF value m fs (halves (take n r)))) ≡ m
-    size =
-        ap length (out-bytes zoneF n m r long fs (fair .fits))
-        ∙ length-writtenBytes zoneF n m r long fs (replicate m 0x40) (fair .fits) (length-replicate {A = ℕ} m 0x40)
-
-    tail : (c : Bool) → length (cond {A = List ℕ} c (drop n r) []) ≡ cond {A = ℕ} c (length r - n) 0
-    tail true = length-drop n r
-    tail false = refl
-
 module _ (task : Task) (xs r : List ℕ) where
   pub copy-room : {m : Mode} → task .mode ≡ m → selects (modeOf m) ≡ false → (room : ℕ) → lengthOf task (length r) ≤ room → length r ≤ room
   copy-room e s room l = omega (arith, length-carried task (length r) e s)
@@ -67,18 +53,15 @@ module _ (task : Task) (xs r : List ℕ) where
   unfolding tailOf
   record-room e s room l = subst (λ (k : ℕ). k ≤ room) (sym (length-selected task (length r) e s)) l
 
-  pub selects-as : {m : Mode} → task .mode ≡ m → (b : Bool) → selects (modeOf m) ≡ b → selects (modeOf (task .mode)) ≡ b
-  selects-as e b s = ap (λ (m : Mode). selects (modeOf m)) e ∙ s
-
   module _ (old new : List ℕ) where
     pub data-copied : {m : Mode} → task .mode ≡ m → selects (modeOf m) ≡ false → new ≡ over 0 r old → DataPut task xs r old new
     unfolding DataPut outOf
-    data-copied e s q fs fair = q ∙ sym (ap (λ (b : Bool). over 0 (cond b (outBytes (task .n) (task .width) fs (task .carries) r) r) old) (selects-as e false s))
+    data-copied e s q fs fair = q ∙ sym (ap (λ (b : Bool). over 0 (cond b (outBytes (task .n) (task .width) fs (task .carries) r) r) old) (selects-as task e false s))
 
     pub data-selected : {m : Mode} → task .mode ≡ m → selects (modeOf m) ≡ true → Puts xs (task .n) (task .width) (task .carries) r old new → DataPut task xs r old new
     unfolding DataPut outOf Puts
     data-selected e s q fs fair =
-        q fs fair ∙ sym (ap (λ (b : Bool). over 0 (cond b (outBytes (task .n) (task .width) fs (task .carries) r) r) old) (selects-as e true s))
+        q fs fair ∙ sym (ap (λ (b : Bool). over 0 (cond b (outBytes (task .n) (task .width) fs (task .carries) r) r) old) (selects-as task e true s))
 
   -- its length
   pub out-size : Writable task xs r → (fs : List Field) → FlatFair xs fs (task .n) (task .width) → length (outOf task fs r) ≡ lengthOf task (length r)

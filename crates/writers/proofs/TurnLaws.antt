@@ -3,17 +3,14 @@
 use mathlib.Core.Path.{_≡_, ap, sym, _∙_, subst}
 use mathlib.Core.Bool.{Bool, true≢false}
 use mathlib.Core.List.{List, _∷_}
-use Prim.Native.Nat.{ℕ, _+_, _-_, _*_, _≤_}
+use Prim.Native.Nat.{ℕ, _+_, _-_, _≤_}
 use native.Mathlib.Omega.{arith}
 use lib.ListN.{length, take, drop}
 use Rattle.rules.specs.Grammar.{Format, Size, two, one}
-use Rattle.rules.specs.Reel.{reelOf}
 use Rattle.rules.specs.Plan.{recordLength, isTC}
 use Rattle.rules.specs.Rows.{SizeWithin}
 use Rattle.rules.specs.Blocks.{leastData, takenFrom}
 use Rattle.rules.specs.Output.{outRecord}
-use Rattle.rules.proofs.Bounds.{reel-most}
-use Rattle.rules.proofs.ReelLaws.{length-reel}
 use Rattle.rules.proofs.MeasureLaws.{cost-high}
 use Rattle.terms.specs.declared.Task.{Task}
 use Rattle.terms.specs.declared.Format.the-variants.{FU}
@@ -23,13 +20,13 @@ use Rattle.walks.specs.declared.Walk.{Walk}
 use Rattle.walks.specs.declared.RecordRead.{RecordRead}
 use Rattle.walks.specs.declared.RecordRead.the-variants.{Record}
 use Rattle.walks.specs.Marks.{markedAll}
-use Rattle.walks.specs.Promise.{Walks, Sound, Standing, Told, Taken}
+use Rattle.walks.specs.Promise.{Walks, Standing, Told, Taken}
 use Rattle.walks.proofs.PromiseLaws.{passed, inside, lent, lent-length}
 use Rattle.tasks.specs.Promise.{formOf, lengthOf}
 use Rattle.tasks.proofs.LengthLaws.{form-given, out-length}
-use Rattle.writers.specs.Promise.{blocksIn, Ready}
+use Rattle.fixed.specs.Promise.{Ready}
 use Rattle.fillings.proofs.GatheredLaws.{outs}
-use Rattle.writers.proofs.Readying.{marksIn, count-is}
+use Rattle.fixed.proofs.ReadyLaws.{marksIn, input-small}
 
 record-most : (f : Format) (z : Size) → SizeWithin f z → recordLength z ≤ 4096
 record-most f (two n m) w = w .0 .1
@@ -42,9 +39,6 @@ record-long t e = ap length (lent t e) ∙ lent-length t e
 
 module _ {task : Task} {s : List ℕ} {blocks room : ℕ} (x : Ready task s blocks room) where
   -- the walk stands in the reel
-  pub sound : {form : Form} → form ≡ formOf task → Sound form s
-  sound e = record { p = x .p; recs = x .recs; form-is = form-given (x .is) e; good = x .good }
-
   pub stands : {form : Form} → form ≡ formOf task → {w : Walk} {rest : List (Bool × List ℕ)} → Walks (x .p) s w rest → Standing form s w
   stands e {rest = rest} k = record { p = x .p; rest = rest; form-is = form-given (x .is) e; walks = k }
 
@@ -81,20 +75,11 @@ module _ {task : Task} {s : List ℕ} {blocks room : ℕ} (x : Ready task s bloc
   pub no-FU : task .format ≡ FU → ⊥
   no-FU e = true≢false (sym (ap isTC (x .good .accepted .required .FU-with-TC (sym (x .is .format) ∙ ap formatOf e))) ∙ x .other)
 
-  pub header-fits : 4 * blocks + 8 ≤ length (reelOf (blocksIn (x .p) (x .recs)))
-  header-fits = omega (arith, length-reel (blocksIn (x .p) (x .recs)), count-is x)
-
-  pub few-blocks : blocks ≤ 65536
-  few-blocks = omega (arith, header-fits, x .most)
-
   pub width-small : task .width ≤ 4096
   width-small = omega (arith, x .is .width, record-most (x .p .format) (x .p .output) (x .good .accepted .output))
 
   pub cost-small : task .cost ≤ 4
   cost-small = omega (arith, x .is .costs, cost-high (x .p .format))
-
-  pub input-small : length s ≤ 65536
-  input-small = reel-most s (x .good .reel)
 
   module _ {form : Form} {w : Walk} {read : RecordRead} (t : Told form s w read) {start size : ℕ} {begins : Bool} {next : Walk} (e : read ≡ Record start size begins next) where
     pub record-ends : start + size ≤ 65536

@@ -21,9 +21,9 @@ use Rattle.terms.specs.Meaning.{TaskIs}
 use Rattle.terms.specs.declared.Task.{Task}
 use Rattle.rows.specs.Flat.{flatOf}
 use Rattle.walks.specs.Promise.{Good}
-use Rattle.writers.specs.Promise.{blocksIn, Lent, BodyPut, ReelPut}
-use Rattle.writers.proofs.Readying.{count-is}
-use Rattle.writers.proofs.TurnLaws.{header-fits}
+use Rattle.fixed.specs.Promise.{blocksIn, Lent, BodyPut}
+use Rattle.writers.specs.Promise.{ReelPut}
+use Rattle.fixed.proofs.ReadyLaws.{count-is, header-fits}
 
 -- the same in an output of the same length
 abbrev lent-as : {task : Task} {xs s : List ℕ} {blocks room next : ℕ} → room ≡ next → Lent task xs s blocks room → Lent task xs s blocks next

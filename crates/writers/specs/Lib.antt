@@ -1,3 +1,2 @@
 pub mod Writing
 pub mod Promise
-pub mod Fixed

@@ -8,10 +8,8 @@ ghost use Rattle.rules.specs.Output.{cost};
 ghost use Rattle.records.specs.Promise.{Covers};
 ghost use Rattle.tasks.specs.Promise.{lengthOf};
 ghost use Rattle.writers.specs.Writing.{offsetPut};
-ghost use Rattle.writers.specs.Promise.{Writable, DataPut, PiecePut, OffsetFits, NextFits, NextPut, Lent, BodyPut, ReelPut};
-
-mod fixed;
-
+ghost use Rattle.fixed.specs.Promise.{Lent, BodyPut};
+ghost use Rattle.writers.specs.Promise.{Writable, DataPut, PiecePut, OffsetFits, NextFits, NextPut, ReelPut};
 use fillings::Tally;
 use terms::Format;
 use terms::Task;

@@ -1,5 +1,5 @@
 -- By the format; no plan but of TC is in FU.
-use Rattle.writers.specs.Promise.{BodyPut}
+use Rattle.fixed.specs.Promise.{BodyPut}
 use Rattle.writers.proofs.TurnLaws.{no-FU}
 use borrow.Author.Needs.{needs}
 use Rattle.writers.proofs.put_body.Statement.{statement}

@@ -7,8 +7,9 @@ use Rattle.walks.specs.Promise.{bytesLeft}
 use Rattle.walks.proofs.PromiseLaws.{inside, ended}
 use Rattle.tasks.specs.Promise.{lengthOf}
 use Rattle.tasks.proofs.LengthLaws.{form-given, length-most}
-use Rattle.writers.specs.Promise.{Lent, BodyPut}
-use Rattle.writers.proofs.TurnLaws.{record-long, sound, stands, turn, header-fits, few-blocks, width-small, record-ends, record-few}
+use Rattle.fixed.specs.Promise.{Lent, BodyPut}
+use Rattle.fixed.proofs.ReadyLaws.{sound, header-fits, few-blocks}
+use Rattle.writers.proofs.TurnLaws.{record-long, stands, turn, width-small, record-ends, record-few}
 use Rattle.writers.proofs.LayingLaws.{tally-read, Laying, laying-start, laying-within, laying-length, laying-small, laying-end, laying-fits, laying-writable, laying-next}
 use Rattle.writers.proofs.write_walked.Statement.{statement}
 use Rattle.writers.proofs.write_walked.Tie as tie

@@ -3,8 +3,8 @@
 ghost use mathlib.Core.Path.{_≡_};
 ghost use Prim.Native.Nat.{_+_, _*_};
 ghost use lib.ListN.{length};
-ghost use Rattle.writers.specs.Promise.{Lent, BodyPut};
-ghost use Rattle.writers.specs.Fixed.{OutputsFit, OutputsPut, BytesFit, BytesPut, EndsFit, EndsPut};
+ghost use Rattle.fixed.specs.Promise.{Lent, BodyPut};
+ghost use Rattle.fixed.specs.Fixed.{OutputsFit, OutputsPut, BytesFit, BytesPut, EndsFit, EndsPut};
 use terms::Format;
 use terms::Mode;
 use terms::Task;
@@ -56,7 +56,7 @@ fn put_ends(task: Task, s: &[u8], from: usize, records: usize, base: usize, out:
 }
 
 // The offsets from place 4 on, and behind them the blocks.
-pub(crate) fn write(task: Task, fields: &[u16], s: &[u8], blocks: usize, out: &mut [u8])
+pub fn write(task: Task, fields: &[u16], s: &[u8], blocks: usize, out: &mut [u8])
     requires { ⌜ Lent task (now fields) (now s) blocks (length (now out)) ⌝ }
     requires { ⌜ task .format ≡ Format.FF ⌝ }
     ensures { λ _. ⌜ BodyPut task (now (fields .entry)) (now (s .entry)) blocks (now (out .entry)) (now (out .exit)) ⌝ }

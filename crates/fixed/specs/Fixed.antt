@@ -16,7 +16,7 @@ use Rattle.rows.specs.Flat.{FlatFair, Fielded}
 use Rattle.records.specs.Promise.{outBytes}
 use Rattle.walks.specs.Walking.{fixedStart}
 use Rattle.tasks.specs.Promise.{formOf}
-use Rattle.writers.specs.Promise.{blocksIn, Ready, outOf}
+use Rattle.fixed.specs.Promise.{blocksIn, Ready, outOf}
 
 -- ---- the outputs
 

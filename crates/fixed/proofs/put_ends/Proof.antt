@@ -1,10 +1,10 @@
 -- By the mode: the offsets are those of the input's blocks, or a step apart.
 use mathlib.Core.Path.{refl}
 use native.Mathlib.Omega.{arith}
-use Rattle.writers.proofs.EndsLaws.{divisor, step-most, bytes-most, base-most, steps-fit, each-fits, steps-put, each-put}
+use Rattle.fixed.proofs.EndsLaws.{divisor, step-most, bytes-most, base-most, steps-fit, each-fits, steps-put, each-put}
 use borrow.Author.Needs.{needs}
-use Rattle.writers.proofs.fixed.put_ends.Statement.{statement}
-use Rattle.writers.proofs.fixed.put_ends.Tie as tie
+use Rattle.fixed.proofs.put_ends.Statement.{statement}
+use Rattle.fixed.proofs.put_ends.Tie as tie
 
 div-step : tie.Need-div-step
 div-step c = divisor (c .before .before .before .pre)

@@ -3,10 +3,10 @@ use mathlib.Core.Path.{refl, ap}
 use Rattle.rules.specs.Plan.{selects}
 use Rattle.terms.specs.Meaning.{modeOf}
 use Rattle.terms.specs.declared.Mode.{Mode}
-use Rattle.writers.proofs.OutputLaws.{bytes-copied, bytes-selected}
+use Rattle.fixed.proofs.OutputLaws.{bytes-copied, bytes-selected}
 use borrow.Author.Needs.{needs}
-use Rattle.writers.proofs.fixed.put_bytes.Statement.{statement}
-use Rattle.writers.proofs.fixed.put_bytes.Tie as tie
+use Rattle.fixed.proofs.put_bytes.Statement.{statement}
+use Rattle.fixed.proofs.put_bytes.Tie as tie
 
 enum-told : tie.Need-enum-told
 enum-told c = search needs

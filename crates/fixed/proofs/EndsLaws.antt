@@ -25,10 +25,9 @@ use Rattle.walks.specs.Walking.{fixedStart}
 use Rattle.tasks.specs.Promise.{formOf}
 use Rattle.offsets.specs.Small.{StepSmall, EachSmall}
 use Rattle.fillings.proofs.FixedLaws.{is-fixed, record-some, width-least, width-fits, from-is, count-of, count-most}
-use Rattle.writers.specs.Promise.{blocksIn, Ready}
-use Rattle.writers.specs.Fixed.{EndsFit, EndsPut}
-use Rattle.writers.proofs.Readying.{count-is}
-use Rattle.writers.proofs.TurnLaws.{header-fits}
+use Rattle.fixed.specs.Promise.{blocksIn, Ready}
+use Rattle.fixed.specs.Fixed.{EndsFit, EndsPut}
+use Rattle.fixed.proofs.ReadyLaws.{count-is, header-fits}
 
 -- ---- the two ways
 

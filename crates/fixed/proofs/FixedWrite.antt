@@ -24,11 +24,9 @@ use Rattle.terms.specs.declared.Format.the-variants.{FF}
 use Rattle.walks.specs.Walking.{fixedStart}
 use Rattle.tasks.specs.Promise.{formOf}
 use Rattle.fillings.proofs.FixedLaws.{is-fixed, record-some, data-even, records-all}
-use Rattle.writers.specs.Promise.{blocksIn, Ready, outOf, Lent, BodyPut}
-use Rattle.writers.specs.Fixed.{BytesFit, BytesPut, EndsFit, EndsPut}
-use Rattle.writers.proofs.Readying.{count-is}
-use Rattle.writers.proofs.TurnLaws.{input-small}
-use Rattle.writers.proofs.LayingLaws.{fair-is, out-is}
+use Rattle.fixed.specs.Promise.{blocksIn, Ready, outOf, Lent, BodyPut}
+use Rattle.fixed.specs.Fixed.{BytesFit, BytesPut, EndsFit, EndsPut}
+use Rattle.fixed.proofs.ReadyLaws.{count-is, input-small, fair-is, out-is}
 
 map-same : {f g : List ℕ → List ℕ} → ((r : List ℕ) → f r ≡ g r) → (rs : List (List ℕ)) → map f rs ≡ map g rs
 map-same h [] = refl
@@ -96,7 +94,7 @@ module _ {task : Task} {xs s : List ℕ} {blocks : ℕ} (old : List ℕ) (y : Le
         outputs =
             record {
               some = record-some (x .is) (x .good) f;
-              fielded = record { fields = x .p .fields; fair = fair-is old y };
+              fielded = record { fields = x .p .fields; fair = fair-is y };
               records = taken;
               even = block-is d;
               short = omega (arith, ap length d, length-drop from s, input-small x);
@@ -123,9 +121,13 @@ body-put task xs s blocks old first ys {from} {block} f b d same e h = λ y.
     let p = y .ready .p in
     let bs = blocksIn p (y .ready .recs) in
     let rs = joined (takenFrom (p .first) (y .ready .recs)) in
-    let outs : joined (map (outOf task (p .fields)) rs) ≡ joined bs = sym (bytes-are old y f b ∙ ap joined (map-same (out-is old y) rs)) in
+    let outs : joined (map (outOf task (p .fields)) rs) ≡ joined bs = sym (bytes-are old y f b ∙ ap joined (map-same (out-is y) rs)) in
     let l = behind-header old y f b in
-    ap (putMid base (length first - base) first) (h (p .fields) (fair-is old y) rs (block-is old y f b d) ∙ ap (λ (z : List ℕ). over 0 z (take (length first - base) (drop base first))) outs)
+    ap (putMid base (length first - base) first) (h (p .fields) (fair-is y) rs (block-is old y f b d) ∙ ap (λ (z : List ℕ). over 0 z (take (length first - base) (drop base first))) outs)
     ∙ rest-over base first (joined bs) (omega arith)
     ∙ ap (over base (joined bs)) (e blocks (y .ready) refl)
     ∙ over-behind 4 base (ends base bs) (joined bs) old (omega (arith, length-ends base bs, count-is (y .ready))) (omega arith)
+
+pub body-only-one : {task : Task} {xs s : List ℕ} {blocks : ℕ} (old : List ℕ) → Lent task xs s blocks (length old) → {x z : List ℕ} → BodyPut task xs s blocks old x → BodyPut task xs s blocks old z → x ≡ z
+unfolding BodyPut
+body-only-one old y a b = a y ∙ sym (b y)

@@ -5,9 +5,9 @@ use native.Mathlib.Omega.{arith}
 use lib.ListN.{length, take, drop}
 use borrow.Author.Needs.{needs}
 use borrow.Rule.Slice.PartMut.{same-len-mid, mid-len}
-use Rattle.writers.proofs.OutputLaws.{Outputting, output-start, whole-left, room-left, one-length, output-more, output-end}
-use Rattle.writers.proofs.fixed.put_outputs.Statement.{statement}
-use Rattle.writers.proofs.fixed.put_outputs.Tie as tie
+use Rattle.fixed.proofs.OutputLaws.{Outputting, output-start, whole-left, room-left, one-length, output-more, output-end}
+use Rattle.fixed.proofs.put_outputs.Statement.{statement}
+use Rattle.fixed.proofs.put_outputs.Tie as tie
 
 abbrev Inv-loop : tie.InvT-loop
 Inv-loop fields n m «data» out₀ covered at₀ to₀ out at to = Outputting fields n m «data» out₀ out at to

@@ -8,11 +8,11 @@ use Rattle.reels.specs.declared.Form.{Form}
 use Rattle.walks.specs.Walking.{fixedStart}
 use Rattle.tasks.specs.Promise.{formOf}
 use Rattle.fillings.proofs.FixedLaws.{record-some}
-use Rattle.writers.proofs.TurnLaws.{sound, few-blocks}
-use Rattle.writers.proofs.FixedWrite.{ends-given, bytes-given, room-behind, body-put}
+use Rattle.fixed.proofs.ReadyLaws.{sound, few-blocks}
+use Rattle.fixed.proofs.FixedWrite.{ends-given, bytes-given, room-behind, body-put}
 use borrow.Author.Needs.{needs}
-use Rattle.writers.proofs.fixed.write.Statement.{statement}
-use Rattle.writers.proofs.fixed.write.Tie as tie
+use Rattle.fixed.proofs.write.Statement.{statement}
+use Rattle.fixed.proofs.write.Tie as tie
 
 form-of-requires : tie.Need-form-of-requires
 form-of-requires c κs = search needs

@@ -23,9 +23,10 @@ use Rattle.terms.specs.Meaning.{modeOf}
 use Rattle.rows.specs.Flat.{FlatFair}
 use Rattle.records.specs.Promise.{outBytes, Puts}
 use Rattle.offsets.proofs.Sending.{Sent, sent-start, sent-size, sent-more, sent-end}
-use Rattle.writers.specs.Promise.{outOf}
-use Rattle.writers.specs.Fixed.{OutputsFit, OutputsPut, BytesFit, BytesPut}
-use Rattle.writers.proofs.RecordLaws.{bytes-size, selects-as}
+use Rattle.fixed.specs.Promise.{outOf}
+use Rattle.fixed.specs.Fixed.{OutputsFit, OutputsPut, BytesFit, BytesPut}
+use Rattle.records.proofs.PromiseLaws.{bytes-size}
+use Rattle.fixed.proofs.ReadyLaws.{selects-as}
 
 -- ---- the outputs
 
@@ -112,7 +113,7 @@ module _ (task : Task) (xs block old new : List ℕ) (y : BytesFit task xs block
     where
       same : (rs : List (List ℕ)) → rs ≡ map (λ r. cond (selects (modeOf (task .mode))) (outBytes (task .n) (task .width) fs (task .carries) r) r) rs
       same [] = refl
-      same (r ∷ rs) = ap₂ _∷_ (sym (ap (λ (b : Bool). cond b (outBytes (task .n) (task .width) fs (task .carries) r) r) (selects-as task xs r m false s))) (same rs)
+      same (r ∷ rs) = ap₂ _∷_ (sym (ap (λ (b : Bool). cond b (outBytes (task .n) (task .width) fs (task .carries) r) r) (selects-as task m false s))) (same rs)
 
   pub bytes-selected : {m : Mode} → task .mode ≡ m → selects (modeOf m) ≡ true → OutputsPut xs (task .n) (task .width) block old new → BytesPut task xs block old new
   unfolding OutputsPut BytesPut outOf
@@ -124,5 +125,5 @@ module _ (task : Task) (xs block old new : List ℕ) (y : BytesFit task xs block
       same (r ∷ rs) =
           ap₂ _∷_
           (ap (λ (c : Bool). outBytes (task .n) (task .width) fs c r) (sym (y .none-carried))
-          ∙ sym (ap (λ (b : Bool). cond b (outBytes (task .n) (task .width) fs (task .carries) r) r) (selects-as task xs r m true s)))
+          ∙ sym (ap (λ (b : Bool). cond b (outBytes (task .n) (task .width) fs (task .carries) r) r) (selects-as task m true s)))
           (same rs)

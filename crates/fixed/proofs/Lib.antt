@@ -1,0 +1,4 @@
+pub mod ReadyLaws
+mod OutputLaws
+mod EndsLaws
+pub mod FixedWrite
