@@ -12,10 +12,10 @@ use Rattle.rules.specs.Grammar.{tf}
 use Rattle.rules.specs.Plan.{isTF, recordLength, blockLength}
 use Rattle.rules.specs.Reel.{word, offsets, ends}
 use Rattle.rules.specs.Blocks.{takenFrom}
+use Rattle.rules.specs.EvenRecords.{stepped, endsBehind}
 use Rattle.rules.proofs.ReelLaws.{length-ends}
 use Rattle.rules.proofs.MeasureLaws.{record-high, block-high}
-use Rattle.rules.proofs.EvenFilling.{stepped, per-one}
-use Rattle.rules.proofs.EvenBlocks.{endsBehind}
+use Rattle.rules.proofs.EvenFilling.{per-one}
 use Rattle.rules.proofs.EvenOutput.{each-ends, filled-ends}
 use Rattle.terms.specs.declared.Task.{Task}
 use Rattle.terms.specs.declared.Mode.{Mode}

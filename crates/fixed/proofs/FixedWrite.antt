@@ -13,11 +13,11 @@ use Rattle.rules.specs.Plan.{selects}
 use Rattle.rules.specs.Reel.{ends}
 use Rattle.rules.specs.Blocks.{takenFrom}
 use Rattle.rules.specs.Output.{outRecord}
+use Rattle.rules.specs.EvenRecords.{Even}
 use Rattle.rules.proofs.ReelLaws.{length-ends, length-reel}
 use Rattle.rules.proofs.LentParts.{rest-over}
 use Rattle.rules.proofs.PlaceLaws.{over-behind}
 use Rattle.rules.proofs.Never.{output-other}
-use Rattle.rules.proofs.EvenLaws.{Even}
 use Rattle.rules.proofs.EvenOutput.{output-bytes, output-length}
 use Rattle.terms.specs.declared.Task.{Task}
 use Rattle.terms.specs.declared.Format.the-variants.{FF}

@@ -8,7 +8,7 @@ use Rattle.rules.specs.Base.{joined}
 use Rattle.rules.specs.Halves.{over, Field}
 use Rattle.rules.specs.Plan.{selects}
 use Rattle.rules.specs.Reel.{ends}
-use Rattle.rules.proofs.EvenLaws.{Even}
+use Rattle.rules.specs.EvenRecords.{Even}
 use Rattle.terms.specs.declared.Task.{Task}
 use Rattle.terms.specs.declared.Format.the-variants.{FF}
 use Rattle.terms.specs.Meaning.{modeOf}

@@ -13,10 +13,11 @@ use Rattle.rules.specs.Reel.{offsets, blocksOf}
 use Rattle.rules.specs.Blocks.{takenFrom}
 use Rattle.rules.specs.Output.{blockOf}
 use Rattle.rules.specs.Run.{outputBlocks}
+use Rattle.rules.specs.EvenRecords.{countBehind}
 use Rattle.rules.proofs.AnswerLaws.{fine-each}
 use Rattle.rules.proofs.ReelLaws.{length-reel, header-is, length-offsets}
 use Rattle.rules.proofs.EvenLaws.{outputs-fit}
-use Rattle.rules.proofs.EvenBlocks.{countBehind, count-behind-most}
+use Rattle.rules.proofs.EvenBlocks.{count-behind-most}
 use Rattle.rules.proofs.EvenOutput.{output-bytes, output-count, output-length, each-count, filled-count}
 use Rattle.terms.specs.declared.Task.{Task}
 use Rattle.terms.specs.declared.Format.the-variants.{FF}

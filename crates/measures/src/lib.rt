@@ -4,7 +4,7 @@ ghost use mathlib.Core.Path.{_≡_};
 ghost use mathlib.Core.Bool.{true};
 ghost use Prim.Native.Nat.{_+_, _-_, _/_, _≤_};
 ghost use Rattle.rules.specs.Reel.{isReel, offsets};
-ghost use Rattle.rules.proofs.EvenBlocks.{countBehind};
+ghost use Rattle.rules.specs.EvenRecords.{countBehind};
 ghost use Rattle.measures.specs.Promise.{Selected, FirstUnpermitted, Measurable, Measures, FixedFrom, FixedBlocks};
 use fillings::Tally;
 use terms::Format;

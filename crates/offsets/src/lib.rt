@@ -7,8 +7,7 @@ ghost use Prim.Native.Nat.{_+_, _-_, _≤_};
 ghost use lib.ListN.{length};
 ghost use Rattle.rules.specs.Halves.{over};
 ghost use Rattle.rules.specs.Reel.{word, isReel, offsets};
-ghost use Rattle.rules.proofs.EvenFilling.{stepped};
-ghost use Rattle.rules.proofs.EvenBlocks.{endsBehind};
+ghost use Rattle.rules.specs.EvenRecords.{stepped, endsBehind};
 ghost use Rattle.offsets.specs.Small.{StepSmall, EndSmall, EachSmall};
 
 // TR and TRF: blocks that are a step apart, from a place on, and where the last ends.

@@ -3,7 +3,7 @@
 use mathlib.Core.Path.{_≡_, refl, ap, sym, _∙_}
 use mathlib.Core.Bool.{Bool, true, false, cond}
 use mathlib.Core.List.{List, [], _∷_, _++_, map, append-nil}
-use Prim.Native.Nat.{ℕ, suc, _+_, _-_, _*_, _/_, _≤_, _<_}
+use Prim.Native.Nat.{ℕ, suc, _+_, _-_, _*_, _≤_, _<_}
 use native.Mathlib.Nat.{zero-mul, one-mul, suc-mul, add-mul, mul-le-mul-right, div-eq-of-eq-mul-left}
 use native.Mathlib.Omega.{arith}
 use lib.Dec.{ltb, leb}
@@ -14,6 +14,7 @@ use Rattle.rules.specs.Places.{All, also, Both, none-left, both}
 use Rattle.rules.specs.Reel.{word, firstOffset, offsets, isReel, blocksOf, ends}
 use Rattle.rules.specs.Blocks.{takenAfter}
 use Rattle.rules.specs.Output.{nonEmpty}
+use Rattle.rules.specs.EvenRecords.{endsBehind, countBehind}
 use Rattle.rules.proofs.AllLaws.{all-drop}
 use Rattle.rules.proofs.ReelLaws.{nexts, nexts-cut, header-is}
 use Rattle.rules.proofs.BlockSizes.{all-map}
@@ -37,16 +38,6 @@ unfolding blocksOf
 offsets-after s e = sym (nexts-cut s (firstOffset s) (offsets s) (header-is s e .rises))
 
 -- ---- those of the blocks that have a record left
-
--- of the offsets at which input blocks end, each that is behind `from` ends an output block: its records from there on have n bytes each, and their outputs w
-abbrev pub endsBehind : (n w from to : ℕ) → List ℕ → List ℕ
-endsBehind n w from to [] = []
-endsBehind n w from to (o ∷ os) = let rest = endsBehind n w from to os in cond (ltb from o) (word (to + (o - from) / n * w) ++ rest) rest
-
--- how many these are
-abbrev pub countBehind : ℕ → List ℕ → ℕ
-countBehind from [] = 0
-countBehind from (o ∷ os) = let rest = countBehind from os in cond (ltb from o) (suc rest) rest
 
 pub count-behind-most : (from : ℕ) (os : List ℕ) → countBehind from os ≤ length os
 count-behind-most from [] = omega arith

@@ -2,12 +2,12 @@
 -- block's size is its number of records times what each takes, so that the limit is passed behind the same number every time.
 use mathlib.Core.Path.{_≡_, refl, ap, sym, _∙_}
 use mathlib.Core.Logic.{_⊎_, inl, inr}
-use mathlib.Core.Bool.{Bool, true, false, cond}
+use mathlib.Core.Bool.{Bool, true, false}
 use mathlib.Core.List.{List, [], _∷_, _++_, map, append-nil, append-assoc}
 use Prim.Native.Nat.{ℕ, zero, suc, _+_, _-_, _*_, _/_, _≤_, _<_}
 use native.Mathlib.Nat.{suc-mul, zero-mul, one-mul, add-mul, mul-le-mul-right, div-mul-le-self, lt-div-mul-add, le-div-iff-mul-le, div-eq-of-lt, add-div-right}
 use native.Mathlib.Omega.{arith}
-use lib.Dec.{ltb, leb}
+use lib.Dec.{leb}
 use lib.ListN.{length, take, drop, length-take, length-drop}
 use lib.Seq.{take-nil, drop-nil, take-all, length-take-le}
 use borrow.Author.Tests.{leb-true, leb-false, lt-ltb, le-ltb}
@@ -16,6 +16,7 @@ use Rattle.rules.specs.Places.{All, noMore, also}
 use Rattle.rules.specs.Grammar.{ff}
 use Rattle.rules.specs.Reel.{word, ends}
 use Rattle.rules.specs.Output.{blockOf, total, fill, filled}
+use Rattle.rules.specs.EvenRecords.{stepped}
 use Rattle.rules.proofs.AllLaws.{all-take, all-drop}
 use Rattle.rules.proofs.BlockLaws.{length-joined}
 use Rattle.rules.proofs.FillLaws.{total-snoc}
@@ -71,11 +72,6 @@ module _ (limit c d w per : ℕ) (one : 1 ≤ per) (fit : c + per * (d + w) ≤ 
   filled-count rs a = count-even (length rs) rs (omega arith) a
 
 -- ---- where the blocks end, where they hold nothing besides their data, as in FF
-
--- offsets from a place on, a step apart, while they are before the end; and the end (so many steps at most)
-abbrev pub stepped : ℕ → ℕ → ℕ → ℕ → List ℕ
-stepped zero step at end = word end
-stepped (suc f) step at end = let rest = stepped f step (at + step) end in cond (ltb at end) (word at ++ rest) (word end)
 
 pub stepped-end : (f step at end : ℕ) → end ≤ at → stepped f step at end ≡ word end
 stepped-end zero step at end l = refl

@@ -23,6 +23,7 @@ use Rattle.rules.specs.Output.{blockOf}
 use Rattle.rules.specs.Run.{fitting, outputs}
 use Rattle.rules.specs.RunRows.{RecordIs}
 use Rattle.rules.specs.Accepted.{Accepted}
+use Rattle.rules.specs.EvenRecords.{Even}
 use Rattle.rules.proofs.AllLaws.{all-append, all-drop, all-head, all-tail, all-imply}
 use Rattle.rules.proofs.BlockSizes.{all-map, Reads, reads-exactly}
 use Rattle.rules.proofs.AnswerLaws.{reads-fine}
@@ -32,12 +33,7 @@ use Rattle.rules.proofs.ReelLaws.{joined-blocks}
 use Rattle.rules.proofs.TakenLaws.{taken-joined}
 use Rattle.rules.proofs.Never.{Taken, taken-drop, all-fit}
 
--- xs is records of n bytes each, one behind the other
-pub record Even (n : ℕ) (xs : List ℕ) (rs : List (List ℕ)) : Type 0 where
-  pub is : joined rs ≡ xs
-  pub each : All (λ r. length r ≡ n) rs
-
--- the first of them, and the others
+-- the first of some records of n bytes, and the others
 pub record Next (n : ℕ) (xs : List ℕ) (rs : List (List ℕ)) : Type 0 where
   pub more : List (List ℕ)
   pub is : rs ≡ take n xs ∷ more

@@ -17,6 +17,7 @@ use Rattle.rules.specs.Blocks.{recordsFrom, takenAfter, takenFrom}
 use Rattle.rules.specs.Output.{outRecord, blockOf, cost, filled, nonEmpty, filledB, blocked}
 use Rattle.rules.specs.Run.{outputs, outputBlocks}
 use Rattle.rules.specs.Accepted.{Accepted}
+use Rattle.rules.specs.EvenRecords.{stepped, endsBehind, countBehind}
 use Rattle.rules.proofs.AllLaws.{all-imply}
 use Rattle.rules.proofs.PartLaws.{joined-append}
 use Rattle.rules.proofs.BlockSizes.{all-map, size-least}
@@ -26,8 +27,8 @@ use Rattle.rules.proofs.MeasureLaws.{map-joined}
 use Rattle.rules.proofs.RunParts.{blocked-records}
 use Rattle.rules.proofs.Never.{fixed-output, output-fits}
 use Rattle.rules.proofs.EvenLaws.{EvenBlock, blocks-even, taken-even}
-use Rattle.rules.proofs.EvenFilling.{stepped, even-count, even-ends}
-use Rattle.rules.proofs.EvenBlocks.{behindEach, offsets-after, endsBehind, countBehind, ends-first, taken-count, taken-ends}
+use Rattle.rules.proofs.EvenFilling.{even-count, even-ends}
+use Rattle.rules.proofs.EvenBlocks.{behindEach, offsets-after, ends-first, taken-count, taken-ends}
 
 joined-twice : (bs : List (List (List ℕ))) → joined (map (blockOf ff) bs) ≡ joined (joined bs)
 joined-twice [] = refl

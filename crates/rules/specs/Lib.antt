@@ -19,6 +19,7 @@ pub mod Twins
 pub mod Places
 pub mod TextParts
 pub mod ReelPlaces
+pub mod EvenRecords
 pub mod RecordParts
 pub mod Texts
 pub mod InWords

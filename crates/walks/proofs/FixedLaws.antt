@@ -14,7 +14,8 @@ use Rattle.rules.specs.Plan.{Plan, recordLength}
 use Rattle.rules.specs.Reel.{blockCount}
 use Rattle.rules.specs.Blocks.{takenFrom}
 use Rattle.rules.specs.ReelPlaces.{wordAt}
-use Rattle.rules.proofs.EvenLaws.{Even, taken-even}
+use Rattle.rules.specs.EvenRecords.{Even}
+use Rattle.rules.proofs.EvenLaws.{taken-even}
 use Rattle.rules.proofs.MeasureLaws.{record-high}
 use Rattle.rules.proofs.ReelSteps.{offset-first}
 use Rattle.reels.specs.declared.Form.{Form}
