@@ -2,7 +2,7 @@
 -- same number of records. By going along the blocks, with the records still to skip, or those since the first that is taken.
 use mathlib.Core.Path.{_≡_, refl, ap, sym, _∙_}
 use mathlib.Core.Bool.{Bool, true, false, cond}
-use mathlib.Core.List.{List, [], _∷_, _++_, map, append-nil}
+use mathlib.Core.List.{List, [], _∷_, _++_, map}
 use Prim.Native.Nat.{ℕ, suc, _+_, _-_, _*_, _≤_, _<_}
 use native.Mathlib.Nat.{zero-mul, one-mul, suc-mul, add-mul, mul-le-mul-right, div-eq-of-eq-mul-left}
 use native.Mathlib.Omega.{arith}
@@ -11,26 +11,16 @@ use lib.ListN.{length, drop, length-drop, length-map, drop-of-length-le}
 use borrow.Author.Tests.{leb-true, leb-false, lt-ltb, le-ltb}
 use Rattle.rules.specs.Base.{joined}
 use Rattle.rules.specs.Places.{All, also, Both, none-left, both}
-use Rattle.rules.specs.Reel.{word, firstOffset, offsets, isReel, blocksOf, ends}
+use Rattle.rules.specs.Reel.{word, firstOffset, offsets, isReel, blocksOf}
 use Rattle.rules.specs.Blocks.{takenAfter}
 use Rattle.rules.specs.Output.{nonEmpty}
 use Rattle.rules.specs.EvenRecords.{endsBehind, countBehind}
 use Rattle.rules.proofs.AllLaws.{all-drop}
+use Rattle.rules.proofs.WordLaws.{unwords}
 use Rattle.rules.proofs.ReelLaws.{nexts, nexts-cut, header-is}
 use Rattle.rules.proofs.BlockSizes.{all-map}
 use Rattle.rules.proofs.BlockLaws.{length-joined}
 use Rattle.rules.proofs.EvenLaws.{EvenBlock, even-size}
-
--- ---- where blocks end
-
--- where each block ends, where the first starts at a, as the words of a header
-abbrev pub behindEach : ℕ → List (List ℕ) → List ℕ
-behindEach a [] = []
-behindEach a (b ∷ bs) = word (a + length b) ++ behindEach (a + length b) bs
-
-pub ends-first : (a : ℕ) (bs : List (List ℕ)) → ends a bs ≡ word a ++ behindEach a bs
-ends-first a [] = sym (append-nil (word a))
-ends-first a (b ∷ bs) = ap (word a ++_) (ends-first (a + length b) bs)
 
 -- the offsets of a reel behind its first are those at which its blocks end
 pub offsets-after : (s : List ℕ) → isReel s ≡ true → offsets s ≡ nexts (firstOffset s) (blocksOf s)
@@ -113,24 +103,24 @@ module _ (n : ℕ) (least : 1 ≤ n) where
     -- where they end: each after as many outputs as its input block ends records behind the first that is taken
     pub taken-ends : (w from to a k j : ℕ) {bs : List (List ℕ)} {recs : List (List (List ℕ))} → Both (EvenBlock n) bs recs → All (All (λ r. length (out r) ≡ w)) recs
         → k * n ≡ from - a → j * n ≡ a - from
-        → behindEach (to + j * w) (map joined (nonEmpty (map (map out) (takenAfter k recs)))) ≡ endsBehind n w from to (nexts a bs)
+        → unwords (nexts (to + j * w) (map joined (nonEmpty (map (map out) (takenAfter k recs))))) ≡ endsBehind n w from to (nexts a bs)
     unfolding outs
     taken-ends w from to a k j none-left o s t = refl
     taken-ends w from to a k j (both {x = b} {y = rs} {xs = bs} {ys = recs} v h) (also m o) s t =
         go (λ j′ s′ t′. taken-ends w from to (a + length b) (k - length rs) j′ h o s′ t′) (block-step from a k v s)
       where
         go : ((j′ : ℕ) → (k - length rs) * n ≡ from - (a + length b) → j′ * n ≡ a + length b - from
-            → behindEach (to + j′ * w) (map joined (nonEmpty (outs (k - length rs) recs))) ≡ endsBehind n w from to (nexts (a + length b) bs))
+            → unwords (nexts (to + j′ * w) (map joined (nonEmpty (outs (k - length rs) recs)))) ≡ endsBehind n w from to (nexts (a + length b) bs))
             → Step from k (length rs) (a + length b)
-            → behindEach (to + j * w) (map joined (nonEmpty (outs k (rs ∷ recs)))) ≡ endsBehind n w from to (nexts a (b ∷ bs))
+            → unwords (nexts (to + j * w) (map joined (nonEmpty (outs k (rs ∷ recs))))) ≡ endsBehind n w from to (nexts a (b ∷ bs))
         go later (skipped l u s′) =
-            ap (λ (z : List (List (List ℕ))). behindEach (to + j * w) (map joined z)) (none-left-of k rs recs l) ∙ rw (le-ltb from (a + length b) u) (later j s′ (omega arith))
+            ap (λ (z : List (List (List ℕ))). unwords (nexts (to + j * w) (map joined z))) (none-left-of k rs recs l) ∙ rw (le-ltb from (a + length b) u) (later j s′ (omega arith))
         go later (left l u s′) =
             let taken = j + (length rs - k) in
             let t′ : taken * n ≡ a + length b - from = since from a k j (length rs) (a + length b) (block-end a v) s t l in
             let size : length (joined (map out (drop k rs))) ≡ (length rs - k) * w =
             length-joined w (all-map out (all-drop k m)) ∙ ap (λ (i : ℕ). i * w) (length-map (drop k rs) out ∙ length-drop k rs) in
             let there : to + j * w + length (joined (map out (drop k rs))) ≡ to + taken * w = omega (arith, size, add-mul j (length rs - k) w) in
-            ap (λ (z : List (List (List ℕ))). behindEach (to + j * w) (map joined z)) (some-left-of k rs recs l)
-            ∙ ap (λ (p : ℕ). word p ++ behindEach p (map joined (nonEmpty (outs (k - length rs) recs)))) there
+            ap (λ (z : List (List (List ℕ))). unwords (nexts (to + j * w) (map joined z))) (some-left-of k rs recs l)
+            ∙ ap (λ (p : ℕ). word p ++ unwords (nexts p (map joined (nonEmpty (outs (k - length rs) recs))))) there
             ∙ rw (lt-ltb from (a + length b) u, div-eq-of-eq-mul-left least (sym t′)) (ap (word (to + taken * w) ++_) (later taken s′ t′))

@@ -22,13 +22,14 @@ use Rattle.rules.proofs.AllLaws.{all-imply}
 use Rattle.rules.proofs.PartLaws.{joined-append}
 use Rattle.rules.proofs.BlockSizes.{all-map, size-least}
 use Rattle.rules.proofs.BlockLaws.{length-joined}
-use Rattle.rules.proofs.ReelLaws.{header-is}
+use Rattle.rules.proofs.WordLaws.{unwords}
+use Rattle.rules.proofs.ReelLaws.{header-is, nexts, ends-words}
 use Rattle.rules.proofs.MeasureLaws.{map-joined}
 use Rattle.rules.proofs.RunParts.{blocked-records}
 use Rattle.rules.proofs.Never.{fixed-output, output-fits}
 use Rattle.rules.proofs.EvenLaws.{EvenBlock, blocks-even, taken-even}
 use Rattle.rules.proofs.EvenFilling.{even-count, even-ends}
-use Rattle.rules.proofs.EvenBlocks.{behindEach, offsets-after, ends-first, taken-count, taken-ends}
+use Rattle.rules.proofs.EvenBlocks.{offsets-after, taken-count, taken-ends}
 
 joined-twice : (bs : List (List (List ℕ))) → joined (map (blockOf ff) bs) ≡ joined (joined bs)
 joined-twice [] = refl
@@ -109,9 +110,9 @@ module _ (p : Plan) (ok : Accepted p) (t : p .format ≡ ff) (s : List ℕ) (r :
         let h = blocks-even p t 1 (blocksOf s) recs e in
         let z : a ≡ a + 0 * w = omega (arith, zero-mul w) in
         ap₂ (λ (f : Format) (bs : List (List (List ℕ))). ends a (map (blockOf f) bs)) t blocks-are
-        ∙ ends-first a (map joined (nonEmpty (map (map (outRecord p)) (takenAfter (p .first - 1) recs))))
+        ∙ ends-words a (map joined (nonEmpty (map (map (outRecord p)) (takenAfter (p .first - 1) recs))))
         ∙ ap (word a ++_)
-        (ap (λ (k : ℕ). behindEach k (map joined (nonEmpty (map (map (outRecord p)) (takenAfter (p .first - 1) recs))))) z
+        (ap (λ (k : ℕ). unwords (nexts k (map joined (nonEmpty (map (map (outRecord p)) (takenAfter (p .first - 1) recs)))))) z
         ∙ taken-ends n least (outRecord p) w from a (firstOffset s) (p .first - 1) 0 h (outs-all h) skipped none-since
         ∙ ap (endsBehind n w from a) (sym (offsets-after s r)))
 

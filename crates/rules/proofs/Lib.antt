@@ -69,6 +69,7 @@ pub mod TwinTable
 pub mod BlockSteps
 pub mod RecordSteps
 pub mod TakenLaws
+pub mod BlockPlaces
 pub mod EvenBlocks
 pub mod PartLaws
 pub mod LentParts

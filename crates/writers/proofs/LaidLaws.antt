@@ -1,11 +1,10 @@
 -- An output in which blocks are laid, their offsets from place 4 on and their bytes from a base on: a record more, and the last offset. It holds since the offsets
 -- stand before the base, and since a record goes behind the last byte that was laid, or its block's word over the one that stood there, which is as long.
-use mathlib.Core.Path.{_≡_, refl, ap, ap₂, sym, _∙_}
-use mathlib.Core.List.{List, [], _∷_, _++_, map, append-nil, append-assoc, map-append}
+use mathlib.Core.Path.{_≡_, ap, ap₂, sym, _∙_}
+use mathlib.Core.List.{List, [], _∷_, _++_, map, append-assoc, map-append}
 use Prim.Native.Nat.{ℕ, _+_, _*_, _≤_}
 use native.Mathlib.Omega.{arith}
 use lib.ListN.{length, length-append, length-map}
-use Rattle.rules.specs.Base.{joined}
 use Rattle.rules.specs.Halves.{over}
 use Rattle.rules.specs.Grammar.{Format}
 use Rattle.rules.specs.Reel.{word, ends}
@@ -13,39 +12,11 @@ use Rattle.rules.specs.Output.{blockOf, cost, total}
 use Rattle.rules.proofs.SizeLaws.{length-over}
 use Rattle.rules.proofs.PlaceLaws.{over-nothing, over-behind, over-apart, over-part}
 use Rattle.rules.proofs.WordLaws.{length-word}
+use Rattle.rules.proofs.BlockPlaces.{heads, length-heads, heads-snoc, heads-ends}
 use Rattle.rules.proofs.FillLaws.{total-snoc}
 use Rattle.writers.specs.Writing.{sizeWord, pieceOf}
 use Rattle.writers.proofs.BlockParts.{bodyOf, block-parts, body-one, body-snoc, length-sizeWord, length-piece}
 use Rattle.fillings.proofs.FilledLaws.{bytesIn, bytes-snoc, length-snoc}
-
--- ---- the offsets of blocks, where the first starts at a
-
-abbrev pub heads : ℕ → List (List ℕ) → List ℕ
-heads a [] = []
-heads a (b ∷ bs) = word a ++ heads (a + length b) bs
-
-length-heads : (a : ℕ) (bs : List (List ℕ)) → length (heads a bs) ≡ 4 * length bs
-length-heads a [] = refl
-length-heads a (b ∷ bs) = omega (arith, length-append (word a) (heads (a + length b) bs), length-word a, length-heads (a + length b) bs)
-
-heads-snoc : (a : ℕ) (bs : List (List ℕ)) (b : List ℕ) → heads a (bs ++ (b ∷ [])) ≡ heads a bs ++ word (a + length (joined bs))
-heads-snoc a [] b = append-nil (word a) ∙ ap word (let z : a ≡ a + 0 = omega arith in z)
-heads-snoc a (x ∷ bs) b =
-    ap (word a ++_)
-    (heads-snoc (a + length x) bs b
-    ∙ ap (λ (k : ℕ). heads (a + length x) bs ++ word k) (let z : a + length x + length (joined bs) ≡ a + length (x ++ joined bs) = omega (arith, length-append x (joined bs)) in z))
-    ∙ sym (append-assoc (word a) (heads (a + length x) bs) (word (a + length (x ++ joined bs))))
-
--- and where the last ends
-heads-ends : (a : ℕ) (bs : List (List ℕ)) → heads a bs ++ word (a + length (joined bs)) ≡ ends a bs
-heads-ends a [] = ap word (let z : a + 0 ≡ a = omega arith in z)
-heads-ends a (x ∷ bs) =
-    append-assoc (word a) (heads (a + length x) bs) (word (a + length (x ++ joined bs)))
-    ∙ ap (word a ++_)
-    (ap (λ (k : ℕ). heads (a + length x) bs ++ word k) (let z : a + length (x ++ joined bs) ≡ a + length x + length (joined bs) = omega (arith, length-append x (joined bs)) in z)
-    ∙ heads-ends (a + length x) bs)
-
--- ---- the output
 
 module _ (f : Format) (base : ℕ) (old : List ℕ) where
   abbrev headed : List (List (List ℕ)) → List ℕ

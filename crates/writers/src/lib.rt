@@ -3,7 +3,6 @@
 ghost use mathlib.Core.Path.{_≡_};
 ghost use Prim.Native.Nat.{_+_, _≤_, _<_};
 ghost use lib.ListN.{length};
-ghost use Rattle.rules.specs.Halves.{over};
 ghost use Rattle.rules.specs.Output.{cost};
 ghost use Rattle.records.specs.Promise.{Covers};
 ghost use Rattle.tasks.specs.Promise.{lengthOf};
