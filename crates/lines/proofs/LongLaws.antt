@@ -17,12 +17,10 @@ use Rattle.lines.specs.Scanning.{counted, firstOf, kindOf, isOther, faul
 use Rattle.lines.specs.declared.CardKind.{CardKind}
 use Rattle.lines.specs.declared.CardKind.the-variants.{Utility, Select, End, Other}
 use Rattle.lines.specs.declared.Tally.{Tally}
+use Rattle.lines.proofs.MeaningLaws.{not-both}
 use Rattle.lines.proofs.StepLaws.{verdict-bad, verdict-fault}
 use Rattle.lines.proofs.TallyLaws.{noLine, tallied, kinds, bad-stays, fault-stays, next-place}
 use Rattle.lines.proofs.DeckLaws.{held-start, held-piece, held-lines}
-
-not-both : true ≡ false → ⊥
-not-both e = let z : _≡_ {A = ℕ} 0 1 = cc in omega arith
 
 -- ---- a line that is not marked
 

@@ -1,54 +1,36 @@
--- What a loop along a line finds at its end is what the answers about the line say: one step of a definition at each way out of the loop.
+-- What a loop along a line finds at its end is what the answers about the line say: one step of a definition at each way out of the loop. What a
+-- card's fourth and fifth byte tell of it holds by cases on the card's text.
 use mathlib.Core.Path.{_≡_, refl, ap, sym, _∙_, subst}
 use mathlib.Core.Logic.{inl, inr}
-use mathlib.Core.Bool.{Bool, true, false, _&&_}
+use mathlib.Core.Bool.{Bool, true, false}
 use mathlib.Core.List.{List, [], _∷_}
-use mathlib.Core.Option.{some}
+use mathlib.Core.Option.{Option, none, some}
 use Prim.Native.Nat.{ℕ, _+_, _≤_, _<_}
 use Prim.Native.String.{String}
 use native.Mathlib.Omega.{arith}
 use lib.Dec.{eqb}
 use lib.ListN.{length, getD, take, drop, drop-of-length-le}
-use lib.Seq.{slice, take-at, take-length, drop-cons}
+use lib.Seq.{slice, take-length, drop-cons}
 use borrow.Author.Tests.{eqb-false}
 use Rattle.rules.specs.Base.{ascii, every}
 use Rattle.rules.specs.Places.{All, noMore, also}
 use Rattle.rules.specs.Reader.{read, after, text}
-use Rattle.rules.specs.Deck.{tidy, uCard, fsCard}
+use Rattle.rules.specs.Deck.{tidy, Card, uCard, fsCard, endCard, operand, cardOf}
+use Rattle.rules.specs.Texts.{ShapeText}
 use Rattle.rules.specs.TextParts.{stops, Inner}
-use Rattle.rules.proofs.ReaderLaws.{text-sound}
 use Rattle.rules.proofs.AllLaws.{all-append}
 use Rattle.rules.proofs.PartLaws.{slice-slice}
+use Rattle.rules.proofs.CardLaws.{operand-of, card-exactly}
 use Rattle.rules.proofs.LineLaws.{next-line, last-line, no-line}
-use Rattle.rules.proofs.CardPlaces.{every-next, every-fails, every-end, after-other, after-short, after-end, operand-slice, operand-blank, operand-end, card-untidy, card-U, card-UTT, card-FS, card-END, card-END-blank, card-END-other, card-none}
-use Rattle.lines.specs.Meaning.{BeginsSays, OperandEnds, CardSays, inner, PassedSays, LineSays}
-use Rattle.lines.specs.declared.CardRead.the-variants.{UCard, FsCard, EndCard, NoCard}
+use Rattle.rules.proofs.CardPlaces.{after-other, after-short, after-end, operand-slice, operand-blank, operand-end, card-untidy, card-U, card-UTT, card-FS, card-END, card-END-blank, card-END-other, card-none}
+use Rattle.lines.specs.Meaning.{BeginsSays, OperandEnds, CardSays, IsCard, inner, PassedSays, LineSays}
+use Rattle.lines.specs.Scanning.{kindOf, isOther}
+use Rattle.lines.specs.declared.CardRead.the-variants.{UCard, FsCard, EndCard}
+use Rattle.lines.specs.declared.CardKind.the-variants.{Utility, Select, End, Other}
 use Rattle.lines.specs.declared.LineRead.the-variants.{Line, NoLine}
 
--- ---- whether every byte passes, where all are looked at
-
-module _ (q : ℕ → Bool) (l : List ℕ) where
-  -- those before i passed, as `good` says
-  abbrev pub Passing : Bool → ℕ → Type 0
-  Passing good i = every q l ≡ (good && every q (drop i l))
-
-  module _ (good : Bool) (i : ℕ) where
-    pub passing-fails : i < length l → q (getD l i 0) ≡ false → Passing good i → Passing false (i + 1)
-    passing-fails h e p = p ∙ go good (every-fails q l i h e)
-      where
-        go : (good : Bool) {rest : Bool} → rest ≡ false → (good && rest) ≡ false
-        go true e = e
-        go false e = refl
-
-    pub passing-next : i < length l → q (getD l i 0) ≡ true → Passing good i → Passing good (i + 1)
-    passing-next h e p = p ∙ ap (good &&_) (every-next q l i h e)
-
-    pub passing-end : length l ≤ i → Passing good i → good ≡ every q l
-    passing-end h p = sym (p ∙ go good (every-end q l i h))
-      where
-        go : (good : Bool) {rest : Bool} → rest ≡ true → (good && rest) ≡ good
-        go true e = e
-        go false e = refl
+pub not-both : true ≡ false → ⊥
+not-both e = let z : _≡_ {A = ℕ} 0 1 = cc in omega arith
 
 -- ---- whether a line begins with a text
 
@@ -74,65 +56,135 @@ module _ (l : List ℕ) (f t : ℕ) where
   pub operand-ends-line : f ≤ t → t ≤ length l → length l ≤ t → All (λ b. b ≡ 0x20 → ⊥) (slice f t l) → OperandEnds l f t
   operand-ends-line h k e a = record { from = h; upto = k; is = operand-slice l f t h k a (operand-end l t e) }
 
--- ---- what card a line is
+-- ---- which card a line is
 
 -- what a text's reader reads
 text-read : (t : String) (l : List ℕ) → BeginsSays (ascii t) l true → text t l ≡ read tt (drop (length (ascii t)) l)
 unfolding text
 text-read t l b = b .1
 
-text-taken : (t : String) (l : List ℕ) → BeginsSays (ascii t) l true → take (length (ascii t)) l ≡ ascii t
-text-taken t l b =
-    ap (take (length (ascii t))) (text-sound t l tt (drop (length (ascii t)) l) (text-read t l b))
-    ∙ take-at (ascii t) (drop (length (ascii t)) l) (length (ascii t)) refl
-
 module _ (l : List ℕ) where
-  pub card-says-untidy : tidy l ≡ false → CardSays l NoCard
-  card-says-untidy e = card-untidy l e
+  pub kind-untidy : tidy l ≡ false → Other ≡ kindOf (cardOf l)
+  kind-untidy e = rw (card-untidy l e)
 
   module _ (plain : tidy l ≡ true) where
-    pub card-says-U : {e : ℕ} → BeginsSays (ascii "// U ") l true → OperandEnds l 5 e → CardSays l (UCard 5 e)
-    card-says-U b o = (
-      inl (text-taken "// U " l b),
-      o .from,
-      o .upto,
-      card-U l plain (drop 5 l) tt (text-read "// U " l b) ∙ ap (λ (x : List ℕ). some (uCard 5 x)) (o .is),
-    )
+    pub kind-U : BeginsSays (ascii "// U ") l true → Utility ≡ kindOf (cardOf l)
+    kind-U b = rw (card-U l plain (drop 5 l) tt (text-read "// U " l b))
 
-    pub card-says-UTT : {e : ℕ} → BeginsSays (ascii "// UTT ") l true → OperandEnds l 7 e → CardSays l (UCard 7 e)
-    card-says-UTT b o = (
-      inr (text-taken "// UTT " l b),
-      o .from,
-      o .upto,
-      card-UTT l plain (drop 7 l) tt (text-read "// UTT " l b) ∙ ap (λ (x : List ℕ). some (uCard 7 x)) (o .is),
-    )
+    pub kind-UTT : BeginsSays (ascii "// UTT ") l true → Utility ≡ kindOf (cardOf l)
+    kind-UTT b = rw (card-UTT l plain (drop 7 l) tt (text-read "// UTT " l b))
 
-    pub card-says-FS : {e : ℕ} → BeginsSays (ascii "// FS ") l true → OperandEnds l 6 e → CardSays l (FsCard 6 e)
-    card-says-FS b o = (
-      text-taken "// FS " l b,
-      o .from,
-      o .upto,
-      card-FS l plain (drop 6 l) tt (text-read "// FS " l b) ∙ ap (λ (x : List ℕ). some (fsCard x)) (o .is),
-    )
+    pub kind-FS : BeginsSays (ascii "// FS ") l true → Select ≡ kindOf (cardOf l)
+    kind-FS b = rw (card-FS l plain (drop 6 l) tt (text-read "// FS " l b))
 
     -- END alone, or with a blank behind it
-    pub card-says-END : BeginsSays (ascii "// END") l true → length l ≡ 6 → CardSays l EndCard
-    card-says-END b e =
-        card-END l plain tt (text-read "// END" l b ∙ ap (λ (x : List ℕ). read tt x) (drop-of-length-le l {i = 6} (omega arith)))
+    pub kind-END : BeginsSays (ascii "// END") l true → length l ≡ 6 → End ≡ kindOf (cardOf l)
+    kind-END b e =
+        rw (card-END l plain tt (text-read "// END" l b ∙ ap (λ (x : List ℕ). read tt x) (drop-of-length-le l {i = 6} (omega arith))))
 
-    pub card-says-END-blank : BeginsSays (ascii "// END") l true → 6 < length l → getD l 6 0 ≡ 0x20 → CardSays l EndCard
-    card-says-END-blank b h e =
-        card-END-blank l plain tt (drop 7 l)
-        (text-read "// END" l b ∙ ap (λ (x : List ℕ). read tt x) (drop-cons l 6 0 h ∙ ap (λ (z : ℕ). z ∷ drop 7 l) e))
+    pub kind-END-blank : BeginsSays (ascii "// END") l true → 6 < length l → getD l 6 0 ≡ 0x20 → End ≡ kindOf (cardOf l)
+    kind-END-blank b h e =
+        rw (card-END-blank l plain tt (drop 7 l)
+        (text-read "// END" l b ∙ ap (λ (x : List ℕ). read tt x) (drop-cons l 6 0 h ∙ ap (λ (z : ℕ). z ∷ drop 7 l) e)))
 
-  pub card-says-END-other : BeginsSays (ascii "// END") l true → 6 < length l → (getD l 6 0 ≡ 0x20 → ⊥) → CardSays l NoCard
-  card-says-END-other b h n =
-      card-END-other l tt (getD l 6 0) (drop 7 l) (text-read "// END" l b ∙ ap (λ (x : List ℕ). read tt x) (drop-cons l 6 0 h)) n
+  pub kind-END-other : BeginsSays (ascii "// END") l true → 6 < length l → (getD l 6 0 ≡ 0x20 → ⊥) → Other ≡ kindOf (cardOf l)
+  kind-END-other b h n =
+      rw (card-END-other l tt (getD l 6 0) (drop 7 l) (text-read "// END" l b ∙ ap (λ (x : List ℕ). read tt x) (drop-cons l 6 0 h)) n)
 
-  pub card-says-none : BeginsSays (ascii "// U ") l false → BeginsSays (ascii "// UTT ") l false → BeginsSays (ascii "// FS ") l false
-      → BeginsSays (ascii "// END") l false → CardSays l NoCard
+  pub kind-none : BeginsSays (ascii "// U ") l false → BeginsSays (ascii "// UTT ") l false → BeginsSays (ascii "// FS ") l false
+      → BeginsSays (ascii "// END") l false → Other ≡ kindOf (cardOf l)
   unfolding text
-  card-says-none a b c d = card-none l a b c d
+  kind-none a b c d = rw (card-none l a b c d)
+
+-- a line of another kind is no card, and every other line is one
+pub other-none : (card : Option Card) → isOther (kindOf card) ≡ true → card ≡ none
+other-none none e = refl
+other-none (some (uCard b o)) e = absurd (not-both (sym e))
+other-none (some (fsCard o)) e = absurd (not-both (sym e))
+other-none (some endCard) e = absurd (not-both (sym e))
+
+pub known-card : (card : Option Card) → isOther (kindOf card) ≡ false → IsCard card
+known-card none e = absurd (not-both e)
+known-card (some c) e = tt
+
+-- ---- what card a line is that is one: its fourth byte tells FS and END, its fifth U from UTT
+
+text-five : {l : List ℕ} {c : Card} → ShapeText l c → 5 ≤ length l
+text-five (ShapeText.U t) = omega arith
+text-five (ShapeText.UTT t) = omega arith
+text-five (ShapeText.FS t) = omega arith
+text-five ShapeText.END = omega arith
+text-five (ShapeText.END-blank comment) = omega arith
+
+text-FS : {l : List ℕ} {c : Card} → ShapeText l c → getD l 3 0 ≡ 0x46
+    → (6 ≤ length l) × (take 6 l ≡ ascii "// FS ") × (c ≡ fsCard (operand (drop 6 l)))
+text-FS (ShapeText.U t) e = absurd (omega arith)
+text-FS (ShapeText.UTT t) e = absurd (omega arith)
+text-FS (ShapeText.FS t) e = (omega arith, refl, ap fsCard (sym (operand-of t)))
+text-FS ShapeText.END e = absurd (omega arith)
+text-FS (ShapeText.END-blank comment) e = absurd (omega arith)
+
+text-END : {l : List ℕ} {c : Card} → ShapeText l c → getD l 3 0 ≡ 0x45 → c ≡ endCard
+text-END (ShapeText.U t) e = absurd (omega arith)
+text-END (ShapeText.UTT t) e = absurd (omega arith)
+text-END (ShapeText.FS t) e = absurd (omega arith)
+text-END ShapeText.END e = refl
+text-END (ShapeText.END-blank comment) e = refl
+
+text-U : {l : List ℕ} {c : Card} → ShapeText l c → (getD l 3 0 ≡ 0x46 → ⊥) → (getD l 3 0 ≡ 0x45 → ⊥) → getD l 4 0 ≡ 0x20
+    → (take 5 l ≡ ascii "// U ") × (c ≡ uCard 5 (operand (drop 5 l)))
+text-U (ShapeText.U t) f g e = (refl, ap (uCard 5) (sym (operand-of t)))
+text-U (ShapeText.UTT t) f g e = absurd (omega arith)
+text-U (ShapeText.FS t) f g e = absurd (f refl)
+text-U ShapeText.END f g e = absurd (g refl)
+text-U (ShapeText.END-blank comment) f g e = absurd (g refl)
+
+text-UTT : {l : List ℕ} {c : Card} → ShapeText l c → (getD l 3 0 ≡ 0x46 → ⊥) → (getD l 3 0 ≡ 0x45 → ⊥) → (getD l 4 0 ≡ 0x20 → ⊥)
+    → (7 ≤ length l) × (take 7 l ≡ ascii "// UTT ") × (c ≡ uCard 7 (operand (drop 7 l)))
+text-UTT (ShapeText.U t) f g e = absurd (e refl)
+text-UTT (ShapeText.UTT t) f g e = (omega arith, refl, ap (uCard 7) (sym (operand-of t)))
+text-UTT (ShapeText.FS t) f g e = absurd (f refl)
+text-UTT ShapeText.END f g e = absurd (g refl)
+text-UTT (ShapeText.END-blank comment) f g e = absurd (g refl)
+
+module _ (l : List ℕ) (known : IsCard (cardOf l)) where
+  -- the card and its text
+  card-text : (c : Card) × (cardOf l ≡ some c) × ShapeText l c
+  card-text = go (cardOf l) refl known
+    where
+      go : (card : Option Card) → cardOf l ≡ card → IsCard card → (c : Card) × (cardOf l ≡ some c) × ShapeText l c
+      go none e k = absurd k
+      go (some c) e k = (c, e, card-exactly l c .0 e .shape)
+
+  pub five-bytes : 5 ≤ length l
+  five-bytes = text-five (card-text .2)
+
+  pub card-says-END : getD l 3 0 ≡ 0x45 → CardSays l EndCard
+  card-says-END e = card-text .1 ∙ ap some (text-END (card-text .2) e)
+
+  module _ (letter : getD l 3 0 ≡ 0x46) where
+    pub six-bytes : 6 ≤ length l
+    six-bytes = text-FS (card-text .2) letter .0
+
+    pub card-says-FS : {e : ℕ} → OperandEnds l 6 e → CardSays l (FsCard 6 e)
+    card-says-FS o =
+        let t = text-FS (card-text .2) letter in
+        (t .1, o .from, o .upto, card-text .1 ∙ ap some (t .2 ∙ ap fsCard (o .is)))
+
+  module _ (notFS : getD l 3 0 ≡ 0x46 → ⊥) (notEND : getD l 3 0 ≡ 0x45 → ⊥) where
+    pub card-says-U : {e : ℕ} → getD l 4 0 ≡ 0x20 → OperandEnds l 5 e → CardSays l (UCard 5 e)
+    card-says-U b o =
+        let t = text-U (card-text .2) notFS notEND b in
+        (inl (t .0), o .from, o .upto, card-text .1 ∙ ap some (t .1 ∙ ap (uCard 5) (o .is)))
+
+    module _ (fifth : getD l 4 0 ≡ 0x20 → ⊥) where
+      pub seven-bytes : 7 ≤ length l
+      seven-bytes = text-UTT (card-text .2) notFS notEND fifth .0
+
+      pub card-says-UTT : {e : ℕ} → OperandEnds l 7 e → CardSays l (UCard 7 e)
+      card-says-UTT o =
+          let t = text-UTT (card-text .2) notFS notEND fifth in
+          (inr (t .1), o .from, o .upto, card-text .1 ∙ ap some (t .2 ∙ ap (uCard 7) (o .is)))
 
 -- ---- the line that begins at a place
 
@@ -142,7 +194,7 @@ inner-all [] e = noMore
 inner-all (b ∷ l) e = go (λ h. inner-all l h) (eqb b 0x0A) refl
   where
     go : (every inner l ≡ true → All Inner l) → (t : Bool) → eqb b 0x0A ≡ t → All Inner (b ∷ l)
-    go ih true t = let z : false ≡ true = rw t at e in let w : _≡_ {A = ℕ} 0 1 = cc in absurd (omega arith)
+    go ih true t = absurd (not-both (sym (rw t at e)))
     go ih false t = also (eqb-false b 0x0A t) (ih (rw t at e))
 
 -- a block further

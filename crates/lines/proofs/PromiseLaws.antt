@@ -25,7 +25,7 @@ use Rattle.lines.specs.declared.OrderRead.the-variants.{Refused, Ordered
 never : _≡_ {A = ℕ} 0 1 → ⊥
 never z = omega arith
 
--- ---- card
+-- ---- card, and operand, whose promise is the same
 
 module _ (l : List ℕ) where
   -- a first text decides where the operand starts

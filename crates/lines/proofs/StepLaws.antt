@@ -1,5 +1,5 @@
 -- A step of a scan, for code that takes it: what each way through the code answers is what the scan's definition says. By the tests on the way.
-use mathlib.Core.Path.{_≡_, refl, ap, sym, _∙_}
+use mathlib.Core.Path.{_≡_, refl}
 use mathlib.Core.Bool.{Bool, true, false, cond, _&&_}
 use mathlib.Core.List.{List}
 use Prim.Native.Nat.{ℕ, _+_, _≤_, _<_}
@@ -10,12 +10,9 @@ use lib.Seq.{drop-cons}
 use borrow.Author.Tests.{eq-eqb, ne-eqb, lt-ltb, le-ltb, le-leb, lt-leb}
 use Rattle.rules.specs.Answer.{fine, refused}
 use Rattle.rules.specs.Deck.{cardOf}
-use Rattle.lines.specs.Meaning.{CardSays}
 use Rattle.lines.specs.Scanning.{most, counted, firstOf, kindOf, isOther, closed, faulty, misplaced, withLine, tallyOf, begunKind, judgedOf, withByte, stepOf, scanFrom, verdictOf, scannedOf}
-use Rattle.lines.specs.declared.CardRead.{CardRead}
-use Rattle.lines.specs.declared.CardRead.the-variants.{UCard, FsCard, EndCard, NoCard}
 use Rattle.lines.specs.declared.CardKind.{CardKind}
-use Rattle.lines.specs.declared.CardKind.the-variants.{Utility, Select, End, Other}
+use Rattle.lines.specs.declared.CardKind.the-variants.{Other}
 use Rattle.lines.specs.declared.Tally.{Tally}
 use Rattle.lines.specs.declared.Scanner.{Scanner}
 
@@ -58,24 +55,6 @@ module _ (place : ℕ) (ended : Bool) where
   pub faulty-past : (place ≡ 1 → ⊥) → ended ≡ false → faulty place ended ≡ ltb 64 place
   unfolding faulty
   faulty-past n e = rw (ne-eqb place 1 n, e)
-
--- ---- cards
-
-abbrev readKind : CardRead → CardKind
-readKind (UCard s e) = Utility
-readKind (FsCard s e) = Select
-readKind EndCard = End
-readKind NoCard = Other
-
-kind-read : (l : List ℕ) (r : CardRead) → CardSays l r → readKind r ≡ kindOf (cardOf l)
-kind-read l (UCard s e) x = rw (x .3)
-kind-read l (FsCard s e) x = rw (x .3)
-kind-read l EndCard x = rw x
-kind-read l NoCard x = rw x
-
--- which card a line is that was read
-pub kind-is : (l : List ℕ) (r q : CardRead) → CardSays l r → r ≡ q → readKind q ≡ kindOf (cardOf l)
-kind-is l r q x e = ap readKind (sym e) ∙ kind-read l r x
 
 -- ---- lines
 

@@ -3,14 +3,14 @@ use mathlib.Core.Path.{_≡_}
 use mathlib.Core.Logic.{_⊎_}
 use mathlib.Core.Bool.{Bool, true, false, not}
 use mathlib.Core.List.{List, [], _∷_}
-use mathlib.Core.Option.{none, some}
+use mathlib.Core.Option.{Option, none, some}
 use Prim.Native.Nat.{ℕ, suc, min, _≤_, _<_}
 use lib.Dec.{eqb}
 use lib.ListN.{length, take, drop}
 use lib.Seq.{slice}
 use Rattle.rules.specs.Base.{ascii}
 use Rattle.rules.specs.Reader.{read, after}
-use Rattle.rules.specs.Deck.{uCard, fsCard, endCard, lines, operand, cardOf}
+use Rattle.rules.specs.Deck.{Card, uCard, fsCard, endCard, lines, operand, cardOf}
 use Rattle.rules.specs.Places.{All}
 use Rattle.rules.specs.TextParts.{Stopped, Inner}
 use Rattle.lines.specs.declared.CardRead.{CardRead}
@@ -38,6 +38,11 @@ CardSays l (FsCard start end) =
     (take start l ≡ ascii "// FS ") × (start ≤ end) × (end ≤ length l) × (cardOf l ≡ some (fsCard (slice start end l)))
 CardSays l EndCard = cardOf l ≡ some endCard
 CardSays l NoCard = cardOf l ≡ none
+
+-- a line is a card
+abbrev pub IsCard : Option Card → Type 0
+IsCard none = ⊥
+IsCard (some c) = Unit
 
 -- no line ends with this byte
 abbrev pub inner : ℕ → Bool

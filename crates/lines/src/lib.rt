@@ -6,7 +6,7 @@ ghost use lib.ListN.{length};
 ghost use Rattle.rules.specs.Base.{ascii, within, every};
 ghost use Rattle.rules.specs.Deck.{tidy, cardOf};
 ghost use Rattle.rules.specs.Order.{operandsOf};
-ghost use Rattle.lines.specs.Meaning.{BeginsSays, OperandEnds, CardSays, inner, PassedSays, LineSays};
+ghost use Rattle.lines.specs.Meaning.{BeginsSays, OperandEnds, CardSays, IsCard, inner, PassedSays, LineSays};
 ghost use Rattle.lines.specs.Scanning.{counted, kindOf, begunKind, firstOf, isOther, faulty, misplaced, closed, withLine, tallyOf, judgedOf, withByte, stepOf, start, scanFrom, verdictOf, scannedOf, cardCount, answerOf};
 
 // The most bytes of a card.
@@ -101,52 +101,101 @@ pub enum CardRead {
     NoCard,
 }
 
+// Which card a line is.
+enum CardKind {
+    Utility,
+    Select,
+    End,
+    Other,
+}
+
+fn is_other(kind: CardKind) -> bool
+    ensures { λ r. ⌜ r ≡ isOther kind ⌝ }
+{
+    match kind {
+        CardKind::Utility => false,
+        CardKind::Select => false,
+        CardKind::End => false,
+        CardKind::Other => true,
+    }
+}
+
 // A line that begins as an END card does: that is all of it, or a blank follows.
-fn end_card(line: &[u8]) -> CardRead
+fn end_kind(line: &[u8]) -> CardKind
     requires { ⌜ tidy (now line) ≡ true ⌝ }
     requires { ⌜ BeginsSays (ascii "// END") (now line) true ⌝ }
-    ensures { λ r. ⌜ CardSays (now (line .entry)) r ⌝ }
+    ensures { λ r. ⌜ r ≡ kindOf (cardOf (now (line .entry))) ⌝ }
 {
     if line.len() == 6 {
-        return CardRead::EndCard;
+        return CardKind::End;
     }
     if line[6] == BLANK {
-        return CardRead::EndCard;
+        return CardKind::End;
     }
-    CardRead::NoCard
+    CardKind::Other
 }
 
 // A line that has the length and the bytes of a card: its first bytes say which it is.
-fn tidy_card(line: &[u8]) -> CardRead
+fn tidy_kind(line: &[u8]) -> CardKind
     requires { ⌜ tidy (now line) ≡ true ⌝ }
-    ensures { λ r. ⌜ CardSays (now (line .entry)) r ⌝ }
+    ensures { λ r. ⌜ r ≡ kindOf (cardOf (now (line .entry))) ⌝ }
 {
     if begins(line, b"// U ") {
-        let end = operand_end(line, 5);
-        return CardRead::UCard { start: 5, end };
+        return CardKind::Utility;
     }
     if begins(line, b"// UTT ") {
-        let end = operand_end(line, 7);
-        return CardRead::UCard { start: 7, end };
+        return CardKind::Utility;
     }
     if begins(line, b"// FS ") {
+        return CardKind::Select;
+    }
+    if begins(line, b"// END") {
+        return end_kind(line);
+    }
+    CardKind::Other
+}
+
+// Where an operand ends is not looked for: the order of the cards does not ask it.
+fn kind(line: &[u8]) -> CardKind
+    ensures { λ r. ⌜ r ≡ kindOf (cardOf (now (line .entry))) ⌝ }
+{
+    if is_tidy(line) {
+        return tidy_kind(line);
+    }
+    CardKind::Other
+}
+
+// What card a line is that is known to be one. FS and END are told by the fourth byte, U and UTT by the fifth, so no other byte of the kind is looked
+// at again.
+pub fn operand(line: &[u8]) -> CardRead
+    requires { ⌜ IsCard (cardOf (now line)) ⌝ }
+    ensures { λ r. ⌜ CardSays (now (line .entry)) r ⌝ }
+{
+    let letter = line[3];
+    if letter == b'F' {
         let end = operand_end(line, 6);
         return CardRead::FsCard { start: 6, end };
     }
-    if begins(line, b"// END") {
-        return end_card(line);
+    if letter == b'E' {
+        return CardRead::EndCard;
     }
-    CardRead::NoCard
+    if line[4] == BLANK {
+        let end = operand_end(line, 5);
+        return CardRead::UCard { start: 5, end };
+    }
+    let end = operand_end(line, 7);
+    CardRead::UCard { start: 7, end }
 }
 
 // What card a line is.
 pub fn card(line: &[u8]) -> CardRead
     ensures { λ r. ⌜ CardSays (now (line .entry)) r ⌝ }
 {
-    if is_tidy(line) {
-        return tidy_card(line);
+    let kind = kind(line);
+    if is_other(kind) {
+        return CardRead::NoCard;
     }
-    CardRead::NoCard
+    operand(line)
 }
 
 // A line of a deck: where it ends, and where the next one begins.
@@ -236,14 +285,6 @@ pub enum OrderRead {
     Ordered { cards: usize },
 }
 
-// Which card a line is.
-enum CardKind {
-    Utility,
-    Select,
-    End,
-    Other,
-}
-
 // One more. The highest number stays, so that no deck is too long to be scanned.
 fn count(n: usize) -> usize
     ensures { λ r. ⌜ r ≡ counted n ⌝ }
@@ -265,17 +306,6 @@ fn first(old: usize, marked: bool, place: usize) -> usize
         return place;
     }
     old
-}
-
-fn is_other(kind: CardKind) -> bool
-    ensures { λ r. ⌜ r ≡ isOther kind ⌝ }
-{
-    match kind {
-        CardKind::Utility => false,
-        CardKind::Select => false,
-        CardKind::End => false,
-        CardKind::Other => true,
-    }
 }
 
 // Whether an END card has stood, with this one.
@@ -312,18 +342,6 @@ fn is_misplaced(kind: CardKind, place: usize, ended: bool) -> bool
         CardKind::Select => is_faulty(place, ended),
         CardKind::End => is_faulty(place, ended),
         CardKind::Other => false,
-    }
-}
-
-fn kind(line: &[u8]) -> CardKind
-    ensures { λ r. ⌜ r ≡ kindOf (cardOf (now (line .entry))) ⌝ }
-{
-    let read = card(line);
-    match read {
-        CardRead::UCard { start: _, end: _ } => CardKind::Utility,
-        CardRead::FsCard { start: _, end: _ } => CardKind::Select,
-        CardRead::EndCard => CardKind::End,
-        CardRead::NoCard => CardKind::Other,
     }
 }
 

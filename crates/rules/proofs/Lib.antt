@@ -78,6 +78,7 @@ pub mod ReelSteps
 pub mod Bounds
 pub mod MarkLaws
 pub mod LineLaws
+pub mod EveryPlaces
 pub mod CardPlaces
 pub mod RunParts
 pub mod Never

@@ -1,21 +1,30 @@
--- `lines::card` meets its contract: a line that has not the length and the bytes of a card is none.
-use mathlib.Core.Path.{sym, _∙_}
+-- `lines::card` meets its contract: a line of another kind is no card, and every other line is one, whose operand is looked for.
+use mathlib.Core.Path.{_≡_, sym, ap, _∙_}
 use borrow.Author.Needs.{needs}
-use Rattle.lines.proofs.MeaningLaws.{card-says-untidy}
+use Rattle.rules.specs.Deck.{cardOf}
+use Rattle.lines.specs.Scanning.{kindOf, isOther}
+use Rattle.lines.proofs.MeaningLaws.{other-none, known-card}
 use Rattle.lines.proofs.card.Statement.{statement}
 use Rattle.lines.proofs.card.Tie as tie
 
-is-tidy-requires : tie.Need-is-tidy-requires
-is-tidy-requires c κs = search needs
+-- what the test of the kind tells
+told : (c : tie.After-is-other) → c .is-other .result ≡ isOther (kindOf (cardOf (c .before .before .before .args .line .now)))
+told c = c .is-other .ensures ∙ ap isOther (c .before .kind .ensures)
 
-tidy-card-requires : tie.Need-tidy-card-requires
-tidy-card-requires c κs = sym (c .before .is-tidy .ensures) ∙ c .if1 .taken
+kind-requires : tie.Need-kind-requires
+kind-requires c κs = search needs
+
+is-other-requires : tie.Need-is-other-requires
+is-other-requires c κs = search needs
 
 returns : tie.Need-returns
-returns c = search needs
+returns c = other-none (cardOf (c .before .before .before .before .args .line .now)) (sym (told (c .before)) ∙ c .if1 .taken)
+
+operand-requires : tie.Need-operand-requires
+operand-requires c κs = known-card (cardOf (c .before .before .before .before .args .line .now)) (sym (told (c .before)) ∙ c .if1 .left)
 
 returns-2 : tie.Need-returns-2
-returns-2 c = card-says-untidy (c .before .before .before .args .line .now) (sym (c .before .is-tidy .ensures) ∙ c .if1 .left)
+returns-2 c = search needs
 
 pub card-spec : {M : Type 1} → statement M
-card-spec = tie.close (tie.spec is-tidy-requires tidy-card-requires returns returns-2)
+card-spec = tie.close (tie.spec kind-requires is-other-requires returns operand-requires returns-2)
