@@ -52,16 +52,16 @@ fn tell_field(field: Field, card: usize) {
     say::labelled(b"@", card);
 }
 
-fn tell_fields(asked: Asked) {
-    let count = asked.count;
+fn tell_fields(deck: &[u8], fields: &[u16]) {
+    let count = fields.len() / 5;
     let mut i = 0;
-    while i < count && i < 64 {
-        tell_field(asked.fields[i], asked.cards[i]);
+    while i < count {
+        tell_field(rows::field_at(fields, i), cards::field_card(deck, i));
         i += 1;
     }
 }
 
-pub(crate) fn tell(asked: Asked) {
+pub(crate) fn tell(deck: &[u8], asked: Asked, fields: &[u16]) {
     let mode = asked.mode;
     let format = asked.format;
     let input = asked.input;
@@ -74,5 +74,5 @@ pub(crate) fn tell(asked: Asked) {
     say::labelled(b" fs=", asked.fs);
     say::labelled(b" cv=", asked.cv);
     say::labelled(b" ", asked.count);
-    tell_fields(asked);
+    tell_fields(deck, fields);
 }

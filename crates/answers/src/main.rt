@@ -66,17 +66,21 @@ fn half(words: &[u8]) {
 fn deck(words: &[u8]) {
     let mut bytes = room();
     let n = text::decode(words, &mut bytes);
-    let read = cards::read_deck(&bytes[..n]);
+    let mut row = [0u16; 320];
+    let read = cards::read_deck(&bytes[..n], &mut row);
     say::refusal(read.refusal, read.place, read.column);
     if read.refusal == 0 {
-        asked::tell(read.asked);
+        let asked = read.asked;
+        let end = 5 * asked.count;
+        asked::tell(&bytes[..n], asked, &row[..end]);
     }
 }
 
 fn deck_and_reel(words: &[u8]) {
     let mut bytes = room();
     let n = text::decode(text::before(words, b' '), &mut bytes);
-    let read = cards::read_deck(&bytes[..n]);
+    let mut row = [0u16; 320];
+    let read = cards::read_deck(&bytes[..n], &mut row);
     if read.refusal != 0 {
         say::refusal(read.refusal, read.place, read.column);
         return;

@@ -1,17 +1,20 @@
 -- The run of a deck is the run of its plan, which has no column, or the deck's own refusal: by cases on the plan, as the rules run it.
 use mathlib.Core.Path.{_≡_, refl, ap, sym, _∙_}
 use mathlib.Core.List.{List}
-use Prim.Native.Nat.{ℕ}
+use Prim.Native.Nat.{ℕ, _*_, _≤_}
+use native.Mathlib.Omega.{arith}
+use lib.ListN.{length, take}
 use Rattle.rules.specs.Answer.{Answer, fine, refuse, refusedAt, _>>=_}
 use Rattle.rules.specs.Plan.{Plan}
 use Rattle.rules.specs.Run.{Ran as RuleRan, convert, runOf}
 use Rattle.rules.specs.Lent.{zoneF, plan, run, runAnswer}
 use Rattle.rules.proofs.RunColumns.{convert-column}
 use Rattle.terms.specs.Meaning.{planIn}
+use Rattle.rows.specs.Kept.{fieldsIn}
+use Rattle.rows.specs.Fair.{PlanFair}
 use Rattle.plans.specs.Promise.{Plans}
 use Rattle.plans.specs.declared.Planned.{Planned}
-use Rattle.plans.proofs.FilledLaws.{refused-plan, accepted-plan}
-use Rattle.runs.specs.Promise.{Runnable}
+use Rattle.plans.proofs.FilledLaws.{refused-plan, accepted-plan, plan-is, plan-fair, row-holds}
 use Rattle.checks.specs.declared.Ran.{Ran as Checked}
 use Rattle.checks.specs.Promise.{ranStruct}
 use Rattle.bhexodana.specs.Promise.{ranOf}
@@ -34,18 +37,30 @@ run-plan : (room : ℕ) (deck s : List ℕ) (x : Answer Plan) → plan deck ≡ 
 unfolding run runOf plan
 run-plan room deck s x e = ap (λ (y : Answer Plan). y >>= λ p. convert room p s) e
 
-module _ (deck : List ℕ) (r : Planned) (w : Plans deck r) where
+module _ (deck : List ℕ) (r : Planned) (row : List ℕ) (w : Plans deck r row) where
   pub run-refused : (r .refusal ≡ 0 → ⊥) → (room : ℕ) (s : List ℕ) → run room deck s ≡ refusedAt (r .refusal) (r .place) (r .column)
   unfolding _>>=_
   run-refused h room s =
-      let q = refused-plan deck r w h in
+      let q = refused-plan deck r row w h in
       run-plan room deck s (refuse (q .0)) (q .1) ∙ (λ i. refuse (record { number = sym (q .2) i; place = sym (q .3) i; column = sym (q .4) i }))
 
-  pub run-accepted : r .refusal ≡ 0 → (room : ℕ) (s : List ℕ) → run room deck s ≡ convert room (planIn zoneF (r .asked)) s
-  unfolding _>>=_
-  run-accepted z room s =
-      let a = accepted-plan deck r w z in
-      run-plan room deck s (fine (a .0)) (a .1) ∙ ap (λ (p : Plan). convert room p s) (sym (a .3 .is))
+  module _ (z : r .refusal ≡ 0) where
+    abbrev end : ℕ
+    end = 5 * r .asked .count
 
-  pub runnable : r .refusal ≡ 0 → Runnable (r .asked)
-  runnable z = let h = accepted-plan deck r w z .3 .fair in record { accepted = h .accepted; few = h .few; many = h .many }
+    -- as many numbers as its fields have
+    all : let p = accepted-plan deck r row w z .0 in end ≡ 5 * length (p .fields)
+    all = ap (λ (n : ℕ). 5 * n) (accepted-plan deck r row w z .3 .count)
+
+    pub run-accepted : (room : ℕ) (s : List ℕ) → run room deck s ≡ convert room (planIn zoneF (r .asked) (fieldsIn (take end row))) s
+    unfolding _>>=_
+    run-accepted room s =
+        let a = accepted-plan deck r row w z in
+        run-plan room deck s (fine (a .0)) (a .1) ∙ ap (λ (p : Plan). convert room p s) (sym (plan-is deck (a .0) (r .asked) row (a .3) end all))
+
+    pub runnable : PlanFair (r .asked) (take end row)
+    runnable = let a = accepted-plan deck r row w z in plan-fair deck (a .0) (r .asked) row (a .3) end all (a .1)
+
+    -- they stand in the row
+    pub front-in : end ≤ length row
+    front-in = let a = accepted-plan deck r row w z in let l = row-holds deck (a .0) (a .1) (r .asked) row (a .3) in omega (arith, l .0, l .1, all)

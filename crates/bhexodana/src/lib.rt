@@ -62,7 +62,8 @@ fn store(table: &mut [Entry], entries: [Entry; 64], count: usize)
 pub extern "C" fn bhx_plan(deck: &[u8]) -> Planned
     ensures { λ r. ⌜ PlanOf (now (deck .entry)) r ⌝ }
 {
-    let p = plans::plan_deck(deck);
+    let mut row = [0u16; 320];
+    let p = plans::plan_deck(deck, &mut row);
     Planned {
         refusal: p.refusal,
         place: p.place,
@@ -114,12 +115,14 @@ fn refused(number: usize, place: usize, column: usize) -> Ran
 pub extern "C" fn bhx_run(deck: &[u8], reel: &[u8], out: &mut [u8]) -> Ran
     ensures { λ r. ⌜ RanInto (now (deck .entry)) (now (reel .entry)) (now (out .entry)) r (now (out .exit)) ⌝ }
 {
-    let p = plans::plan_deck(deck);
+    let mut row = [0u16; 320];
+    let p = plans::plan_deck(deck, &mut row);
     if p.refusal != 0 {
         return refused(p.refusal, p.place, p.column);
     }
     let asked = p.asked;
-    let r = runs::run_plan(asked, reel, out);
+    let end = 5 * asked.count;
+    let r = runs::run_plan(asked, &row[..end], reel, out);
     Ran {
         refusal: r.refusal,
         place: r.place,

@@ -21,7 +21,6 @@ use Rattle.rules.proofs.WordedLaws.{fs-worded}
 use Rattle.rules.proofs.NumberColumns.{item-count}
 use Rattle.rules.proofs.WordColumns.{first-some, outside-free, outside-parts}
 use Rattle.cards.specs.declared.Noted.{Noted}
-use Rattle.cards.specs.declared.Selected.{Selected}
 use Rattle.cards.specs.Selected.{counted, fieldNoted, cvNoted, Taken, withItem, withWords, noSelection, withCard, withCards}
 
 -- ---- what an item leaves
@@ -70,12 +69,12 @@ module _ (get : Noted → ℕ × ℕ) (keeps : (card column out : ℕ) (i : Item
       let k = keeps card column (outsideIn itemNumbers column w) (w .value) t n in
       words-stay card (column + suc (length (w .text))) ws (withItem card column (outsideIn itemNumbers column w) (w .value) t) (λ z. n (sym (ap (λ (x : ℕ × ℕ). x .0) k) ∙ z)) ∙ k
 
-  cards-stay : (card : ℕ) (cs : List (List (Worded Item))) (st : Selected) → (get (st .noted) .0 ≡ 0 → ⊥) → get (withCards card cs st .noted) ≡ get (st .noted)
+  cards-stay : (card : ℕ) (cs : List (List (Worded Item))) (t : Taken) → (get (t .0) .0 ≡ 0 → ⊥) → get (withCards card cs t .0) ≡ get (t .0)
   unfolding withCard
-  cards-stay card [] st n = refl
-  cards-stay card (ws ∷ cs) st n =
-      let k = words-stay card (suc beforeFS) ws (st .noted, st .row) n in
-      cards-stay (suc card) cs (withCard card ws st) (λ z. n (sym (ap (λ (x : ℕ × ℕ). x .0) k) ∙ z)) ∙ k
+  cards-stay card [] t n = refl
+  cards-stay card (ws ∷ cs) t n =
+      let k = words-stay card (suc beforeFS) ws t n in
+      cards-stay (suc card) cs (withCard card ws t) (λ z. n (sym (ap (λ (x : ℕ × ℕ). x .0) k) ∙ z)) ∙ k
 
 second-keeps : (card column out : ℕ) (i : Item) (t : Taken) → (second (t .0) .0 ≡ 0 → ⊥) → second (withItem card column out i t .0) ≡ second (t .0)
 unfolding withItem cvNoted
@@ -145,36 +144,36 @@ module _ (get : Noted → ℕ × ℕ) (keeps : (card column out : ℕ) (i : Item
   columnAt s i (o ∷ os) p = let later = columnAt (steps s (fsWords o)) (suc i) os p in cond (eqb p i) (seek s (suc beforeFS) (fsWords o)) later
 
   -- after some cards: nothing, or it stands on one of them
-  noted-cards : (card : ℕ) → 1 ≤ card → (os : List (List ℕ)) (st : Selected) (s : S) → Clear (st .noted) s
-      → (get (withCards card (map fsWords os) st .noted) .0 ≡ 0)
-      ⊎ ((card ≤ get (withCards card (map fsWords os) st .noted) .0)
-      × (get (withCards card (map fsWords os) st .noted) .1 ≡ columnAt s card os (get (withCards card (map fsWords os) st .noted) .0)))
+  noted-cards : (card : ℕ) → 1 ≤ card → (os : List (List ℕ)) (t : Taken) (s : S) → Clear (t .0) s
+      → (get (withCards card (map fsWords os) t .0) .0 ≡ 0)
+      ⊎ ((card ≤ get (withCards card (map fsWords os) t .0) .0)
+      × (get (withCards card (map fsWords os) t .0) .1 ≡ columnAt s card os (get (withCards card (map fsWords os) t .0) .0)))
   unfolding withCard
-  noted-cards card l [] st s c = inl (none (st .noted) s c)
-  noted-cards card l (o ∷ os) st s c =
-      go (λ r d. noted-cards (suc card) (omega arith) os (withCard card (fsWords o) st) r d) (noted-words card (suc beforeFS) l (omega arith) (fsWords o) (st .noted, st .row) s c)
+  noted-cards card l [] t s c = inl (none (t .0) s c)
+  noted-cards card l (o ∷ os) t s c =
+      go (λ r d. noted-cards (suc card) (omega arith) os (withCard card (fsWords o) t) r d) (noted-words card (suc beforeFS) l (omega arith) (fsWords o) t s c)
     where
       ws : List (Worded Item)
       ws = fsWords o
 
-      st′ : Selected
-      st′ = withCard card ws st
+      next : Taken
+      next = withCard card ws t
 
       end : Noted
-      end = withCards (suc card) (map fsWords os) st′ .noted
+      end = withCards (suc card) (map fsWords os) next .0
 
       later : (get end .0 ≡ 0) ⊎ ((suc card ≤ get end .0) × (get end .1 ≡ columnAt (steps s ws) (suc card) os (get end .0)))
           → (get end .0 ≡ 0) ⊎ ((card ≤ get end .0) × (get end .1 ≡ columnAt s card (o ∷ os) (get end .0)))
       later (inl z) = inl z
       later (inr z) = inr (omega (arith, z .0), rw (ne-eqb (get end .0) card (λ q. omega (arith, z .0))) (z .1))
 
-      go : ((r : S) → Clear (st′ .noted) r → (get end .0 ≡ 0) ⊎ ((suc card ≤ get end .0) × (get end .1 ≡ columnAt r (suc card) os (get end .0))))
-          → Clear (st′ .noted) (steps s ws) ⊎ (get (st′ .noted) ≡ (card, seek s (suc beforeFS) ws))
+      go : ((r : S) → Clear (next .0) r → (get end .0 ≡ 0) ⊎ ((suc card ≤ get end .0) × (get end .1 ≡ columnAt r (suc card) os (get end .0))))
+          → Clear (next .0) (steps s ws) ⊎ (get (next .0) ≡ (card, seek s (suc beforeFS) ws))
           → (get end .0 ≡ 0) ⊎ ((card ≤ get end .0) × (get end .1 ≡ columnAt s card (o ∷ os) (get end .0)))
       go on (inl q) = later (on (steps s ws) q)
       go on (inr q) =
           let f : get end ≡ (card, seek s (suc beforeFS) ws)
-          = cards-stay get keeps (suc card) (map fsWords os) st′ (λ z. let k : card ≡ 0 = sym (ap (λ (x : ℕ × ℕ). x .0) q) ∙ z in omega arith) ∙ q in
+          = cards-stay get keeps (suc card) (map fsWords os) next (λ z. let k : card ≡ 0 = sym (ap (λ (x : ℕ × ℕ). x .0) q) ∙ z in omega arith) ∙ q in
           let p : get end .0 ≡ card = ap (λ (x : ℕ × ℕ). x .0) f in
           inr (omega (arith, p), ap (λ (x : ℕ × ℕ). x .1) f ∙ sym (ap (λ (b : Bool). cond b (seek s (suc beforeFS) ws) (columnAt (steps s ws) (suc card) os (get end .0))) (eq-eqb (get end .0) card p)))
 
@@ -295,7 +294,7 @@ outside-at i (o ∷ os) (is ∷ cs) (both t b) p =
 
 module _ (os : List (List ℕ)) where
   abbrev end : Noted
-  end = withCards 2 (map fsWords os) noSelection .noted
+  end = withCards 2 (map fsWords os) noSelection .0
 
   pub cv-column : (end .«second_cv» ≡ 0 → ⊥) → end .«second_column» ≡ cvColumn [] 2 os (end .«second_cv»)
   unfolding noSelection

@@ -7,6 +7,7 @@ use Prim.Native.Nat.{ℕ, zero, suc, _+_, _-_, _≤_, _<_}
 use native.Mathlib.Omega.{arith}
 use lib.ListN.{length, take, drop, length-drop}
 use lib.Seq.{slice, take-take, drop-drop, length-slice, take-nil, drop-nil}
+use Rattle.rules.specs.Places.{All}
 use Rattle.rules.specs.Answer.{Answer, fine, refuse, _>>=_}
 use Rattle.rules.specs.Reader.{Read, read, stopped, listOf}
 use Rattle.rules.specs.Deck.{lines, Card, uCard, fsCard, endCard, beforeFS, cardOf}
@@ -14,18 +15,18 @@ use Rattle.rules.specs.Order.{Operands, operandsOf}
 use Rattle.rules.specs.Grammar.{Item, item, fsOperand}
 use Rattle.rules.specs.Words.{Worded, worded, partsOf, fsWords, valuesOf}
 use Rattle.rules.specs.Asked.{itemsFrom}
+use Rattle.rules.proofs.AllLaws.{all-head}
 use Rattle.rules.proofs.AnswerLaws.{bind-fine}
 use Rattle.rules.proofs.OrderOutcome.{order-fine}
 use Rattle.rules.proofs.ScanLaws.{cards-each}
 use Rattle.rules.proofs.WordColumns.{plainRead, list-plain}
 use Rattle.lines.specs.declared.LineRead.the-variants.{Line, NoLine}
-use Rattle.lines.specs.Meaning.{LineSays}
+use Rattle.lines.specs.Meaning.{IsCard, LineSays}
 use Rattle.cards.specs.declared.ListRead.{ListRead}
-use Rattle.cards.specs.declared.Selected.{Selected}
+use Rattle.cards.specs.declared.Noted.{Noted}
 use Rattle.cards.specs.declared.FsCards.{FsCards}
-use Rattle.cards.specs.Selected.{ListSays, onCard, noSelection, withCard, withCards}
+use Rattle.cards.specs.Selected.{Taken, ListSays, noSelection, withCard, withCards}
 use Rattle.cards.specs.Deck.{cardsIn, fsFirst, OperandAt, Operandless, FsRead, FsSaid}
-use Rattle.cards.proofs.RowLaws.{words-count}
 
 -- ---- a part of a part
 
@@ -45,6 +46,9 @@ slice-within a e f t l h =
 module _ (deck : List ℕ) (at end next : ℕ) (h : LineSays deck at (Line end next)) where
   line-first : cardsIn (drop at deck) ≡ cardOf (slice at end deck) ∷ cardsIn (drop next deck)
   line-first = ap (map cardOf) (h .4)
+
+  pub line-card : All IsCard (cardsIn (drop at deck)) → IsCard (cardOf (slice at end deck))
+  line-card a = all-head (subst (All IsCard) line-first a)
 
   pub line-length : length (slice at end deck) ≡ end - at
   line-length = length-slice at end deck (h .2)
@@ -72,28 +76,28 @@ nothing-at deck at h = subst Operandless (sym (ap (map cardOf) (h .1))) tt
 
 -- ---- the FS cards
 
-no-more : (cs : List (Option Card)) → Operandless cs → fsFirst cs ≡ []
+pub no-more : (cs : List (Option Card)) → Operandless cs → fsFirst cs ≡ []
 no-more [] h = refl
 no-more (none ∷ cs) h = refl
 no-more (some (uCard b o) ∷ cs) h = absurd h
 no-more (some (fsCard o) ∷ cs) h = absurd h
 no-more (some endCard ∷ cs) h = refl
 
-module _ (card : ℕ) (st : Selected) (r : FsCards) (o : List ℕ) (os : List (List ℕ)) where
+module _ (card : ℕ) (t : Taken) (r : FsCards) (row o : List ℕ) (os : List (List ℕ)) where
   -- a card whose operand could be read, and then the others
-  pub said-card : (ws : List (Worded Item)) (left : List ℕ) → listOf "/" (worded item) o ≡ read ws left → FsSaid (suc card) (withCard card ws st) os r → FsSaid card st (o ∷ os) r
+  pub said-card : (ws : List (Worded Item)) (left : List ℕ) → listOf "/" (worded item) o ≡ read ws left → FsSaid (suc card) (withCard card ws t) os r row → FsSaid card t (o ∷ os) r row
   unfolding _>>=_ fsOperand fsWords
   said-card ws left e h =
       let p : fsOperand o ≡ read (valuesOf ws) left = sym (list-plain "/" item o) ∙ ap plainRead e in
       let q : fsWords o ≡ ws = ap partsOf e in
       rw p (go q (itemsFrom (suc card) os) h)
     where
-      go : fsWords o ≡ ws → (x : Answer (List (List Item))) → FsRead (suc card) (withCard card ws st) os x r → FsRead card st (o ∷ os) (x >>= λ more. fine (valuesOf ws ∷ more)) r
-      go q (fine cs) h = (h .0, h .1 ∙ ap (λ (v : List (Worded Item)). withCards (suc card) (map fsWords os) (withCard card v st)) (sym q))
+      go : fsWords o ≡ ws → (x : Answer (List (List Item))) → FsRead (suc card) (withCard card ws t) os x r row → FsRead card t (o ∷ os) (x >>= λ more. fine (valuesOf ws ∷ more)) r row
+      go q (fine cs) h = (h .0, h .1 ∙ ap (λ (v : List (Worded Item)). withCards (suc card) (map fsWords os) (withCard card v t)) (sym q))
       go q (refuse x) h = h
 
   -- and one that could not
-  pub said-stop : (k : ℕ) → k ≤ length o → listOf "/" (worded item) o ≡ stopped (drop k o) → r .unread ≡ card → r .column ≡ suc beforeFS + k → FsSaid card st (o ∷ os) r
+  pub said-stop : (k : ℕ) → k ≤ length o → listOf "/" (worded item) o ≡ stopped (drop k o) → r .unread ≡ card → r .column ≡ suc beforeFS + k → FsSaid card t (o ∷ os) r row
   unfolding _>>=_ fsOperand
   said-stop k l e h c =
       let p : fsOperand o ≡ stopped (drop k o) = sym (list-plain "/" item o) ∙ ap plainRead e in
@@ -101,28 +105,28 @@ module _ (card : ℕ) (st : Selected) (r : FsCards) (o : List ℕ) (os : List (L
       rw p (h, c ∙ (let z : suc beforeFS + k ≡ beforeFS + suc (length o - length (drop k o)) = omega arith in z))
 
 -- what is right of the FS cards from here on is right of all of them
-pub record Selecting (deck : List ℕ) (start : ℕ) (st : Selected) (card at : ℕ) : Type 0 where
+pub record Selecting (deck : List ℕ) (start : ℕ) (t : Taken) (card at : ℕ) : Type 0 where
   pub low : card ≤ 2 + at
-  pub high : 2 ≤ card
-  pub few : st .noted .count ≤ 64
-  pub on : (r : FsCards) → FsSaid card st (fsFirst (cardsIn (drop at deck))) r → FsSaid 2 noSelection (fsFirst (cardsIn (drop start deck))) r
+  pub on : (r : FsCards) (row : List ℕ) → FsSaid card t (fsFirst (cardsIn (drop at deck))) r row → FsSaid 2 noSelection (fsFirst (cardsIn (drop start deck))) r row
 
 pub selecting-start : (deck : List ℕ) (start : ℕ) → Selecting deck start noSelection 2 start
-unfolding noSelection
-selecting-start deck start = record { low = omega arith; high = omega arith; few = omega arith; on = λ r h. h }
+selecting-start deck start = record { low = omega arith; on = λ r row h. h }
 
-module _ (deck : List ℕ) (from : ℕ) (st : Selected) (card at : ℕ) (g : Selecting deck from st card at) where
-  abbrev pub Whole : FsCards → Type 0
-  Whole r = FsSaid 2 noSelection (fsFirst (cardsIn (drop from deck))) r
+module _ (deck : List ℕ) (from : ℕ) (t : Taken) (card at : ℕ) (g : Selecting deck from t card at) where
+  abbrev pub Whole : FsCards → List ℕ → Type 0
+  Whole r row = FsSaid 2 noSelection (fsFirst (cardsIn (drop from deck))) r row
 
   -- no FS card is left
-  ended : fsFirst (cardsIn (drop at deck)) ≡ [] → Whole (record { state = st; unread = 0; column = 0 })
-  ended e = g .on _ (subst (λ (os : List (List ℕ)). FsSaid card st os (record { state = st; unread = 0; column = 0 })) (sym e) (refl, refl))
+  abbrev all : FsCards
+  all = record { noted = t .0; unread = 0; column = 0 }
 
-  pub selecting-none : Operandless (cardsIn (drop at deck)) → Whole (record { state = st; unread = 0; column = 0 })
+  ended : fsFirst (cardsIn (drop at deck)) ≡ [] → Whole all (t .1)
+  ended e = g .on all (t .1) (subst (λ (os : List (List ℕ)). FsSaid card t os all (t .1)) (sym e) (refl, refl))
+
+  pub selecting-none : Operandless (cardsIn (drop at deck)) → Whole all (t .1)
   selecting-none h = ended (no-more (cardsIn (drop at deck)) h)
 
-  pub selecting-u : (b start end next : ℕ) → OperandAt (uCard b) deck at start end next → Whole (record { state = st; unread = 0; column = 0 })
+  pub selecting-u : (b start end next : ℕ) → OperandAt (uCard b) deck at start end next → Whole all (t .1)
   selecting-u b start end next h = ended (ap fsFirst (h .is))
 
   module _ (start end next : ℕ) (h : OperandAt fsCard deck at start end next) where
@@ -133,44 +137,32 @@ module _ (deck : List ℕ) (from : ℕ) (st : Selected) (card at : ℕ) (g : Sel
     fs-first = ap fsFirst (h .is)
 
     -- what the two functions gave of the card
-    module _ (read-as : ListRead) (row : List ℕ)
-        (says : ListSays card (suc beforeFS) (suc beforeFS) (st .noted, st .row) operand (listOf "/" (worded item) operand) read-as row) where
+    module _ (read-as : ListRead) (row : List ℕ) (says : ListSays card (suc beforeFS) (suc beforeFS) t operand (listOf "/" (worded item) operand) read-as row) where
       -- it could not be read
-      pub selecting-stop : (read-as .unread ≡ 0 → ⊥) → (x : Selected) → Whole (record { state = x; unread = card; column = read-as .unread })
-      selecting-stop n x =
-          g .on _ (subst (λ (os : List (List ℕ)). FsSaid card st os (record { state = x; unread = card; column = read-as .unread })) (sym fs-first) (go (listOf "/" (worded item) operand) refl says))
+      pub selecting-stop : (read-as .unread ≡ 0 → ⊥) → (n : Noted) → Whole (record { noted = n; unread = card; column = read-as .unread }) row
+      selecting-stop n x = g .on r row (subst (λ (os : List (List ℕ)). FsSaid card t os r row) (sym fs-first) (go (listOf "/" (worded item) operand) refl says))
         where
-          go : (y : Read (List (Worded Item))) → listOf "/" (worded item) operand ≡ y → ListSays card (suc beforeFS) (suc beforeFS) (st .noted, st .row) operand y read-as row
-              → FsSaid card st (operand ∷ fsFirst (cardsIn (drop next deck))) (record { state = x; unread = card; column = read-as .unread })
+          r : FsCards
+          r = record { noted = x; unread = card; column = read-as .unread }
+
+          go : (y : Read (List (Worded Item))) → listOf "/" (worded item) operand ≡ y → ListSays card (suc beforeFS) (suc beforeFS) t operand y read-as row
+              → FsSaid card t (operand ∷ fsFirst (cardsIn (drop next deck))) r row
           go (read ws left) e (u, m, w) = absurd (n u)
-          go (stopped left) e (k, l, d, u) =
-              said-stop card st (record { state = x; unread = card; column = read-as .unread }) operand (fsFirst (cardsIn (drop next deck))) k l (e ∙ ap stopped d) refl u
+          go (stopped left) e (k, l, d, u) = said-stop card t r row operand (fsFirst (cardsIn (drop next deck))) k l (e ∙ ap stopped d) refl u
 
-      -- it could: the fields are counted up, and the next card comes
-      pub selecting-counts : read-as .unread ≡ 0 → (st .noted .count ≤ read-as .noted .count) × (read-as .noted .count ≤ 64)
-      selecting-counts z = go (listOf "/" (worded item) operand) says
-        where
-          go : (y : Read (List (Worded Item))) → ListSays card (suc beforeFS) (suc beforeFS) (st .noted, st .row) operand y read-as row → (st .noted .count ≤ read-as .noted .count) × (read-as .noted .count ≤ 64)
-          go (read ws left) (u, m, w) = let c = words-count card (suc beforeFS) ws (st .noted, st .row) (g .few) in rw m c
-          go (stopped left) (k, l, d, u) = absurd (omega arith)
-
-      pub selecting-more : read-as .unread ≡ 0
-          → Selecting deck from (record { row = row; cards = onCard (st .cards) (st .noted .count) (read-as .noted .count) card; noted = read-as .noted }) (suc card) next
+      -- it could: the next card comes
+      pub selecting-more : read-as .unread ≡ 0 → Selecting deck from (read-as .noted, row) (suc card) next
       unfolding withCard
       selecting-more z =
           let on : at < next = h .on in
-          record { low = omega (arith, g .low); high = omega (arith, g .high); few = selecting-counts z .1; on = λ r k. g .on r (subst (λ (os : List (List ℕ)). FsSaid card st os r) (sym fs-first) (go r k (listOf "/" (worded item) operand) refl says)) }
+          record { low = omega (arith, g .low); on = λ r row′ k. g .on r row′ (subst (λ (os : List (List ℕ)). FsSaid card t os r row′) (sym fs-first) (go r row′ k (listOf "/" (worded item) operand) refl says)) }
         where
-          after : Selected
-          after = record { row = row; cards = onCard (st .cards) (st .noted .count) (read-as .noted .count) card; noted = read-as .noted }
-
-          go : (r : FsCards) → FsSaid (suc card) after (fsFirst (cardsIn (drop next deck))) r → (y : Read (List (Worded Item))) → listOf "/" (worded item) operand ≡ y
-              → ListSays card (suc beforeFS) (suc beforeFS) (st .noted, st .row) operand y read-as row → FsSaid card st (operand ∷ fsFirst (cardsIn (drop next deck))) r
-          go r k (read ws left) e (u, m, w) =
-              said-card card st r operand (fsFirst (cardsIn (drop next deck))) ws left e
-              (subst (λ (x : Selected). FsSaid (suc card) x (fsFirst (cardsIn (drop next deck))) r)
-              (λ i. record { row = w i; cards = onCard (st .cards) (st .noted .count) (m i .count) card; noted = m i }) k)
-          go r k (stopped left) e (j, l, d, u) = absurd (omega arith)
+          go : (r : FsCards) (row′ : List ℕ) → FsSaid (suc card) (read-as .noted, row) (fsFirst (cardsIn (drop next deck))) r row′ → (y : Read (List (Worded Item))) → listOf "/" (worded item) operand ≡ y
+              → ListSays card (suc beforeFS) (suc beforeFS) t operand y read-as row → FsSaid card t (operand ∷ fsFirst (cardsIn (drop next deck))) r row′
+          go r row′ k (read ws left) e (u, m, w) =
+              said-card card t r row′ operand (fsFirst (cardsIn (drop next deck))) ws left e
+              (subst (λ (x : Taken). FsSaid (suc card) x (fsFirst (cardsIn (drop next deck))) r row′) (λ i. (m i, w i)) k)
+          go r row′ k (stopped left) e (j, l, d, u) = absurd (omega arith)
 
 -- ---- a deck in order
 

@@ -6,7 +6,7 @@ pub mod ColumnLaws
 pub mod ListedLaws
 pub mod ParameterLaws
 pub mod DeckLaws
-pub mod CopySizes
 pub mod VerdictLaws
 pub mod OrderedLaws
 pub mod PromiseLaws
+pub mod HolderLaws

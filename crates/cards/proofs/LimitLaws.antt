@@ -1,13 +1,9 @@
 -- The column of the first number outside its limits, found by asking each number by itself: the first column that is not 0 is that of the first number that
 -- fails, since no column is 0. By whether each number is within its limits.
-use mathlib.Core.Path.{_≡_, refl, ap, sym, _∙_}
+use mathlib.Core.Path.{_≡_, refl, ap, _∙_}
 use mathlib.Core.Bool.{Bool, true, false, cond}
-use mathlib.Core.List.{List, _∷_, _++_}
-use Prim.Native.Nat.{ℕ, suc, _+_, _-_, _≤_, _<_}
+use Prim.Native.Nat.{ℕ, _+_, _≤_}
 use native.Mathlib.Omega.{arith}
-use lib.ListN.{length, take, drop, set, replicate, length-append, length-replicate, replicate-append-replicate, take-append-drop}
-use lib.Seq.{set-at, drop-cons, length-take-le, append-snoc}
-use mathlib.Core.List.{append-assoc}
 use Rattle.rules.specs.Base.{within}
 use Rattle.rules.specs.Grammar.{field}
 use Rattle.rules.specs.Words.{outsideColumn, firstOf}
@@ -23,7 +19,6 @@ use Rattle.readers.specs.declared.Places.{Places}
 use Rattle.readers.specs.declared.UParameter.the-variants.{InputIs, OutputIs}
 use Rattle.readers.specs.Meaning.{OneSize, parameterPlaces, fieldPlaces}
 use Rattle.cards.specs.Limits.{shifted, sizePlaces, mostOf}
-use Rattle.cards.specs.Selected.{onCard}
 
 -- the columns of two and of four numbers, 0 for one that is within its limits
 pub two-first : (a b : Bool) (x y : ℕ) → 1 ≤ x → firstOf (cond a 0 x) (cond b 0 y) ≡ cond a (cond b 0 y) x
@@ -81,24 +76,3 @@ input-places (One g) second = refl
 pub output-places : (z : Size) (second : ℕ) → parameterPlaces (OutputIs z) second ≡ sizePlaces z second
 output-places (Two n m) second = refl
 output-places (One g) second = refl
-
--- ---- the card of each field
-
-pub on-card-none : (cs : List ℕ) (from card : ℕ) → cs ≡ onCard cs from from card
-unfolding onCard
-on-card-none cs from card = let z : from - from ≡ 0 = omega arith in rw z (sym (take-append-drop from cs))
-
-pub on-card-more : (cs : List ℕ) (from i card : ℕ) → from ≤ i → i < length cs → set (onCard cs from i card) i card ≡ onCard cs from (i + 1) card
-unfolding onCard
-on-card-more cs from i card l h =
-    let front = take from cs ++ replicate (i - from) card in
-    let long : length front ≡ i = omega (arith, length-append (take from cs) (replicate (i - from) card), length-replicate (i - from) card, length-take-le from cs (omega arith)) in
-    let n : (i - from) + 1 ≡ (i + 1) - from = omega arith in
-    let k : suc i ≡ i + 1 = omega arith in
-    ap (λ (r : List ℕ). set (take from cs ++ (replicate (i - from) card ++ r)) i card) (drop-cons cs i 0 h)
-    ∙ ap (λ (r : List ℕ). set r i card) (sym (append-assoc (take from cs) (replicate (i - from) card) _))
-    ∙ set-at front _ (drop (suc i) cs) card i long
-    ∙ append-assoc (take from cs) (replicate (i - from) card) (card ∷ drop (suc i) cs)
-    ∙ ap (λ (r : List ℕ). take from cs ++ r) (sym (append-snoc (replicate (i - from) card) card (drop (suc i) cs)))
-    ∙ ap (λ (r : List ℕ). take from cs ++ (r ++ drop (suc i) cs)) (replicate-append-replicate (i - from) 1 card)
-    ∙ (λ t. take from cs ++ (replicate (n t) card ++ drop (k t) cs))

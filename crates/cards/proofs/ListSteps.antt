@@ -1,59 +1,18 @@
--- The array of the fields' cards: the first 64, and nothing behind them. The card of each field, and of CV, as the last card holds more.
+-- The card of CV, as the last card holds more: a field more does not change it, and a CV more is the first or changes nothing. CV is no field.
 use mathlib.Core.Path.{_≡_, refl, ap, sym, _∙_}
 use mathlib.Core.Bool.{Bool, true, false, cond}
-use mathlib.Core.List.{List, [], _∷_, _++_, append-nil, append-assoc}
-use Prim.Native.Nat.{ℕ, zero, suc, _+_, _-_, _≤_}
+use mathlib.Core.List.{List, [], _∷_, _++_, append-nil}
+use Prim.Native.Nat.{ℕ, zero, suc, _+_, _≤_}
 use native.Mathlib.Nat.{add-zero}
 use native.Mathlib.Omega.{arith}
 use lib.Dec.{eqb}
-use lib.ListN.{length, take, replicate, length-append, length-replicate}
-use lib.Seq.{take-all, take-append-le}
+use lib.ListN.{length}
 use borrow.Author.Tests.{ne-eqb}
-use Rattle.rules.specs.Base.{joined}
 use Rattle.rules.specs.Grammar.{Item, field, cv}
 use Rattle.rules.specs.Halves.{Field as RuleField}
 use Rattle.rules.specs.Asked.{fieldsOf, cvs}
 use Rattle.rules.proofs.AcceptedLaws.{fields-append, cvs-append}
-use Rattle.terms.specs.Meaning.{fieldCards, cvCard}
-
--- ---- an array with room for n
-
-module _ {A : Type 0} (n : ℕ) (d : A) where
-  -- the first n, and d where there are fewer
-  abbrev pub padded : List A → List A
-  padded l = take n l ++ replicate (n - length l) d
-
-  pub padded-full : (l m : List A) → n ≤ length l → padded (l ++ m) ≡ padded l
-  padded-full l m h =
-      let k : n - length (l ++ m) ≡ n - length l = omega (arith, length-append l m) in
-      λ i. take-append-le n l m h i ++ replicate (k i) d
-
-  pub padded-few : (l : List A) → length l ≤ n → padded l ≡ l ++ replicate (n - length l) d
-  padded-few l h = ap (λ (z : List A). z ++ replicate (n - length l) d) (take-all n l h)
-
--- ---- the card of each field
-
-pub cards-last : (i : ℕ) (cs : List (List Item)) (c : List Item)
-    → fieldCards i (cs ++ (c ∷ [])) ≡ fieldCards i cs ++ replicate (length (fieldsOf c)) (i + length cs)
-cards-last i [] c = rw (add-zero i) (append-nil _)
-cards-last i (d ∷ cs) c =
-    let e : suc i + length cs ≡ i + suc (length cs) = omega arith in
-    ap (λ (l : List ℕ). replicate (length (fieldsOf d)) i ++ l) (cards-last (suc i) cs c)
-    ∙ sym (append-assoc (replicate (length (fieldsOf d)) i) (fieldCards (suc i) cs) _)
-    ∙ ap (λ (k : ℕ). (replicate (length (fieldsOf d)) i ++ fieldCards (suc i) cs) ++ replicate (length (fieldsOf c)) k) e
-
--- as many as there are fields
-pub cards-length : (i : ℕ) (cs : List (List Item)) → length (fieldCards i cs) ≡ length (fieldsOf (joined cs))
-cards-length i [] = refl
-cards-length i (c ∷ cs) =
-    omega (
-      arith,
-      cards-length (suc i) cs,
-      length-append (replicate (length (fieldsOf c)) i) (fieldCards (suc i) cs),
-      length-replicate (length (fieldsOf c)) i,
-      ap length (fields-append c (joined cs)),
-      length-append (fieldsOf c) (fieldsOf (joined cs)),
-    )
+use Rattle.terms.specs.Meaning.{cvCard}
 
 -- CV on the last card is no field
 pub no-field : (c : List Item) → fieldsOf (c ++ (cv ∷ [])) ≡ fieldsOf c

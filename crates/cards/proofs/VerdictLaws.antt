@@ -2,19 +2,17 @@
 -- its column, is what was noted. Where nothing is refused, what was noted is what the cards ask for.
 use mathlib.Core.Path.{_≡_, refl, ap, sym, _∙_, subst}
 use mathlib.Core.Bool.{Bool, true, false, cond, true≢false}
-use mathlib.Core.List.{List, [], _∷_, _++_, map}
-use Prim.Native.Nat.{ℕ, zero, suc, _+_, _-_, _≤_}
+use mathlib.Core.List.{List, [], _∷_, map}
+use Prim.Native.Nat.{ℕ, zero, suc, _+_, _≤_}
 use native.Mathlib.Omega.{arith}
 use lib.Dec.{eqb}
-use lib.ListN.{length, take, replicate, length-map}
-use lib.Seq.{take-at}
+use lib.ListN.{length}
 use borrow.Author.Tests.{ne-eqb}
 use Rattle.rules.specs.Base.{every, joined}
-use Rattle.rules.specs.Places.{All, noMore, also, Both}
+use Rattle.rules.specs.Places.{Both}
 use Rattle.rules.specs.Answer.{Answer, fine, refused, refusedAt, located, _>>=_, _>>_, unless, each}
 use Rattle.rules.specs.Order.{Operands}
 use Rattle.rules.specs.Grammar.{Format, ff, fv, fu, Parameter, Item}
-use Rattle.rules.specs.Halves.{Field as RuleField}
 use Rattle.rules.specs.Texts.{ParameterText, UText, FsText}
 use Rattle.rules.specs.Words.{Worded, uWords, fsWords, valuesOf, againColumn, numberColumns, Limit, outsideColumn, firstOf, outsideAmong}
 use Rattle.rules.specs.Asked.{Cards, letter, distinct, sameLetter, cvs, upTo, cvColumn, once, given, Utility, complete, fieldLimits, utilityLimits, parameterNumbers, fieldColumn, limits, Asked as RuleAsked}
@@ -29,23 +27,15 @@ use Rattle.rules.proofs.WordedLaws.{u-worded}
 use Rattle.rules.proofs.NumberColumns.{parameter-count, u-count}
 use Rattle.rules.proofs.NumberLimits.{utility-exactly, numbers-fu}
 use Rattle.rules.proofs.WordColumns.{columns-low, outside-none, outside-parts}
-use Rattle.terms.specs.declared.Field.{Field}
-use Rattle.terms.specs.Meaning.{formatOf, fieldOf, noField, utilityOf, fieldsIn, fieldCards, Means, OneSize as TermSize}
-use Rattle.rows.specs.Kept.{fieldFor, rowFields}
-use Rattle.rows.proofs.KeptLaws.{fields-meant, one-size}
-use Rattle.rows.proofs.RowLaws.{fields-back}
-use Rattle.readers.specs.Meaning.{OneSize}
+use Rattle.terms.specs.Meaning.{formatOf, utilityOf, Means}
 use Rattle.cards.specs.declared.Parameters.{Parameters}
 use Rattle.cards.specs.declared.Outside.{Outside}
 use Rattle.cards.specs.declared.Noted.{Noted}
-use Rattle.cards.specs.declared.Selected.{Selected}
 use Rattle.cards.specs.declared.Verdict.{Verdict}
-use Rattle.cards.specs.Selected.{noSelection, withCards}
+use Rattle.cards.specs.Selected.{Taken, noSelection, withCards}
 use Rattle.cards.specs.Parameters.{hasSeen, givenOf, Notes, NotesOutside}
 use Rattle.cards.specs.Verdict.{isComplete, utilityIn, uOutside, verdict, orNoted, orColumn, limitsOf, verdictOf, askedFor, judgedAs}
-use Rattle.cards.specs.Promise.{Accepts, Said}
-use Rattle.cards.proofs.CopySizes.{sizes-read}
-use Rattle.cards.proofs.ListSteps.{padded-few, cards-length}
+use Rattle.cards.specs.Promise.{Accepts, Reads}
 use Rattle.cards.proofs.NotedLaws.{allFields, manyFields, limited}
 use Rattle.cards.proofs.RowLaws.{Holds}
 use Rattle.cards.proofs.ColumnLaws.{cv-column, number-column}
@@ -116,7 +106,7 @@ outside-same f g h c (w ∷ ws) =
     λ i. firstOf (outsideColumn (numberColumns false c (w .text)) (h (w .value) i)) (outside-same f g h (c + suc (length (w .text))) ws i)
 
 module _ (os : Operands) (p : Parameters) (o : Outside) (ws : List (Worded Parameter)) (t : UText (os .u) (valuesOf ws)) (same : uWords (os .u) ≡ ws)
-    (n : Notes (suc (os .before)) p ws) (nums : NotesOutside (suc (os .before)) o ws) (s : Selected) (is : s ≡ withCards 2 (map fsWords (os .fs)) noSelection)
+    (n : Notes (suc (os .before)) p ws) (nums : NotesOutside (suc (os .before)) o ws) (s : Taken) (is : s ≡ withCards 2 (map fsWords (os .fs)) noSelection)
     (cs : List (List Item)) (b : Both FsText (os .fs) cs) (h : Holds s cs) where
   abbrev ps : List Parameter
   ps = valuesOf ws
@@ -128,7 +118,7 @@ module _ (os : Operands) (p : Parameters) (o : Outside) (ws : List (Worded Param
   theAsked = record { utility = utilityIn p; cards = cs }
 
   abbrev k : Noted
-  k = s .noted
+  k = s .0
 
   abbrev first : ℕ
   first = suc (os .before)
@@ -144,16 +134,16 @@ module _ (os : Operands) (p : Parameters) (o : Outside) (ws : List (Worded Param
 
   second-is : located (cvColumn [] 2 (os .fs)) (upTo 4 1 cvs 0 2 cs) ≡ cardNoted 4 (k .«second_cv») (k .«second_column»)
   second-is =
-      ap (located (cvColumn [] 2 (os .fs))) (sym (h .rowed .tells .twice))
+      ap (located (cvColumn [] 2 (os .fs))) (sym (h .tells .twice))
       ∙ card-noted (cvColumn [] 2 (os .fs)) 4 (k .«second_cv») (k .«second_column»)
-      (subst (λ (x : Selected). (x .noted .«second_cv» ≡ 0 → ⊥) → x .noted .«second_column» ≡ cvColumn [] 2 (os .fs) (x .noted .«second_cv»)) (sym is) (cv-column (os .fs)))
+      (subst (λ (x : Taken). (x .0 .«second_cv» ≡ 0 → ⊥) → x .0 .«second_column» ≡ cvColumn [] 2 (os .fs) (x .0 .«second_cv»)) (sym is) (cv-column (os .fs)))
 
   -- refusal 7
   beyond-is : located (fieldColumn 2 (os .fs) cs) (each 7 limited 2 cs) ≡ cardNoted 7 (k .beyond) (k .«beyond_column»)
   beyond-is =
-      ap (located (fieldColumn 2 (os .fs) cs)) (sym (h .rowed .tells .beyond))
+      ap (located (fieldColumn 2 (os .fs) cs)) (sym (h .tells .beyond))
       ∙ card-noted (fieldColumn 2 (os .fs) cs) 7 (k .beyond) (k .«beyond_column»)
-      (subst (λ (x : Selected). (x .noted .beyond ≡ 0 → ⊥) → x .noted .«beyond_column» ≡ fieldColumn 2 (os .fs) cs (x .noted .beyond)) (sym is) (number-column (os .fs) cs b))
+      (subst (λ (x : Taken). (x .0 .beyond ≡ 0 → ⊥) → x .0 .«beyond_column» ≡ fieldColumn 2 (os .fs) cs (x .0 .beyond)) (sym is) (number-column (os .fs) cs b))
 
   parts : UParts (os .u) ws
   parts = subst (UParts (os .u)) same (u-worded (os .u) ps t .0)
@@ -195,57 +185,21 @@ module _ (os : Operands) (p : Parameters) (o : Outside) (ws : List (Worded Param
       go z true e =
           let c : complete (given ps) ≡ fine (utilityIn p) = complete-is ∙ ap (λ (x : Bool). cond x (fine (utilityIn p)) (refused 5 1)) e in
           rw (c, e)
-          ((λ i. (sym (h .rowed .tells .over) i >> (numbers-is z (utilityIn p) c i >> beyond-is i)) >> fine theAsked)
+          ((λ i. (sym (h .tells .over) i >> (numbers-is z (utilityIn p) c i >> beyond-is i)) >> fine theAsked)
           ∙ limits-order (k .«sixty_fifth») (uOutside (formatOf (p .format)) o) (k .beyond) (k .«beyond_column») theAsked)
 
   -- ---- what is asked for, where nothing is refused
 
   module _ (fs : ℕ) (many : fs ≡ length cs) (few : length (allFields cs) ≤ 64) (right : every fieldLimits (allFields cs) ≡ true) where
     count-is : k .count ≡ length (allFields cs)
-    count-is = omega (arith, h .rowed .tells .count)
+    count-is = omega (arith, h .tells .count)
 
-    kept : rowFields (s .row) (k .count) ≡ map fieldFor (allFields cs) ++ replicate (64 - k .count) noField
-    kept = fields-back (allFields cs) (s .row) (k .count) (h .rowed .row right few) count-is few
+    means-asked : Means (askedFor p k fs) theAsked
+    unfolding askedFor utilityOf utilityIn
+    means-asked = record { utility = refl; count = count-is; few = omega (arith, count-is); fs = many; cv = h .tells .cv }
 
-    first-fields : take (k .count) (rowFields (s .row) (k .count)) ≡ map fieldFor (allFields cs)
-    first-fields = ap (take (k .count)) kept ∙ take-at (map fieldFor (allFields cs)) (replicate (64 - k .count) noField) (k .count) (length-map (allFields cs) fieldFor ∙ sym count-is)
-
-    cards-are : s .cards ≡ fieldCards 2 cs ++ replicate (64 - k .count) 0
-    cards-are =
-        let l : length (fieldCards 2 cs) ≡ k .count = cards-length 2 cs ∙ sym count-is in
-        h .cards ∙ padded-few 64 0 (fieldCards 2 cs) (omega (arith, count-is)) ∙ ap (λ (j : ℕ). fieldCards 2 cs ++ replicate (64 - j) 0) l
-
-    means-asked : Means (askedFor p s fs) theAsked
-    unfolding askedFor utilityOf fieldsIn utilityIn
-    means-asked =
-        record {
-          utility = refl;
-          fields = ap (map fieldOf) first-fields ∙ fields-meant (allFields cs);
-          few = omega (arith, count-is);
-          many = kept ∙ sym (ap (λ (l : List Field). l ++ replicate (64 - k .count) noField) first-fields);
-          cards = cards-are;
-          fs = many;
-          cv = h .rowed .tells .cv;
-        }
-
-    one-sizes : (l : List RuleField) → All (λ f. OneSize (f .kind) (f .input) (f .output)) (map fieldFor l)
-    one-sizes l = sizes-read (all-sizes l)
-      where
-        all-sizes : (l : List RuleField) → All TermSize (map fieldFor l)
-        all-sizes [] = noMore
-        all-sizes (f ∷ l) = also (one-size f) (all-sizes l)
-
-    accepts : Accepts (record { refusal = 0; place = 0; column = 0; asked = askedFor p s fs }) theAsked
-    unfolding askedFor
-    accepts =
-        record {
-          refusal = refl;
-          place = refl;
-          column = refl;
-          means = means-asked;
-          count = count-is;
-          sizes = subst (All (λ f. OneSize (f .kind) (f .input) (f .output))) (sym first-fields) (one-sizes (allFields cs));
-        }
+    accepts : Accepts (record { refusal = 0; place = 0; column = 0; asked = askedFor p k fs }) (s .1) theAsked
+    accepts = record { refusal = refl; place = refl; column = refl; means = means-asked; fields = h .row right few }
 
   -- where nothing is refused there are at most 64 fields, with all numbers within their limits
   fair-fields : judging os theCards ≡ fine theAsked → (length (allFields cs) ≤ 64) × (every fieldLimits (allFields cs) ≡ true)
@@ -258,16 +212,16 @@ module _ (os : Operands) (p : Parameters) (o : Outside) (ws : List (Worded Param
       let s5 = then-fine _ _ tt (s4 .1) in
       (omega (arith, upTo-fine 6 64 manyFields 0 2 cs (omega arith) (s4 .0), total-fields cs), all-every fieldLimits (all-fields fieldLimits cs (each-fine 7 _ 2 cs (located-fine _ _ tt (s5 .1)))))
 
-  pub judged-said : (fs : ℕ) → fs ≡ length cs → Said (judging os theCards) (judgedAs p o s fs)
+  pub judged-said : (fs : ℕ) → fs ≡ length cs → Reads (judging os theCards) (judgedAs p o k fs) (s .1)
   unfolding judgedAs
   judged-said fs m = go (eqb (verdictOf p o k .number) 0) refl
     where
-      go : (t : Bool) → eqb (verdictOf p o k .number) 0 ≡ t → Said (judging os theCards) (judgedAs p o s fs)
+      go : (t : Bool) → eqb (verdictOf p o k .number) 0 ≡ t → Reads (judging os theCards) (judgedAs p o k fs) (s .1)
       go true e =
           let j : judging os theCards ≡ fine theAsked = judging-is ∙ ap (λ (t : Bool). cond t (fine theAsked) (refusedAt (verdictOf p o k .number) (verdictOf p o k .place) (verdictOf p o k .column))) e in
           let g = fair-fields j in
-          subst (λ (x : Answer RuleAsked). Said x (judgedAs p o s fs)) (sym j) (rw e (accepts fs m (g .0) (g .1)))
+          subst (λ (x : Answer RuleAsked). Reads x (judgedAs p o k fs) (s .1)) (sym j) (rw e (accepts fs m (g .0) (g .1)))
       go false e =
           let j : judging os theCards ≡ refusedAt (verdictOf p o k .number) (verdictOf p o k .place) (verdictOf p o k .column)
           = judging-is ∙ ap (λ (t : Bool). cond t (fine theAsked) (refusedAt (verdictOf p o k .number) (verdictOf p o k .place) (verdictOf p o k .column))) e in
-          subst (λ (x : Answer RuleAsked). Said x (judgedAs p o s fs)) (sym j) (rw e)
+          subst (λ (x : Answer RuleAsked). Reads x (judgedAs p o k fs) (s .1)) (sym j) (rw e)

@@ -5,16 +5,16 @@ use mathlib.Core.Option.{Option, none, some}
 use Prim.Native.Nat.{ℕ, _-_, _≤_, _<_}
 use lib.ListN.{length, drop}
 use lib.Seq.{slice}
+use Rattle.rules.specs.Base.{joined}
 use Rattle.rules.specs.Answer.{Answer, fine, refuse}
 use Rattle.rules.specs.Deck.{lines, Card, uCard, fsCard, endCard, cardOf}
 use Rattle.rules.specs.Grammar.{Item}
 use Rattle.rules.specs.Words.{fsWords}
-use Rattle.rules.specs.Asked.{itemsFrom}
+use Rattle.rules.specs.Asked.{fieldsOf, itemsFrom}
 use Rattle.cards.specs.declared.CardAt.{CardAt}
 use Rattle.cards.specs.declared.CardAt.the-variants.{UAt, FsAt, NoOperand}
-use Rattle.cards.specs.declared.Selected.{Selected}
 use Rattle.cards.specs.declared.FsCards.{FsCards}
-use Rattle.cards.specs.Selected.{withCards}
+use Rattle.cards.specs.Selected.{Taken, withCards}
 
 -- what card each line is
 abbrev pub cardsIn : List ℕ → List (Option Card)
@@ -52,9 +52,15 @@ CardAtSays deck at NoOperand = Operandless (cardsIn (drop at deck))
 -- ---- FS cards
 
 -- what was read of the FS cards with these operands, from a card on: the items of all of them, or the first card that could not be read, and where it stopped
-abbrev pub FsRead : ℕ → Selected → List (List ℕ) → Answer (List (List Item)) → FsCards → Type 0
-FsRead card st os (fine cs) r = (r .unread ≡ 0) × (r .state ≡ withCards card (map fsWords os) st)
-FsRead card st os (refuse x) r = (r .unread ≡ x .place) × (r .column ≡ x .column)
+abbrev pub FsRead : ℕ → Taken → List (List ℕ) → Answer (List (List Item)) → FsCards → List ℕ → Type 0
+FsRead card t os (fine cs) r row = (r .unread ≡ 0) × ((r .noted, row) ≡ withCards card (map fsWords os) t)
+FsRead card t os (refuse x) r row = (r .unread ≡ x .place) × (r .column ≡ x .column)
 
-abbrev pub FsSaid : ℕ → Selected → List (List ℕ) → FsCards → Type 0
-FsSaid card st os r = FsRead card st os (itemsFrom card os) r
+abbrev pub FsSaid : ℕ → Taken → List (List ℕ) → FsCards → List ℕ → Type 0
+FsSaid card t os r row = FsRead card t os (itemsFrom card os) r row
+
+-- all FS cards with these operands can be read, and have at most 64 fields
+pub record FsFine (os : List (List ℕ)) : Type 0 where
+  pub cards : List (List Item)
+  pub items : itemsFrom 2 os ≡ fine cards
+  pub few : length (fieldsOf (joined cards)) ≤ 64

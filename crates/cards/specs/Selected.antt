@@ -1,10 +1,10 @@
 -- What the FS cards have said so far, and what an item more makes of it: what is noted, with columns, and the row that the fields go into.
 use mathlib.Core.Path.{_≡_}
 use mathlib.Core.Bool.{cond}
-use mathlib.Core.List.{List, [], _∷_, _++_}
-use Prim.Native.Nat.{ℕ, suc, _+_, _-_, _*_}
+use mathlib.Core.List.{List, [], _∷_}
+use Prim.Native.Nat.{ℕ, suc, _+_, _*_}
 use lib.Dec.{ltb, eqb}
-use lib.ListN.{length, take, drop, replicate}
+use lib.ListN.{length}
 use Rattle.rules.specs.Halves.{Field as RuleField, over}
 use Rattle.rules.specs.Reader.{Read, read, stopped}
 use Rattle.rules.specs.Deck.{beforeFS}
@@ -14,9 +14,9 @@ use Rattle.rules.specs.Asked.{itemNumbers}
 use Rattle.terms.specs.declared.Field.{Field}
 use Rattle.terms.specs.Meaning.{fieldOf}
 use Rattle.rows.specs.Flat.{flatOf, Short}
+use Rattle.rows.specs.Kept.{rowOf}
 use Rattle.cards.specs.declared.Noted.{Noted}
 use Rattle.cards.specs.declared.ListRead.{ListRead}
-use Rattle.cards.specs.declared.Selected.{Selected}
 use Rattle.cards.specs.Limits.{StopsAt}
 
 -- ---- what is noted
@@ -86,19 +86,14 @@ ListSays card b column t s (stopped left) r row = StopsAt column s left (r .unre
 
 -- ---- the cards
 
--- the fields from one on to before another stand on this card
-unfoldable pub onCard : List ℕ → ℕ → ℕ → ℕ → List ℕ
-onCard cards from to card = take from cards ++ (replicate (to - from) card ++ drop to cards)
+-- no card yet
+unfoldable pub noSelection : Taken
+noSelection = (nothingNoted, rowOf [])
 
-unfoldable pub noSelection : Selected
-noSelection = record { row = replicate 320 0; cards = replicate 64 0; noted = nothingNoted }
-
-unfoldable pub withCard : ℕ → List (Worded Item) → Selected → Selected
-withCard card ws st =
-    let t = withWords card (suc beforeFS) ws (st .noted, st .row) in
-    record { row = t .1; cards = onCard (st .cards) (st .noted .count) (t .0 .count) card; noted = t .0 }
+unfoldable pub withCard : ℕ → List (Worded Item) → Taken → Taken
+withCard card ws t = withWords card (suc beforeFS) ws t
 
 -- the cards from a card on, one after another
-abbrev pub withCards : ℕ → List (List (Worded Item)) → Selected → Selected
-withCards card [] st = st
-withCards card (ws ∷ cs) st = withCards (suc card) cs (withCard card ws st)
+abbrev pub withCards : ℕ → List (List (Worded Item)) → Taken → Taken
+withCards card [] t = t
+withCards card (ws ∷ cs) t = withCards (suc card) cs (withCard card ws t)

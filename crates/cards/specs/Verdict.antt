@@ -6,11 +6,9 @@ use Rattle.rules.specs.Grammar.{Format, ff, fv, fu}
 use Rattle.rules.specs.Asked.{Utility}
 use Rattle.terms.specs.declared.Asked.{Asked}
 use Rattle.terms.specs.Meaning.{modeOf, formatOf, sizeOf}
-use Rattle.rows.specs.Kept.{rowFields}
 use Rattle.cards.specs.declared.Parameters.{Parameters}
 use Rattle.cards.specs.declared.Outside.{Outside}
 use Rattle.cards.specs.declared.Noted.{Noted}
-use Rattle.cards.specs.declared.Selected.{Selected}
 use Rattle.cards.specs.declared.Verdict.{Verdict}
 use Rattle.cards.specs.declared.DeckRead.{DeckRead}
 use Rattle.cards.specs.Parameters.{hasSeen}
@@ -53,23 +51,12 @@ verdictOf p o n =
     (cond (isComplete p) (limitsOf (formatOf (p .format)) o n) (verdict 5 1 0)))
 
 -- what the cards ask for, where they are not refused
-unfoldable pub askedFor : Parameters → Selected → ℕ → Asked
-askedFor p s fs =
-    record {
-      mode = p .mode;
-      format = p .format;
-      input = p .input;
-      output = p .output;
-      first = p .first;
-      fields = rowFields (s .row) (s .noted .count);
-      cards = s .cards;
-      count = s .noted .count;
-      fs = fs;
-      cv = s .noted .cv;
-    }
+unfoldable pub askedFor : Parameters → Noted → ℕ → Asked
+askedFor p n fs =
+    record { mode = p .mode; format = p .format; input = p .input; output = p .output; first = p .first; count = n .count; fs = fs; cv = n .cv }
 
 -- the deck whose cards all could be read
-unfoldable pub judgedAs : Parameters → Outside → Selected → ℕ → DeckRead
-judgedAs p o s fs =
-    let v = verdictOf p o (s .noted) in
-    cond (eqb (v .number) 0) (record { refusal = 0; place = 0; column = 0; asked = askedFor p s fs }) (refusedDeck (v .number) (v .place) (v .column))
+unfoldable pub judgedAs : Parameters → Outside → Noted → ℕ → DeckRead
+judgedAs p o n fs =
+    let v = verdictOf p o n in
+    cond (eqb (v .number) 0) (record { refusal = 0; place = 0; column = 0; asked = askedFor p n fs }) (refusedDeck (v .number) (v .place) (v .column))

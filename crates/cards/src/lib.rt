@@ -14,25 +14,28 @@ use terms::Mode;
 use terms::Size;
 ghost use mathlib.Core.Path.{_≡_};
 ghost use mathlib.Core.Bool.{cond};
-ghost use mathlib.Core.List.{map};
+ghost use mathlib.Core.List.{List, []};
 ghost use Prim.Native.Nat.{_+_, _*_, _≤_};
-ghost use lib.ListN.{length, drop};
+ghost use lib.ListN.{length, drop, getD};
 ghost use Rattle.rules.specs.Base.{within};
+ghost use Rattle.rules.specs.Places.{All};
+ghost use Rattle.rules.specs.Answer.{fine};
 ghost use Rattle.rules.specs.Reader.{listOf, restOf};
-ghost use Rattle.rules.specs.Grammar.{parameter as ruleParameter, item, field as fieldItem};
+ghost use Rattle.rules.specs.Grammar.{Item, parameter as ruleParameter, item, field as fieldItem};
 ghost use Rattle.rules.specs.Words.{worded, outsideColumn, firstOf};
-ghost use Rattle.rules.specs.Asked.{letter, least, sizeNumbers, parameterNumbers, itemNumbers};
-ghost use Rattle.terms.specs.Meaning.{formatOf, sizeOf, fieldOf};
+ghost use Rattle.rules.specs.Asked.{letter, least, sizeNumbers, parameterNumbers, itemNumbers, itemsFrom, askedOf};
+ghost use Rattle.terms.specs.Meaning.{formatOf, sizeOf, fieldOf, fieldCards};
+ghost use Rattle.rows.specs.Kept.{rowOf};
 ghost use Rattle.readers.specs.declared.UParameter.the-variants.{ModeIs, FormatIs, InputIs, OutputIs};
 ghost use Rattle.readers.specs.Meaning.{OneSize, parameterOf, parameterPlaces, fieldPlaces};
 ghost use Rattle.lines.specs.declared.LineRead.the-variants.{Line};
-ghost use Rattle.lines.specs.Meaning.{LineSays};
+ghost use Rattle.lines.specs.Meaning.{IsCard, LineSays};
 ghost use Rattle.cards.specs.Limits.{Reaches, sizePlaces, mostOf, shifted};
-ghost use Rattle.cards.specs.Selected.{nothingNoted, counted, fieldNoted, cvNoted, Keepable, keptRow, ListSays, onCard, noSelection};
+ghost use Rattle.cards.specs.Selected.{nothingNoted, counted, fieldNoted, cvNoted, Keepable, keptRow, ListSays, noSelection};
 ghost use Rattle.cards.specs.Parameters.{noParameter, withPart, withParameter, noneOutside, withNumbers, uRead, UListed};
-ghost use Rattle.cards.specs.Deck.{cardsIn, fsFirst, CardAtSays, FsSaid};
+ghost use Rattle.cards.specs.Deck.{cardsIn, fsFirst, CardAtSays, FsSaid, FsFine};
 ghost use Rattle.cards.specs.Verdict.{isComplete, uOutside, limitsOf, verdictOf, askedFor, judgedAs};
-ghost use Rattle.cards.specs.Promise.{refusedDeck, nothingAsked, InOrder, DeckSays};
+ghost use Rattle.cards.specs.Promise.{refusedDeck, nothingAsked, InOrder, DeckReads, DeckSays, cardOfField};
 
 const COMMA: u8 = b',';
 
@@ -529,9 +532,10 @@ enum CardAt {
 // The card on a line that begins at `at` and ends at `end`.
 fn card_on(deck: &[u8], at: usize, end: usize, next: usize) -> CardAt
     requires { ⌜ LineSays (now deck) at (Line end next) ⌝ }
+    requires { ⌜ All IsCard (cardsIn (drop at (now deck))) ⌝ }
     ensures { λ r. ⌜ CardAtSays (now (deck .entry)) at r ⌝ }
 {
-    let read = lines::card(&deck[at..end]);
+    let read = lines::operand(&deck[at..end]);
     match read {
         CardRead::UCard { start, end: stop } => CardAt::UAt {
             start: at + start,
@@ -548,8 +552,9 @@ fn card_on(deck: &[u8], at: usize, end: usize, next: usize) -> CardAt
     }
 }
 
-// The card on the line that begins at `at`.
+// The card on the line that begins at `at`. Each line from there on is a card, as the order has told.
 fn card_at(deck: &[u8], at: usize) -> CardAt
+    requires { ⌜ All IsCard (cardsIn (drop at (now deck))) ⌝ }
     ensures { λ r. ⌜ CardAtSays (now (deck .entry)) at r ⌝ }
 {
     let found = lines::line(deck, at);
@@ -559,67 +564,41 @@ fn card_at(deck: &[u8], at: usize) -> CardAt
     }
 }
 
-// The card of each field from one on to before another.
-fn on_card(cards: [usize; 64], from: usize, to: usize, card: usize) -> [usize; 64]
-    requires { ⌜ (from ≤ to) × (to ≤ 64) ⌝ }
-    ensures { λ r. ⌜ r ≡ onCard cards from to card ⌝ }
-{
-    let mut out = cards;
-    let mut i = from;
-    while i < to {
-        out[i] = card;
-        i += 1;
-    }
-    out
-}
-
-// What the FS cards have said: the row of the fields, the card of each, and what is noted.
-struct Selected {
-    row: [u16; 320],
-    cards: [usize; 64],
-    noted: Noted,
-}
-
-// What the FS cards say, and the first card that could not be read with the column at which it stopped, or 0 and 0.
+// What the FS cards say beside the row, and the first card that could not be read with the column at which it stopped, or 0 and 0.
 struct FsCards {
-    state: Selected,
+    noted: Noted,
     unread: usize,
     column: usize,
 }
 
-// The FS cards from the line that begins at `from` on. The first of them is card 2, and an operand begins at column 7.
-fn fs_cards(deck: &[u8], from: usize) -> FsCards
-    ensures { λ r. ⌜ FsSaid 2 noSelection (fsFirst (cardsIn (drop from (now (deck .entry))))) r ⌝ }
+// The FS cards from the line that begins at `from` on. The first of them is card 2, and an operand begins at column 7. Their fields go into the row.
+fn fs_cards(deck: &[u8], from: usize, row: &mut [u16; 320]) -> FsCards
+    requires { ⌜ All IsCard (cardsIn (drop from (now deck))) ⌝ }
+    requires { ⌜ now row ≡ rowOf [] ⌝ }
+    ensures { λ r. ⌜ (length (now (row .exit)) ≡ 320) × FsSaid 2 noSelection (fsFirst (cardsIn (drop from (now (deck .entry))))) r (now (row .exit)) ⌝ }
 {
-    let mut row = [0u16; 320];
-    let mut cards = [0usize; 64];
     let mut noted = nothing_noted();
     let mut card: usize = 2;
     let mut at = from;
     loop {
         let found = card_at(deck, at);
         let CardAt::FsAt { start, end, next } = found else {
-            let state = Selected { row, cards, noted };
             return FsCards {
-                state,
+                noted,
                 unread: 0,
                 column: 0,
             };
         };
-        let before = noted.count;
-        let read = list(&deck[start..end], card, 7, noted, &mut row);
+        let read = list(&deck[start..end], card, 7, noted, row);
         let unread = read.unread;
+        noted = read.noted;
         if unread != 0 {
-            let state = Selected { row, cards, noted };
             return FsCards {
-                state,
+                noted,
                 unread: card,
                 column: unread,
             };
         }
-        noted = read.noted;
-        let filled = on_card(cards, before, noted.count, card);
-        cards = filled;
         card += 1;
         at = next;
     }
@@ -730,7 +709,7 @@ fn verdict_on(parameters: Parameters, outside: Outside, noted: Noted) -> Verdict
 
 // ---- decks
 
-// What a deck says: a refusal of 1 to 7 with its place and column, or 0 and what the cards ask for.
+// What a deck says beside its fields: a refusal of 1 to 7 with its place and column, or 0 and what the cards ask for.
 pub struct DeckRead {
     pub refusal: usize,
     pub place: usize,
@@ -739,28 +718,20 @@ pub struct DeckRead {
 }
 
 // What the cards ask for, where they are not refused.
-fn asked_for(parameters: Parameters, selected: Selected, fs: usize) -> Asked
-    requires { ⌜ selected .noted .count ≤ 64 ⌝ }
-    ensures { λ r. ⌜ r ≡ askedFor parameters selected fs ⌝ }
+fn asked_for(parameters: Parameters, noted: Noted, fs: usize) -> Asked
+    ensures { λ r. ⌜ r ≡ askedFor parameters noted fs ⌝ }
 {
     let mode = parameters.mode;
     let format = parameters.format;
     let input = parameters.input;
     let output = parameters.output;
-    let row = selected.row;
-    let cards = selected.cards;
-    let noted = selected.noted;
-    let count = noted.count;
-    let fields = rows::fields(row, count);
     Asked {
         mode,
         format,
         input,
         output,
         first: parameters.first,
-        fields,
-        cards,
-        count,
+        count: noted.count,
         fs,
         cv: noted.cv,
     }
@@ -770,21 +741,12 @@ fn asked_for(parameters: Parameters, selected: Selected, fs: usize) -> Asked
 pub fn nothing_asked() -> Asked
     ensures { λ r. ⌜ r ≡ nothingAsked ⌝ }
 {
-    let none = Field {
-        kind: Kind::Copy,
-        r: 0,
-        input: 0,
-        output: 0,
-        t: 0,
-    };
     Asked {
         mode: Mode::TC,
         format: Format::FF,
         input: Size::One { g: 0 },
         output: Size::One { g: 0 },
         first: 0,
-        fields: [none; 64],
-        cards: [0; 64],
         count: 0,
         fs: 0,
         cv: 0,
@@ -805,17 +767,15 @@ fn refused(number: usize, place: usize, column: usize) -> DeckRead
 }
 
 // The deck whose cards all could be read.
-fn judged(parameters: Parameters, outside: Outside, selected: Selected, fs: usize) -> DeckRead
-    requires { ⌜ selected .noted .count ≤ 64 ⌝ }
-    ensures { λ r. ⌜ r ≡ judgedAs parameters outside selected fs ⌝ }
+fn judged(parameters: Parameters, outside: Outside, noted: Noted, fs: usize) -> DeckRead
+    ensures { λ r. ⌜ r ≡ judgedAs parameters outside noted fs ⌝ }
 {
-    let noted = selected.noted;
     let verdict = verdict_on(parameters, outside, noted);
     let number = verdict.number;
     if number != 0 {
         return refused(number, verdict.place, verdict.column);
     }
-    let asked = asked_for(parameters, selected, fs);
+    let asked = asked_for(parameters, noted, fs);
     DeckRead {
         refusal: 0,
         place: 0,
@@ -825,9 +785,10 @@ fn judged(parameters: Parameters, outside: Outside, selected: Selected, fs: usiz
 }
 
 // The deck whose cards are in order, with so many FS cards.
-fn read_ordered(deck: &[u8], fs: usize) -> DeckRead
+fn read_ordered(deck: &[u8], fs: usize, row: &mut [u16; 320]) -> DeckRead
     requires { ⌜ InOrder (now deck) fs ⌝ }
-    ensures { λ r. ⌜ DeckSays (now (deck .entry)) r ⌝ }
+    requires { ⌜ now row ≡ rowOf [] ⌝ }
+    ensures { λ r. ⌜ (length (now (row .exit)) ≡ 320) × DeckReads (now (deck .entry)) r (now (row .exit)) ⌝ }
 {
     let first = card_at(deck, 0);
     let CardAt::UAt { start, end, next } = first else {
@@ -838,24 +799,87 @@ fn read_ordered(deck: &[u8], fs: usize) -> DeckRead
     if u.unread != 0 {
         return refused(3, 1, u.unread);
     }
-    let selected = fs_cards(deck, next);
+    let selected = fs_cards(deck, next, row);
     let unread = selected.unread;
     if unread != 0 {
         return refused(3, unread, selected.column);
     }
     let parameters = u.state;
     let outside = u.outside;
-    let selection = selected.state;
-    judged(parameters, outside, selection, fs)
+    let noted = selected.noted;
+    judged(parameters, outside, noted, fs)
 }
 
-// Reads a deck. Its refusal is the lowest number that applies, at its first place, and there at its lowest column.
-pub fn read_deck(deck: &[u8]) -> DeckRead
-    ensures { λ r. ⌜ DeckSays (now (deck .entry)) r ⌝ }
+// Reads a deck into a row that holds no fields yet; of a refused deck it may hold some.
+fn read_cards(deck: &[u8], row: &mut [u16; 320]) -> DeckRead
+    requires { ⌜ now row ≡ rowOf [] ⌝ }
+    ensures { λ r. ⌜ (length (now (row .exit)) ≡ 320) × DeckReads (now (deck .entry)) r (now (row .exit)) ⌝ }
 {
     let order = lines::order(deck);
     match order {
         OrderRead::Refused { number, place } => refused(number, place, 0),
-        OrderRead::Ordered { cards } => read_ordered(deck, cards - 2),
+        OrderRead::Ordered { cards } => read_ordered(deck, cards - 2, row),
     }
+}
+
+// Reads a deck. Its refusal is the lowest number that applies, at its first place, and there at its lowest column. The fields go into the lent row, which
+// holds none before; a refused deck leaves none in it.
+pub fn read_deck(deck: &[u8], row: &mut [u16; 320]) -> DeckRead
+    requires { ⌜ now row ≡ rowOf [] ⌝ }
+    ensures { λ r. ⌜ DeckSays (now (deck .entry)) r (now (row .exit)) ⌝ }
+{
+    let read = read_cards(deck, row);
+    if read.refusal != 0 {
+        rows::clear(row);
+    }
+    read
+}
+
+// ---- the card of a field
+
+// The first of the FS cards from the line that begins at `from` on with which there are more than so many fields, or 0. All of them can be read.
+fn card_over(deck: &[u8], from: usize, field: usize) -> usize
+    requires { ⌜ All IsCard (cardsIn (drop from (now deck))) ⌝ }
+    requires { ⌜ FsFine (fsFirst (cardsIn (drop from (now deck)))) ⌝ }
+    ensures { λ r. ⌜ ((cs : List (List Item)) → itemsFrom 2 (fsFirst (cardsIn (drop from (now (deck .entry))))) ≡ fine cs → r ≡ getD (fieldCards 2 cs) field 0) ⌝ }
+{
+    let mut row = [0u16; 320];
+    let mut noted = nothing_noted();
+    let mut card = 2;
+    let mut at = from;
+    loop {
+        let found = card_at(deck, at);
+        let CardAt::FsAt { start, end, next } = found else {
+            return 0;
+        };
+        let read = list(&deck[start..end], card, 7, noted, &mut row);
+        noted = read.noted;
+        if field < noted.count {
+            return card;
+        }
+        card += 1;
+        at = next;
+    }
+}
+
+// The card on which a field of a deck stands, the first being field 0; 0 where the deck is refused, or has no such field.
+pub fn field_card(deck: &[u8], field: usize) -> usize
+    ensures { λ r. ⌜ r ≡ cardOfField (askedOf (now (deck .entry))) field ⌝ }
+{
+    let mut row = [0u16; 320];
+    let answer = read_deck(deck, &mut row);
+    if answer.refusal != 0 {
+        return 0;
+    }
+    let first = card_at(deck, 0);
+    let CardAt::UAt {
+        start: _,
+        end: _,
+        next,
+    } = first
+    else {
+        // The first card of an accepted deck is a U card.
+        return 0;
+    };
+    card_over(deck, next, field)
 }

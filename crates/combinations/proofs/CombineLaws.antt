@@ -2,32 +2,34 @@
 -- in both where not; CV and the fields are sought in the same order.
 use mathlib.Core.Path.{_≡_, refl, ap, sym, _∙_, subst}
 use mathlib.Core.Bool.{Bool, true, false, cond, not, _&&_, _||_, and-true, and-false, and-assoc}
-use mathlib.Core.List.{List, [], _∷_, map}
-use Prim.Native.Nat.{ℕ, suc, _/_, _≤_}
+use mathlib.Core.List.{List, [], _∷_, append-nil}
+use Prim.Native.Nat.{ℕ, suc, _/_, _≤_, _<_}
 use native.Mathlib.Omega.{arith}
 use lib.Dec.{eqb}
-use lib.ListN.{length, take}
+use lib.ListN.{length, getD}
 use borrow.Author.Tests.{eq-eqb, ne-eqb}
 use Rattle.rules.specs.Base.{_⇒_, every, isEmpty, joined}
-use Rattle.rules.specs.Places.{All, noMore, also}
-use Rattle.rules.specs.Answer.{Answer, fine, refuse, refused, refusalOf, placeOf, _>>_, unless, each}
+use Rattle.rules.specs.Places.{All}
+use Rattle.rules.specs.Answer.{Answer, fine, refused, refusalOf, placeOf, _>>_, unless, each}
 use Rattle.rules.specs.Grammar.{Mode, tc, tf, tr, trf, Format, ff, fv, fu, Size, two, one, Item}
-use Rattle.rules.specs.Halves.{Field as RuleField}
+use Rattle.rules.specs.Halves.{Kind as RuleKind, copy, pack, unpack, inputSize, outputSize, Field as RuleField}
 use Rattle.rules.specs.Asked.{Asked as RuleAsked, fieldsOf, cvs}
 use Rattle.rules.specs.Plan.{isTC, isTF, isTR, isFF, isFV, isFU, selects, numbers, wanted, recordLength, blockLength, whole, equal, roomy, combinations, sound, inside, inputHalves, barrenHalf, combined, assembled, Plan}
+use Rattle.rules.proofs.AllLaws.{all-at}
 use Rattle.rules.proofs.AnswerLaws.{fine-then, fine-unless, then-assoc}
 use Rattle.rules.specs.Rows.{Within, SizeWithin, UtilityWithin, KindWithin, FieldWithin}
-use Rattle.terms.specs.Meaning.{modeOf, formatOf, sizeOf, kindOf, fieldOf, OneSize, utilityOf, fieldsIn, cvCard, Means, planIn}
+use Rattle.terms.specs.Meaning.{modeOf, formatOf, sizeOf, fieldOf, noField, utilityOf, cvCard, Means, planIn}
 use Rattle.terms.proofs.PlanOf.{plan-means}
 use Rattle.terms.specs.declared.Mode.{Mode as DeclaredMode}
 use Rattle.terms.specs.declared.Format.{Format as DeclaredFormat}
 use Rattle.terms.specs.declared.Size.{Size as DeclaredSize}
-use Rattle.terms.specs.declared.Kind.{Kind}
-use Rattle.terms.specs.declared.Kind.the-variants.{Copy, Pack, Unpack}
-use Rattle.terms.specs.declared.Field.{Field}
 use Rattle.terms.specs.declared.Asked.{Asked}
+use Rattle.rows.specs.Flat.{flatOf, fieldAt}
+use Rattle.rows.specs.Kept.{fieldFor}
+use Rattle.rows.proofs.KeptLaws.{one-size}
+use Rattle.rows.proofs.FlatLaws.{length-flat, field-kept}
 use Rattle.combinations.specs.Lines.{countLine, lengthsEqual, formatLines, allLines}
-use Rattle.combinations.specs.Promise.{firstOutside, combinedOf, answerOf, FieldFair, AskedFair}
+use Rattle.combinations.specs.Promise.{firstOutside, combinedOf, answerOf, FieldFair, FieldsFair, AskedFair}
 use Rattle.combinations.specs.declared.Combined.{Combined}
 use Rattle.combinations.specs.declared.Combined.the-variants.{Sound, Broken, Outside}
 use Rattle.combinations.proofs.LineLaws.{counted}
@@ -159,36 +161,38 @@ module _ (x : Asked) where
   abbrev pub rightCV : Bool
   rightCV = isFV (formatOf (x .format)) || eqb (x .cv) 0
 
-  pub broken-lines : rightLines ≡ false → refused 8 1 ≡ combinedOf x
+-- the first that fails is the answer
+module _ (x : Asked) (fs : List RuleField) where
+  pub broken-lines : rightLines x ≡ false → refused 8 1 ≡ combinedOf x fs
   unfolding combinedOf unless _>>_
   broken-lines e = rw e
 
-  module _ (lines : rightLines ≡ true) where
-    pub broken-cards : rightCards ≡ false → refused 8 2 ≡ combinedOf x
+  module _ (lines : rightLines x ≡ true) where
+    pub broken-cards : rightCards x ≡ false → refused 8 2 ≡ combinedOf x fs
     unfolding combinedOf unless _>>_
     broken-cards e = rw (lines, e)
 
-    module _ (cards : rightCards ≡ true) where
-      pub broken-cv : rightCV ≡ false → refused 8 (x .cv) ≡ combinedOf x
+    module _ (cards : rightCards x ≡ true) where
+      pub broken-cv : rightCV x ≡ false → refused 8 (x .cv) ≡ combinedOf x fs
       unfolding combinedOf unless _>>_
       broken-cv e = rw (lines, cards, e)
 
       -- past these the fields decide
-      module _ (cv : rightCV ≡ true) (i : ℕ) (first : i ≡ firstOutside (recordLength (sizeOf (x .input))) (recordLength (sizeOf (x .output))) 1 (fieldsIn x)) where
-        by-fields : combinedOf x ≡ unless (eqb i 0) 9 i
+      module _ (cv : rightCV x ≡ true) (i : ℕ) (first : i ≡ firstOutside (recordLength (sizeOf (x .input))) (recordLength (sizeOf (x .output))) 1 fs) where
+        by-fields : combinedOf x fs ≡ unless (eqb i 0) 9 i
         unfolding combinedOf
         by-fields =
             fine-then _ _ (fine-unless _ 8 1 lines)
             ∙ fine-then _ _ (fine-unless _ 8 2 cards)
             ∙ fine-then _ _ (fine-unless _ 8 (x .cv) cv)
-            ∙ outside-same (recordLength (sizeOf (x .input))) (recordLength (sizeOf (x .output))) 1 (omega arith) (fieldsIn x)
+            ∙ outside-same (recordLength (sizeOf (x .input))) (recordLength (sizeOf (x .output))) 1 (omega arith) fs
             ∙ rw (← first)
 
-        pub outside-field : (i ≡ 0 → ⊥) → refused 9 i ≡ combinedOf x
+        pub outside-field : (i ≡ 0 → ⊥) → refused 9 i ≡ combinedOf x fs
         unfolding unless
         outside-field n = sym (by-fields ∙ rw (ne-eqb i 0 n))
 
-        pub none-outside : i ≡ 0 → fine tt ≡ combinedOf x
+        pub none-outside : i ≡ 0 → fine tt ≡ combinedOf x fs
         unfolding unless
         none-outside z = sym (by-fields ∙ rw (eq-eqb i 0 z))
 
@@ -196,10 +200,10 @@ module _ (x : Asked) where
 abbrev pub refusal10 : Plan → Answer Unit
 refusal10 p = unless (eqb (barrenHalf p) (inputHalves p)) 10 (barrenHalf p)
 
-in-plan : (zone : ℕ) (x : Asked) (cards : List (List Item)) → x .fs ≡ length cards → x .cv ≡ cvCard 2 cards
-    → combined (planIn zone x) cards ≡ (combinedOf x >> refusal10 (planIn zone x))
+in-plan : (zone : ℕ) (x : Asked) (fields : List RuleField) (cards : List (List Item)) → x .fs ≡ length cards → x .cv ≡ cvCard 2 cards
+    → combined (planIn zone x fields) cards ≡ (combinedOf x fields >> refusal10 (planIn zone x fields))
 unfolding combined sound planIn combinedOf
-in-plan zone x cards fs cv =
+in-plan zone x fields cards fs cv =
     let t = modeOf (x .mode) in
     let f = formatOf (x .format) in
     let a = sizeOf (x .input) in
@@ -214,9 +218,10 @@ in-plan zone x cards fs cv =
 
 -- where the struct says what the deck asks for, these are what the rules ask before refusal 10
 pub combined-same : (zone : ℕ) (x : Asked) (a : RuleAsked) → Means x a
-    → combined (assembled zone a) (a .cards) ≡ (combinedOf x >> refusal10 (assembled zone a))
+    → combined (assembled zone a) (a .cards) ≡ (combinedOf x (fieldsOf (joined (a .cards))) >> refusal10 (assembled zone a))
 combined-same zone x a m =
-    subst (λ (p : Plan). combined p (a .cards) ≡ (combinedOf x >> refusal10 p)) (plan-means zone x a m) (in-plan zone x (a .cards) (m .fs) (m .cv))
+    let fields = fieldsOf (joined (a .cards)) in
+    subst (λ (p : Plan). combined p (a .cards) ≡ (combinedOf x fields >> refusal10 p)) (plan-means zone x a m) (in-plan zone x fields (a .cards) (m .fs) (m .cv))
 
 -- ---- what `combine` asks holds within the limits
 
@@ -228,16 +233,16 @@ size-most : (f : Format) (s : Size) → SizeWithin f s → recordLength s ≤ 40
 size-most f (two n m) w = w .0 .1
 size-most f (one g) w = omega arith
 
--- the two sizes that stand in a field within its limits
-sizes-within : (k : Kind) (input output : ℕ) → KindWithin (kindOf k input output) → (k ≡ Copy → input ≡ output) → Within 1 4096 input × Within 1 4096 output
-sizes-within Copy input output w e = let q = e refl in omega arith
-sizes-within Pack input output w e = omega arith
-sizes-within Unpack input output w e = omega arith
+-- the two sizes of a field within its limits
+sizes-within : (k : RuleKind) → KindWithin k → Within 1 4096 (inputSize k) × Within 1 4096 (outputSize k)
+sizes-within (copy s) w = omega arith
+sizes-within (pack n m) w = omega arith
+sizes-within (unpack n m) w = omega arith
 
-field-fair : (f : Field) → FieldWithin (fieldOf f) → OneSize f → FieldFair f
-unfolding fieldOf
-field-fair f w e =
-    let s = sizes-within (f .kind) (f .input) (f .output) (w .kind) e in
+field-fair : (f : RuleField) → FieldWithin f → FieldFair (fieldFor f)
+unfolding fieldFor
+field-fair f w =
+    let s = sizes-within (f .kind) (w .kind) in
     record {
       r-low = w .r .0;
       r-high = w .r .1;
@@ -247,17 +252,23 @@ field-fair f w e =
       output-high = s .1 .1;
       t-low = w .t .0;
       t-high = w .t .1;
-      one-size = e;
+      one-size = one-size f;
     }
 
-fields-fair : (fs : List Field) → All FieldWithin (map fieldOf fs) → All OneSize fs → All FieldFair fs
-fields-fair [] w e = noMore
-fields-fair (f ∷ fs) (also p w) (also q e) = also (field-fair f p q) (fields-fair fs w e)
+-- each field that is read from the numbers of fields within their limits
+fields-fair : (fs : List RuleField) → All FieldWithin fs → FieldsFair (flatOf fs)
+fields-fair fs w i l =
+    let none = fieldOf noField in
+    let there : i < length fs = omega (arith, length-flat fs) in
+    let read : fieldAt (flatOf fs) i ≡ fieldFor (getD fs i none) =
+    ap (λ (row : List ℕ). fieldAt row i) (sym (append-nil (flatOf fs))) ∙ field-kept none fs [] i there
+    in
+    subst FieldFair (sym read) (field-fair (getD fs i none) (all-at none fs w i there))
 
-pub asked-fair : (x : Asked) (a : RuleAsked) → Means x a → UtilityWithin (a .utility) → All FieldWithin (fieldsOf (joined (a .cards)))
-    → All OneSize (take (x .count) (x .fields)) → AskedFair x
-unfolding utilityOf fieldsIn
-asked-fair x a m u w e =
+pub asked-fair : (x : Asked) (a : RuleAsked) (row : List ℕ) → Means x a → UtilityWithin (a .utility) → All FieldWithin (fieldsOf (joined (a .cards)))
+    → row ≡ flatOf (fieldsOf (joined (a .cards))) → AskedFair x row
+unfolding utilityOf
+asked-fair x a row m u w e =
     let v = subst UtilityWithin (sym (m .utility)) u in
     record {
       sizes =
@@ -267,7 +278,7 @@ asked-fair x a m u w e =
             most-A = size-most (formatOf (x .format)) (sizeOf (x .input)) (v .input);
             most-B = size-most (formatOf (x .format)) (sizeOf (x .output)) (v .output);
           };
-      fields = record { few = m .few; each = fields-fair (take (x .count) (x .fields)) (subst (All FieldWithin) (sym (m .fields)) w) e };
+      fields = subst FieldsFair (sym e) (fields-fair (fieldsOf (joined (a .cards))) w);
     }
 
 -- ---- one outcome
@@ -284,8 +295,8 @@ answer-once (Outside field) Sound e = cc
 answer-once (Outside field) (Broken place) e = absurd (omega (arith, ap refusalOf e))
 answer-once (Outside field) (Outside field′) e = ap Outside (ap placeOf e)
 
-pub only-one : (x : Asked) (r q : Combined) → answerOf r ≡ combinedOf x → answerOf q ≡ combinedOf x → r ≡ q
-only-one x r q e f = answer-once r q (e ∙ sym f)
+pub only-one : (x : Asked) (fs : List RuleField) (r q : Combined) → answerOf r ≡ combinedOf x fs → answerOf q ≡ combinedOf x fs → r ≡ q
+only-one x fs r q e f = answer-once r q (e ∙ sym f)
 
 -- and of what is asked of a mode, a format or a size
 pub selects-only-one : (m : DeclaredMode) (r s : Bool) → r ≡ selects (modeOf m) → s ≡ selects (modeOf m) → r ≡ s

@@ -1,16 +1,16 @@
 -- What is promised of the combinations and of the fields' places: refusals 8 and 9.
 use mathlib.Core.Bool.{cond, _||_}
 use mathlib.Core.List.{List, [], _∷_}
-use Prim.Native.Nat.{ℕ, suc, _≤_}
+use Prim.Native.Nat.{ℕ, suc, _+_, _*_, _≤_}
 use lib.Dec.{eqb}
-use lib.ListN.{take}
-use Rattle.rules.specs.Places.{All}
+use lib.ListN.{length}
 use Rattle.rules.specs.Answer.{Answer, fine, refused, _>>_, unless, each}
 use Rattle.rules.specs.Halves.{Field as RuleField}
 use Rattle.rules.specs.Plan.{selects, isFV, recordLength, inside}
-use Rattle.terms.specs.Meaning.{modeOf, formatOf, sizeOf, OneSize, fieldsIn}
+use Rattle.terms.specs.Meaning.{modeOf, formatOf, sizeOf, OneSize}
 use Rattle.terms.specs.declared.Field.{Field}
 use Rattle.terms.specs.declared.Asked.{Asked}
+use Rattle.rows.specs.Flat.{fieldAt}
 use Rattle.combinations.specs.Lines.{FormatFair, allLines}
 use Rattle.combinations.specs.declared.Combined.{Combined}
 use Rattle.combinations.specs.declared.Combined.the-variants.{Sound, Broken, Outside}
@@ -27,12 +27,12 @@ firstOutside a b i [] = 0
 firstOutside a b i (f ∷ fs) = let later = firstOutside a b (suc i) fs in cond (inside a b f) later i
 
 -- what the rules answer: the lines whose place is 1, an FS card in TC or TR, CV outside FV, and then the first field outside its records
-unfoldable pub combinedOf : Asked → Answer Unit
-combinedOf x = do
+unfoldable pub combinedOf : Asked → List RuleField → Answer Unit
+combinedOf x fs = do
   unless (allLines (modeOf (x .mode)) (formatOf (x .format)) (sizeOf (x .input)) (sizeOf (x .output)) (x .first) (x .fs)) 8 1
   unless (selects (modeOf (x .mode)) || eqb (x .fs) 0) 8 2
   unless (isFV (formatOf (x .format)) || eqb (x .cv) 0) 8 (x .cv)
-  each 9 (inside (recordLength (sizeOf (x .input))) (recordLength (sizeOf (x .output)))) 1 (fieldsIn x)
+  each 9 (inside (recordLength (sizeOf (x .input))) (recordLength (sizeOf (x .output)))) 1 fs
 
 -- a field whose numbers are within their limits
 pub record FieldFair (f : Field) : Type 0 where
@@ -46,12 +46,11 @@ pub record FieldFair (f : Field) : Type 0 where
   pub t-high : f .t ≤ 4096
   pub one-size : OneSize f
 
--- so many of an array of 64
-pub record FieldsFair (fields : List Field) (count : ℕ) : Type 0 where
-  pub few : count ≤ 64
-  pub each : All FieldFair (take count fields)
+-- each field of a row
+abbrev pub FieldsFair : List ℕ → Type 0
+FieldsFair row = (i : ℕ) → 5 * i + 5 ≤ length row → FieldFair (fieldAt row i)
 
 -- what a deck asks for once its numbers are within their limits
-pub record AskedFair (x : Asked) : Type 0 where
+pub record AskedFair (x : Asked) (row : List ℕ) : Type 0 where
   pub sizes : FormatFair (sizeOf (x .input)) (sizeOf (x .output))
-  pub fields : FieldsFair (x .fields) (x .count)
+  pub fields : FieldsFair row

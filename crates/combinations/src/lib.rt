@@ -6,12 +6,11 @@ use terms::Mode;
 use terms::Size;
 ghost use mathlib.Core.Path.{_≡_};
 ghost use mathlib.Core.Bool.{true, _&&_, _||_};
-ghost use mathlib.Core.List.{map};
 ghost use Prim.Native.Nat.{_+_, _≤_};
 ghost use lib.Dec.{leb, eqb};
-ghost use lib.ListN.{take};
 ghost use Rattle.rules.specs.Plan.{isTC, selects as ruleSelects, isFV, isFU, numbers as ruleNumbers, wanted as ruleWanted, recordLength, blockLength, inside};
 ghost use Rattle.terms.specs.Meaning.{modeOf, formatOf, sizeOf, fieldOf};
+ghost use Rattle.rows.specs.Kept.{fieldsIn};
 ghost use Rattle.combinations.specs.Lines.{copyLines, countLine, lengthsEqual, fixedLines, FormatFair, formatLines, copyEqual, cardLine, allLines};
 ghost use Rattle.combinations.specs.Promise.{firstOutside, answerOf, combinedOf, FieldFair, FieldsFair, AskedFair};
 
@@ -264,13 +263,14 @@ fn lies_inside(f: Field, a: usize, b: usize) -> bool
 }
 
 // The number of the first field, from 1, that is outside its records, or 0.
-fn first_outside(fields: [Field; 64], count: usize, a: usize, b: usize) -> usize
-    requires { ⌜ FieldsFair fields count ⌝ }
-    ensures { λ r. ⌜ r ≡ firstOutside a b 1 (map fieldOf (take count fields)) ⌝ }
+fn first_outside(fields: &[u16], a: usize, b: usize) -> usize
+    requires { ⌜ FieldsFair (now fields) ⌝ }
+    ensures { λ r. ⌜ r ≡ firstOutside a b 1 (fieldsIn (now (fields .entry))) ⌝ }
 {
+    let count = fields.len() / 5;
     let mut i: usize = 0;
     while i < count {
-        let f = fields[i];
+        let f = rows::field_at(fields, i);
         if !lies_inside(f, a, b) {
             return i + 1;
         }
@@ -287,9 +287,9 @@ pub enum Combined {
 }
 
 // Place 1 before an FS card in TC or TR before CV outside FV; then the fields.
-pub fn combine(asked: Asked) -> Combined
-    requires { ⌜ AskedFair asked ⌝ }
-    ensures { λ r. ⌜ answerOf r ≡ combinedOf asked ⌝ }
+pub fn combine(asked: Asked, fields: &[u16]) -> Combined
+    requires { ⌜ AskedFair asked (now fields) ⌝ }
+    ensures { λ r. ⌜ answerOf r ≡ combinedOf asked (fieldsIn (now (fields .entry))) ⌝ }
 {
     let mode = asked.mode;
     let format = asked.format;
@@ -306,13 +306,7 @@ pub fn combine(asked: Asked) -> Combined
     if !cv_allowed(format, cv) {
         return Combined::Broken { place: cv };
     }
-    let fields = asked.fields;
-    let field = first_outside(
-        fields,
-        asked.count,
-        record_length(input),
-        record_length(output),
-    );
+    let field = first_outside(fields, record_length(input), record_length(output));
     if field != 0 {
         return Combined::Outside { field };
     }

@@ -27,7 +27,8 @@ fn convert(deck: &[u8], reel: &[u8], out: &[u8]) {
     let n = ran.length;
     if files::write(out, &room[..n]) {
         notices::line(&[0, 0, n, ran.records, ran.blocks]);
-        notices::loss(plans::plan_deck(deck));
+        let mut row = [0u16; 320];
+        notices::loss(plans::plan_deck(deck, &mut row));
     }
 }
 

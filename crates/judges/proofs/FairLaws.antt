@@ -1,16 +1,16 @@
 -- What `combine` found right: with no FS card in TC and TR there is no field, and every field lies inside its records, so that it can be weighed.
 use mathlib.Core.Path.{_≡_, refl, sym, subst, _∙_}
 use mathlib.Core.Bool.{true, false, _||_}
-use mathlib.Core.List.{List, [], _∷_, map}
-use Prim.Native.Nat.{ℕ}
+use mathlib.Core.List.{List, [], _∷_}
+use Prim.Native.Nat.{ℕ, _≤_}
 use native.Mathlib.Omega.{arith}
 use lib.Dec.{eqb}
-use lib.ListN.{length, take}
-use lib.Seq.{getD-take, length-take-le}
+use lib.ListN.{length}
 use borrow.Author.Tests.{eqb-true}
 use Rattle.rules.specs.Base.{joined}
-use Rattle.rules.specs.Places.{All, noMore, also}
+use Rattle.rules.specs.Places.{All}
 use Rattle.rules.specs.Answer.{fine}
+use Rattle.rules.specs.Halves.{Field as RuleField}
 use Rattle.rules.specs.Grammar.{Item}
 use Rattle.rules.specs.Asked.{fieldsOf, Asked as RuleAsked}
 use Rattle.rules.specs.Plan.{selects, recordLength}
@@ -18,22 +18,25 @@ use Rattle.rules.specs.Rows.{Inside}
 use Rattle.rules.proofs.AnswerLaws.{then-fine, unless-fine, each-fine}
 use Rattle.rules.proofs.AllLaws.{all-at, all-imply}
 use Rattle.rules.proofs.LimitLaws.{inside-exactly}
-use Rattle.terms.specs.Meaning.{modeOf, sizeOf, fieldOf, noField, fieldsIn, Means}
+use Rattle.terms.specs.Meaning.{modeOf, sizeOf, fieldOf, noField, Means}
 use Rattle.terms.specs.declared.Field.{Field}
 use Rattle.terms.specs.declared.Asked.{Asked}
+use Rattle.rows.specs.Flat.{fieldAt}
+use Rattle.rows.specs.Kept.{fieldsIn}
+use Rattle.rows.proofs.RowLaws.{many-in, field-in}
 use Rattle.combinations.specs.Promise.{combinedOf, FieldFair, AskedFair}
 use Rattle.keeping.specs.Promise.{FairField, Fair}
 use Rattle.keeping.proofs.Fields.{input-is, output-is}
 
 -- no FS card in TC and TR, and every field inside its records
-sound-tests : (x : Asked) → combinedOf x ≡ fine tt
-    → ((selects (modeOf (x .mode)) || eqb (x .fs) 0) ≡ true) × All (Inside (recordLength (sizeOf (x .input))) (recordLength (sizeOf (x .output)))) (fieldsIn x)
+sound-tests : (x : Asked) (fs : List RuleField) → combinedOf x fs ≡ fine tt
+    → ((selects (modeOf (x .mode)) || eqb (x .fs) 0) ≡ true) × All (Inside (recordLength (sizeOf (x .input))) (recordLength (sizeOf (x .output)))) fs
 unfolding combinedOf
-sound-tests x e =
+sound-tests x fs e =
     let lines = then-fine _ _ tt e in
     let cards = then-fine _ _ tt (lines .1) in
     let cv = then-fine _ _ tt (cards .1) in
-    (unless-fine _ 8 2 (cards .0), all-imply (λ f. inside-exactly (recordLength (sizeOf (x .input))) (recordLength (sizeOf (x .output))) f .0) (each-fine 9 _ 1 (fieldsIn x) (cv .1)))
+    (unless-fine _ 8 2 (cards .0), all-imply (λ f. inside-exactly (recordLength (sizeOf (x .input))) (recordLength (sizeOf (x .output))) f .0) (each-fine 9 _ 1 fs (cv .1)))
 
 -- ---- no field in TC and TR
 
@@ -41,10 +44,10 @@ no-card : (cards : List (List Item)) → length cards ≡ 0 → fieldsOf (joined
 no-card [] e = refl
 no-card (c ∷ cards) e = absurd (omega arith)
 
-pub no-field : (x : Asked) (a : RuleAsked) → Means x a → combinedOf x ≡ fine tt → selects (modeOf (x .mode)) ≡ false → fieldsIn x ≡ []
-no-field x a m e s =
-    let none : eqb (x .fs) 0 ≡ true = rw s at (sound-tests x e .0) in
-    m .fields ∙ no-card (a .cards) (sym (m .fs) ∙ eqb-true (x .fs) 0 none)
+pub no-field : (x : Asked) (a : RuleAsked) (fs : List RuleField) → Means x a → combinedOf x fs ≡ fine tt → selects (modeOf (x .mode)) ≡ false → fieldsOf (joined (a .cards)) ≡ []
+no-field x a fs m e s =
+    let none : eqb (x .fs) 0 ≡ true = rw s at (sound-tests x fs e .0) in
+    no-card (a .cards) (sym (m .fs) ∙ eqb-true (x .fs) 0 none)
 
 -- ---- fields inside their records
 
@@ -62,22 +65,15 @@ module _ (n m : ℕ) where
         copies = fair .one-size;
       }
 
-  fair-each : (fs : List Field) → All FieldFair fs → All (Inside n m) (map fieldOf fs) → All (FairField n m) fs
-  fair-each [] a b = noMore
-  fair-each (f ∷ fs) (also p a) (also w b) = also (fair-one f p w) (fair-each fs a b)
-
-pub fair-sound : (x : Asked) → AskedFair x → length (x .fields) ≡ 64 → combinedOf x ≡ fine tt
-    → Fair (x .fields) (x .count) (recordLength (sizeOf (x .input))) (recordLength (sizeOf (x .output)))
-unfolding fieldsIn
-fair-sound x fair many e =
+pub fair-sound : (x : Asked) (row : List ℕ) → AskedFair x row → length row ≤ 320 → combinedOf x (fieldsIn row) ≡ fine tt
+    → Fair row (recordLength (sizeOf (x .input))) (recordLength (sizeOf (x .output)))
+fair-sound x row fair few e =
     let n = recordLength (sizeOf (x .input)) in
     let m = recordLength (sizeOf (x .output)) in
-    let fs = take (x .count) (x .fields) in
-    let size : length fs ≡ x .count = length-take-le (x .count) (x .fields) (omega (arith, fair .fields .few, many)) in
-    let all = fair-each n m fs (fair .fields .each) (sound-tests x e .1) in
+    let d = fieldOf noField in
     record {
-      few = fair .fields .few;
+      few = few;
       n-high = fair .sizes .most-A;
       m-high = fair .sizes .most-B;
-      each = λ k l. subst (FairField n m) (getD-take (x .count) (x .fields) k noField l) (all-at noField fs all k (omega (arith, size)));
+      each = λ k l. fair-one n m (fieldAt row k) (fair .fields k l) (subst (Inside n m) (field-in row d k l) (all-at d (fieldsIn row) (sound-tests x (fieldsIn row) e .1) k (omega (arith, many-in row))));
     }

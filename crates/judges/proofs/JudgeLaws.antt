@@ -2,19 +2,20 @@
 -- answers, then the tail. And the promise allows one verdict alone.
 use mathlib.Core.Path.{_≡_, refl, ap, ap₂, sym, _∙_}
 use mathlib.Core.Bool.{Bool, true, false, cond, _&&_}
+use mathlib.Core.List.{List}
 use Prim.Native.Nat.{ℕ, _*_}
 use native.Mathlib.Omega.{arith}
 use lib.Dec.{eqb}
-use lib.ListN.{length, take, length-map}
-use lib.Seq.{length-take-le}
 use borrow.Author.Tests.{eqb-true, eq-eqb}
-use Rattle.rules.specs.Answer.{Answer, fine, refuse, refused, refusalOf, placeOf, _>>=_, _>>_}
-use Rattle.rules.specs.Asked.{Asked as RuleAsked}
+use Rattle.rules.specs.Base.{joined}
+use Rattle.rules.specs.Halves.{Field as RuleField}
+use Rattle.rules.specs.Answer.{Answer, fine, refused, refusalOf, placeOf, _>>=_, _>>_}
+use Rattle.rules.specs.Asked.{fieldsOf, Asked as RuleAsked}
 use Rattle.rules.specs.Plan.{Plan, assembled, selects, recordLength, blockLength, inputHalves, lostAt, tailKept, keeps, bit}
 use Rattle.rules.specs.Lent.{zoneF}
 use Rattle.rules.proofs.AnswerLaws.{fine-same, then-fine, fine-then, fine-unless, then-assoc, then-bind}
 use Rattle.rules.proofs.PlanSteps.{no-barren, keeps-carried}
-use Rattle.terms.specs.Meaning.{modeOf, formatOf, sizeOf, fieldOf, fieldsIn, Means, planIn}
+use Rattle.terms.specs.Meaning.{modeOf, formatOf, sizeOf, Means, planIn}
 use Rattle.terms.proofs.PlanOf.{plan-means}
 use Rattle.terms.specs.declared.Asked.{Asked}
 use Rattle.combinations.specs.Promise.{combinedOf}
@@ -41,50 +42,46 @@ with-tail tail lost halves = go tail (eqb lost halves) refl
     go false true e = rw (eqb-true lost halves e)
 
 module _ (x : Asked) (a : RuleAsked) (m : Means x a) where
+  -- the fields that the deck asks for
+  abbrev fs : List RuleField
+  fs = fieldsOf (joined (a .cards))
+
   abbrev p : Plan
-  p = planIn zoneF x
+  p = planIn zoneF x fs
 
   abbrev n : ℕ
   n = recordLength (sizeOf (x .input))
 
   -- refusals 8 and 9, and then refusal 10
-  answered : planned zoneF a ≡ (combinedOf x >> (refusal10 p >> fine p))
+  answered : planned zoneF a ≡ (combinedOf x fs >> (refusal10 p >> fine p))
   answered =
       ap (λ (z : Answer Unit). z >> fine (assembled zoneF a)) (combined-same zoneF x a m)
-      ∙ then-assoc (combinedOf x) (refusal10 (assembled zoneF a)) (fine (assembled zoneF a))
-      ∙ ap (λ (q : Plan). combinedOf x >> (refusal10 q >> fine q)) (sym (plan-means zoneF x a m))
+      ∙ then-assoc (combinedOf x fs) (refusal10 (assembled zoneF a)) (fine (assembled zoneF a))
+      ∙ ap (λ (q : Plan). combinedOf x fs >> (refusal10 q >> fine q)) (sym (plan-means zoneF x a m))
 
-  pub combined-refused : (number place : ℕ) → refused number place ≡ combinedOf x → refused number place ≡ judgedOf (planned zoneF a)
+  pub combined-refused : (number place : ℕ) → refused number place ≡ combinedOf x fs → refused number place ≡ judgedOf (planned zoneF a)
   unfolding _>>_ _>>=_ judgedOf
   combined-refused number place e = sym (ap judgedOf (answered ∙ ap (λ (z : Answer Unit). z >> (refusal10 p >> fine p)) (sym e)))
 
-  module _ (sound : combinedOf x ≡ fine tt) where
+  module _ (sound : combinedOf x fs ≡ fine tt) where
     -- refusal 10, and then keeping
     on-plan : judgedOf (planned zoneF a) ≡ (refusal10 p >> fine (bit (keeps p), cond (keeps p) 0 (lostAt p)))
     unfolding judgedOf
-    on-plan = ap judgedOf (answered ∙ fine-then (combinedOf x) (refusal10 p >> fine p) sound) ∙ then-bind (refusal10 p) p _
+    on-plan = ap judgedOf (answered ∙ fine-then (combinedOf x fs) (refusal10 p >> fine p) sound) ∙ then-bind (refusal10 p) p _
 
     pub carried : selects (modeOf (x .mode)) ≡ false → fine (1, 0) ≡ judgedOf (planned zoneF a)
     unfolding planIn
-    carried s = sym (on-plan ∙ fine-then (refusal10 p) _ (fine-unless _ 10 _ (eq-eqb _ _ (no-barren p (no-field x a m sound s)))) ∙ rw (keeps-carried p s))
+    carried s = sym (on-plan ∙ fine-then (refusal10 p) _ (fine-unless _ 10 _ (eq-eqb _ _ (no-barren p (no-field x a fs m sound s)))) ∙ rw (keeps-carried p s))
 
     -- in TF and TRF: what weighing answers, and then the tail
-    pub by-weighing : selects (modeOf (x .mode)) ≡ true → (w : Weighed) → weighed w ≡ weighedOf zoneF (fieldsIn x) n (recordLength (sizeOf (x .output)))
+    pub by-weighing : selects (modeOf (x .mode)) ≡ true → (w : Weighed) → weighed w ≡ weighedOf zoneF fs n (recordLength (sizeOf (x .output)))
         → (weighed w >>= byTail (tailOf (formatOf (x .format)) (x .cv) n (blockLength (sizeOf (x .input)))) (2 * n)) ≡ judgedOf (planned zoneF a)
     unfolding planIn keeps tailKept inputHalves
     by-weighing s w e =
         rw (e ∙ weighed-is p) (then-bind (refusal10 p) _ _ ∙ ap (refusal10 p >>_) (with-tail (tailKept p) (lostAt p) (inputHalves p)) ∙ sym (on-plan ∙ rw s))
 
-pub plan-same : (x : Asked) (a : RuleAsked) → Means x a → (p : Plan) → planned zoneF a ≡ fine p → planIn zoneF x ≡ p
+pub plan-same : (x : Asked) (a : RuleAsked) → Means x a → (p : Plan) → planned zoneF a ≡ fine p → planIn zoneF x (fieldsOf (joined (a .cards))) ≡ p
 plan-same x a m p e = plan-means zoneF x a m ∙ fine-same (assembled zoneF a) p (then-fine _ (fine (assembled zoneF a)) p e .1)
-
--- it has as many fields
-pub fields-same : (x : Asked) (a : RuleAsked) → Means x a → length (x .fields) ≡ 64 → (p : Plan) → planned zoneF a ≡ fine p → x .count ≡ length (p .fields)
-unfolding planIn fieldsIn
-fields-same x a m many p e =
-    sym (ap (λ (q : Plan). length (q .fields)) (sym (plan-same x a m p e))
-    ∙ length-map (take (x .count) (x .fields)) fieldOf
-    ∙ length-take-le (x .count) (x .fields) (omega (arith, m .few, many)))
 
 -- ---- one verdict
 
@@ -100,6 +97,6 @@ answer-once (Losing half) (Refused number place) e = cc
 answer-once (Losing half) Keeping e = absurd (omega (arith, ap (λ (n : ℕ × ℕ). n .0) (fine-same (0, half) (1, 0) e)))
 answer-once (Losing half) (Losing half′) e = ap Losing (ap (λ (n : ℕ × ℕ). n .1) (fine-same (0, half) (0, half′) e))
 
-pub only-one : (x : Asked) → Asks x → (r q : Verdict) → Judges x r → Judges x q → r ≡ q
+pub only-one : (x : Asked) (row : List ℕ) → Asks x row → (r q : Verdict) → Judges x row r → Judges x row q → r ≡ q
 unfolding Judges
-only-one x w r q j k = answer-once r q (j (w .asked) (w .means) ∙ sym (k (w .asked) (w .means)))
+only-one x row w r q j k = answer-once r q (j (w .asked) (w .means) (w .flat) ∙ sym (k (w .asked) (w .means) (w .flat)))

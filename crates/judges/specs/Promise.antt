@@ -1,9 +1,9 @@
 -- What `judge` promises: the verdict is what the rules answer.
 use mathlib.Core.Path.{_≡_}
 use mathlib.Core.Bool.{Bool, cond, not, _||_}
+use mathlib.Core.List.{List}
 use Prim.Native.Nat.{ℕ, _+_}
 use lib.Dec.{eqb}
-use lib.ListN.{take}
 use Rattle.rules.specs.Base.{_⇒_, joined}
 use Rattle.rules.specs.Places.{All}
 use Rattle.rules.specs.Answer.{Answer, fine, refused, _>>=_, _>>_}
@@ -12,8 +12,9 @@ use Rattle.rules.specs.Asked.{fieldsOf, Asked as RuleAsked}
 use Rattle.rules.specs.Plan.{Plan, assembled, combined, isFV, lostAt, keeps, bit}
 use Rattle.rules.specs.Rows.{UtilityWithin, FieldWithin}
 use Rattle.rules.specs.Lent.{zoneF}
-use Rattle.terms.specs.Meaning.{OneSize, Means}
+use Rattle.terms.specs.Meaning.{Means}
 use Rattle.terms.specs.declared.Asked.{Asked}
+use Rattle.rows.specs.Flat.{flatOf}
 use Rattle.judges.specs.declared.Verdict.{Verdict}
 use Rattle.judges.specs.declared.Verdict.the-variants.{Refused, Keeping, Losing}
 
@@ -33,19 +34,19 @@ answerOf (Refused number place) = refused number place
 answerOf Keeping = fine (1, 0)
 answerOf (Losing half) = fine (0, half)
 
--- the struct is judged as what it means is in the rules
-unfoldable pub Judges : Asked → Verdict → Type 0
-Judges x r = (a : RuleAsked) → Means x a → answerOf r ≡ judgedOf (planned zoneF a)
+-- the struct and the row of its fields are judged as what they mean is in the rules
+unfoldable pub Judges : Asked → List ℕ → Verdict → Type 0
+Judges x row r = (a : RuleAsked) → Means x a → row ≡ flatOf (fieldsOf (joined (a .cards))) → answerOf r ≡ judgedOf (planned zoneF a)
 
 -- ---- what it asks
 
--- the struct says what some deck asks for, its numbers within their limits
-pub record Asks (x : Asked) : Type 0 where
+-- the struct and the row say what some deck asks for, its numbers within their limits
+pub record Asks (x : Asked) (row : List ℕ) : Type 0 where
   pub asked : RuleAsked
   pub means : Means x asked
   pub utility : UtilityWithin (asked .utility)
   pub fields : All FieldWithin (fieldsOf (joined (asked .cards)))
-  pub one-size : All OneSize (take (x .count) (x .fields))
+  pub flat : row ≡ flatOf (fieldsOf (joined (asked .cards)))
 
 -- ---- the tail
 

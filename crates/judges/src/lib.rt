@@ -6,8 +6,10 @@ use terms::Format;
 ghost use mathlib.Core.Path.{_≡_};
 ghost use mathlib.Core.Bool.{cond};
 ghost use Prim.Native.Nat.{_*_, _≤_};
+ghost use lib.ListN.{length};
 ghost use Rattle.rules.specs.Answer.{fine};
 ghost use Rattle.terms.specs.Meaning.{formatOf};
+ghost use Rattle.rows.specs.Kept.{fieldsIn};
 ghost use Rattle.combinations.specs.Promise.{AskedFair, combinedOf};
 ghost use Rattle.judges.specs.Promise.{answerOf, tailOf, Asks, Judges};
 
@@ -43,10 +45,10 @@ fn by_tail(format: Format, cv: usize, n: usize, m: usize) -> Verdict
 }
 
 // Where combinations and fields are right. TC and TR plans keep: they have no fields, and carry records unchanged.
-fn by_halves(asked: Asked) -> Verdict
-    requires { ⌜ AskedFair asked ⌝ }
-    requires { ⌜ combinedOf asked ≡ fine tt ⌝ }
-    ensures { λ r. ⌜ Judges asked r ⌝ }
+fn by_halves(asked: Asked, fields: &[u16]) -> Verdict
+    requires { ⌜ AskedFair asked (now fields) × (length (now fields) ≤ 320) ⌝ }
+    requires { ⌜ combinedOf asked (fieldsIn (now fields)) ≡ fine tt ⌝ }
+    ensures { λ r. ⌜ Judges asked (now (fields .entry)) r ⌝ }
 {
     let mode = asked.mode;
     if !combinations::selects(mode) {
@@ -55,8 +57,7 @@ fn by_halves(asked: Asked) -> Verdict
     let input = asked.input;
     let output = asked.output;
     let n = combinations::record_length(input);
-    let fields = asked.fields;
-    let weighed = keeping::weigh(fields, asked.count, n, combinations::record_length(output));
+    let weighed = keeping::weigh(fields, n, combinations::record_length(output));
     let format = asked.format;
     match weighed {
         Weighed::Barren { half } => Verdict::Refused {
@@ -69,17 +70,17 @@ fn by_halves(asked: Asked) -> Verdict
 }
 
 // Refusal 8 before 9 before 10 before the lost place.
-pub fn judge(asked: Asked) -> Verdict
-    requires { ⌜ Asks asked ⌝ }
-    ensures { λ r. ⌜ Judges asked r ⌝ }
+pub fn judge(asked: Asked, fields: &[u16]) -> Verdict
+    requires { ⌜ Asks asked (now fields) ⌝ }
+    ensures { λ r. ⌜ Judges asked (now (fields .entry)) r ⌝ }
 {
-    let combined = combinations::combine(asked);
+    let combined = combinations::combine(asked, fields);
     match combined {
         Combined::Broken { place } => Verdict::Refused { number: 8, place },
         Combined::Outside { field } => Verdict::Refused {
             number: 9,
             place: field,
         },
-        Combined::Sound => by_halves(asked),
+        Combined::Sound => by_halves(asked, fields),
     }
 }

@@ -3,6 +3,7 @@ use mathlib.Core.Path.{_≡_, refl, ap, sym, subst, _∙_}
 use mathlib.Core.Bool.{Bool, true, false, cond, _&&_}
 use Prim.Native.Nat.{ℕ, _+_, _-_, _*_, _≤_, _<_}
 use native.Mathlib.Omega.{arith}
+use lib.Bits.{bitOr, or-comm}
 use Rattle.rules.specs.Halves.{readsFrom}
 use Rattle.rules.specs.Permitted.{any, kindAllows, reads, allows}
 use Rattle.rules.specs.Lent.{zoneF}
@@ -11,15 +12,14 @@ use Rattle.terms.specs.Meaning.{fieldOf}
 use Rattle.terms.specs.declared.Field.{Field}
 use Rattle.terms.specs.declared.Kind.{Kind}
 use Rattle.terms.specs.declared.Kind.the-variants.{Copy, Pack, Unpack}
-use Rattle.keeping.specs.Marks.{markAllows, meetOf, codedOf, decodedOf, Says, askingOf, Gives, Put}
+use Rattle.keeping.specs.Marks.{markAllows, Says, askingOf, Gives, Put}
 use Rattle.keeping.specs.Promise.{FairField}
-use Rattle.keeping.specs.declared.Mark.{Mark}
 use Rattle.keeping.proofs.Fields.{kind-of, input-is}
-use Rattle.keeping.proofs.Meets.{code-says, meet-allows}
+use Rattle.keeping.proofs.Meets.{or-allows}
 
--- half h has a mark of code b after a field, where it had one of code a: it permits what both permit
+-- half h has mark b after a field, where it had mark a: it permits what both permit
 unfoldable pub Met : Field → ℕ → ℕ → ℕ → Type 0
-Met f h a b = Says (decodedOf b) (λ v. allows zoneF (fieldOf f) h v && markAllows (decodedOf a) v)
+Met f h a b = Says b (λ v. allows zoneF (fieldOf f) h v && markAllows a v)
 
 -- a field asks nothing of halves that it does not read
 pub asking-most : (c : Kind) (input many : ℕ) → many ≡ askingOf c input → many ≤ 2 * input
@@ -43,13 +43,12 @@ module _ (n m : ℕ) (f : Field) (ok : FairField n m f) (h : ℕ) where
   unfolding Met
   met-above a b v l = rw (allows-after zoneF (fieldOf f) v h (omega (arith, from-is, input-is f)), any-of v l)
 
-  pub met-inside : (j a : ℕ) (b : Mark) → h ≡ 2 * f .r - 2 + j → j < 2 * f .input → Says b (kindAllows zoneF (fieldOf f .kind) j)
-      → Met f h a (codedOf (meetOf b (decodedOf a)))
+  pub met-inside : (j a b : ℕ) → h ≡ 2 * f .r - 2 + j → j < 2 * f .input → Says b (kindAllows zoneF (fieldOf f .kind) j) → Met f h a (bitOr a b)
   unfolding Met
   met-inside j a b e l says v s =
-      code-says (meetOf b (decodedOf a)) v s
-      ∙ meet-allows b (decodedOf a) v s
-      ∙ ap (λ (t : Bool). t && markAllows (decodedOf a) v) (says v s ∙ sym (allows-inside zoneF (fieldOf f) v h j (omega (arith, from-is)) (omega (arith, input-is f))))
+      ap (λ (x : ℕ). markAllows x v) (or-comm a b)
+      ∙ or-allows b a v s
+      ∙ ap (λ (t : Bool). t && markAllows a v) (says v s ∙ sym (allows-inside zoneF (fieldOf f) v h j (omega (arith, from-is)) (omega (arith, input-is f))))
 
   -- a copy takes any value
   copy-allows : f .kind ≡ Copy → (v : ℕ) → v < 16 → allows zoneF (fieldOf f) h v ≡ true

@@ -1,116 +1,181 @@
--- What marks permit: two that meet permit what both do, a mark of one value permits one, which is its lowest, and a mark comes back from its
--- code. By cases on the marks.
-use mathlib.Core.Path.{_≡_, refl, ap, _∙_}
-use mathlib.Core.Bool.{Bool, true, false, _&&_}
-use Prim.Native.Nat.{ℕ, _+_, _-_, _≤_, _<_}
-use native.Mathlib.Decide.{decLt}
+-- What marks permit: a value by the bit that it stands under, so two marks both permit what their or permits, and how many values a mark permits and which is
+-- its lowest depend on its three lowest bits. By cases on the bits.
+use mathlib.Core.Path.{_≡_, refl, ap, ap₂, sym, subst, _∙_}
+use mathlib.Core.Bool.{Bool, true, false, cond, _&&_}
+use Prim.Native.Nat.{ℕ, zero, suc, _+_, _-_, _*_, _/_, _%_, _^_, _≤_, _<_}
+use native.Mathlib.Decide.{decLt, ℕ-discrete}
 use native.Mathlib.Omega.{arith}
-use lib.Dec.{eqb}
-use borrow.Author.Tests.{le-leb, lt-leb, eq-eqb, ne-eqb, eqb-true}
-use Rattle.rules.specs.Permitted.{digit, sign}
+use lib.Bits.{bitOr, or-shr, or-mod}
+use lib.Dec.{ltb, leb, eqb}
+use borrow.Author.Tests.{lt-ltb, le-ltb, le-leb, lt-leb, eq-eqb, ne-eqb, eqb-true, eqb-false}
+use Rattle.rules.specs.Permitted.{digit, sign, any, count, firstOf}
 use Rattle.rules.specs.Twins.{lowest}
-use Rattle.rules.proofs.Tests.{within-low, within-high}
-use Rattle.rules.proofs.PermittedLaws.{any-of}
-use Rattle.rules.proofs.KeepingSteps.{first-here, first-nowhere}
-use Rattle.rules.proofs.MarkLaws.{count-only, count-past, first-alike}
-use Rattle.keeping.specs.Marks.{markAllows, onlyIf, meetOf, choicesOf, codedOf, decodedOf, Says, lowestOf}
-use Rattle.keeping.specs.declared.Mark.{Mark}
-use Rattle.keeping.specs.declared.Mark.the-variants.{Any, Digit, Sign, Only, Nothing}
+use Rattle.rules.specs.Lent.{zoneF}
+use Rattle.rules.proofs.PermittedLaws.{any-of, digit-of, sign-of}
+use Rattle.rules.proofs.MarkLaws.{first-alike}
+use Rattle.keeping.specs.Marks.{markAllows, choicesOf, Says, lowestOf}
 
--- ---- how many
+-- ---- a value by its bit
 
-pub choices-one : (w : ℕ) → w ≤ 15 → choicesOf (Only w) ≡ 1
-unfolding choicesOf
-choices-one w l = count-only w 16 (omega arith)
+allows-digit : (a v : ℕ) → v ≤ 9 → markAllows a v ≡ eqb (a / 1 % 2) 0
+unfolding markAllows
+allows-digit a v l = rw (any-of v (omega arith), le-leb v 9 l)
 
-pub choices-none : (w : ℕ) → 15 < w → choicesOf (Only w) ≡ 0
-unfolding choicesOf
-choices-none w l = count-past w 16 l
+allows-letter : (a v : ℕ) → 9 < v → v ≤ 14 → markAllows a v ≡ eqb (a / 2 % 2) 0
+unfolding markAllows
+allows-letter a v l m = rw (any-of v (omega arith), lt-leb v 9 l, le-leb v 14 m)
 
--- ---- the lowest
+allows-zone : (a v : ℕ) → 14 < v → v < 16 → markAllows a v ≡ eqb (a / 4 % 2) 0
+unfolding markAllows
+allows-zone a v l m = rw (any-of v m, lt-leb v 9 (omega arith), lt-leb v 14 l)
 
-pub lowest-one : (w : ℕ) → w ≤ 15 → lowestOf (Only w) ≡ w
-unfolding lowestOf
-lowest-one w l = first-here (λ v. eqb v w) w 16 (omega arith) (λ v s. ne-eqb v w (λ e. omega arith)) (eq-eqb w w refl)
+-- a test of a half says what a mark does, where it does so of 0 to 9, of A to E and of F
+by-bits : (a : ℕ) (p : ℕ → Bool) → ((v : ℕ) → v ≤ 9 → p v ≡ eqb (a / 1 % 2) 0) → ((v : ℕ) → 9 < v → v ≤ 14 → p v ≡ eqb (a / 2 % 2) 0)
+    → ((v : ℕ) → 14 < v → v < 16 → p v ≡ eqb (a / 4 % 2) 0) → Says a p
+by-bits a p digits letters zones v l = elim (decLt 9 v) [
+  | yes past ↦ elim (decLt 14 v) [
+    | yes zone ↦ allows-zone a v zone l ∙ sym (zones v zone l)
+    | no letter ↦ allows-letter a v past (omega arith) ∙ sym (letters v past (omega arith))
+  ]
+  | no below ↦ allows-digit a v (omega arith) ∙ sym (digits v (omega arith))
+]
 
-pub lowest-none : (w : ℕ) → 15 < w → lowestOf (Only w) ≡ 16
-unfolding lowestOf
-lowest-none w l = first-nowhere (λ v. eqb v w) 16 (λ v s. ne-eqb v w (λ e. omega arith))
+-- ---- the marks of the fields
+
+pub says-any : Says 0 any
+says-any = by-bits 0 any (λ v l. any-of v (omega arith)) (λ v l m. any-of v (omega arith)) (λ v l m. any-of v m)
+
+not-digit : (v : ℕ) → 9 < v → digit v ≡ false
+not-digit v l = rw (le-leb 0 v (omega arith), lt-leb v 9 l)
+
+pub says-digit : Says 6 digit
+says-digit = by-bits 6 digit (λ v l. digit-of v l) (λ v l m. not-digit v l) (λ v l m. not-digit v (omega arith))
+
+pub says-sign : Says 1 sign
+says-sign = by-bits 1 sign (λ v l. rw (lt-leb 10 v (omega arith))) (λ v l m. sign-of v (omega arith, omega arith)) (λ v l m. sign-of v (omega arith, omega arith))
+
+pub says-zone : Says 3 (λ v. eqb v zoneF)
+says-zone =
+    by-bits 3 (λ v. eqb v zoneF) (λ v l. ne-eqb v 15 (λ e. omega arith)) (λ v l m. ne-eqb v 15 (λ e. omega arith)) (λ v l m. eq-eqb v 15 (omega arith))
+
+-- ---- what two marks both permit
+
+or-bit : (a b : ℕ) → eqb (bitOr a b % 2) 0 ≡ (eqb (a % 2) 0 && eqb (b % 2) 0)
+or-bit a b = ap (λ (x : ℕ). eqb x 0) (or-mod a b 1) ∙ go (a % 2) (b % 2) (omega arith) (omega arith)
+  where
+    go : (x y : ℕ) → x < 2 → y < 2 → eqb (bitOr x y) 0 ≡ (eqb x 0 && eqb y 0)
+    go zero zero l m = refl
+    go zero (suc zero) l m = refl
+    go zero (suc (suc y)) l m = absurd (omega arith)
+    go (suc zero) zero l m = refl
+    go (suc zero) (suc zero) l m = refl
+    go (suc zero) (suc (suc y)) l m = absurd (omega arith)
+    go (suc (suc x)) y l m = absurd (omega arith)
+
+or-at : (a b k : ℕ) → eqb (bitOr a b / 2 ^ k % 2) 0 ≡ (eqb (a / 2 ^ k % 2) 0 && eqb (b / 2 ^ k % 2) 0)
+or-at a b k = ap (λ (x : ℕ). eqb (x % 2) 0) (or-shr a b k) ∙ or-bit (a / 2 ^ k) (b / 2 ^ k)
+
+pub or-allows : (a b : ℕ) → Says (bitOr a b) (λ v. markAllows a v && markAllows b v)
+or-allows a b =
+    by-bits (bitOr a b) (λ v. markAllows a v && markAllows b v)
+    (λ v l. ap₂ _&&_ (allows-digit a v l) (allows-digit b v l) ∙ sym (or-at a b 0))
+    (λ v l m. ap₂ _&&_ (allows-letter a v l m) (allows-letter b v l m) ∙ sym (or-at a b 1))
+    (λ v l m. ap₂ _&&_ (allows-zone a v l m) (allows-zone b v l m) ∙ sym (or-at a b 2))
+
+-- ---- how many, and the lowest
+
+-- what a mark permits of 0 to 9, of A to E and of F
+abbrev bits : Bool → Bool → Bool → ℕ → Bool
+bits digits letters zone v = any v && cond (leb v 9) digits (cond (leb v 14) letters zone)
+
+count-bits : (x y z : Bool) → count (bits x y z) 16 ≡ 10 * cond x 1 0 + 5 * cond y 1 0 + cond z 1 0
+count-bits true true true = refl
+count-bits true true false = refl
+count-bits true false true = refl
+count-bits true false false = refl
+count-bits false true true = refl
+count-bits false true false = refl
+count-bits false false true = refl
+count-bits false false false = refl
+
+first-bits : (x y z : Bool) → firstOf (bits x y z) 0 16 ≡ cond x 0 (cond y 10 (cond z 15 16))
+first-bits true y z = refl
+first-bits false true z = refl
+first-bits false false true = refl
+first-bits false false false = refl
+
+-- a bit that is not set
+unset : (b : ℕ) → b < 2 → cond (eqb b 0) 1 0 ≡ 1 - b
+unset zero l = refl
+unset (suc zero) l = refl
+unset (suc (suc b)) l = absurd (omega arith)
+
+-- where all three bits are set no value is permitted
+none-left : (x y z : ℕ) → x < 2 → y < 2 → z < 2 → x + 2 * y + 4 * z ≡ 7 → 10 * (1 - x) + 5 * (1 - y) + (1 - z) ≡ 0
+none-left x y z a b c e = omega arith
+
+-- where both lower ones are, one at most
+one-left : (x y z : ℕ) → x < 2 → y < 2 → x + 2 * y ≡ 3 → 10 * (1 - x) + 5 * (1 - y) + (1 - z) < 2
+one-left x y z a b e = omega arith
+
+-- where no value is permitted all three bits are set
+all-set : (x y z : ℕ) → x < 2 → y < 2 → z < 2 → 10 * (1 - x) + 5 * (1 - y) + (1 - z) ≡ 0 → x + 2 * y + 4 * z ≡ 7
+all-set x y z a b c e = omega arith
+
+-- where one of the lower two is not, more than one value is permitted
+some-unset : (x y z : ℕ) → x < 2 → y < 2 → (x + 2 * y ≡ 3 → ⊥) → 2 ≤ 10 * (1 - x) + 5 * (1 - y) + (1 - z)
+some-unset x y z a b n = omega arith
+
+module _ (a : ℕ) where
+  counted : choicesOf a ≡ 10 * cond (eqb (a / 1 % 2) 0) 1 0 + 5 * cond (eqb (a / 2 % 2) 0) 1 0 + cond (eqb (a / 4 % 2) 0) 1 0
+  unfolding choicesOf markAllows
+  counted = count-bits (eqb (a / 1 % 2) 0) (eqb (a / 2 % 2) 0) (eqb (a / 4 % 2) 0)
+
+  choices-is : choicesOf a ≡ 10 * (1 - a / 1 % 2) + 5 * (1 - a / 2 % 2) + (1 - a / 4 % 2)
+  choices-is = omega (arith, counted, unset (a / 1 % 2) (omega arith), unset (a / 2 % 2) (omega arith), unset (a / 4 % 2) (omega arith))
+
+  four : a % 4 ≡ a / 1 % 2 + 2 * (a / 2 % 2)
+  four = omega arith
+
+  eight : a % 8 ≡ a / 1 % 2 + 2 * (a / 2 % 2) + 4 * (a / 4 % 2)
+  eight = let e : a % 8 ≡ a % 4 + 4 * (a / 4 % 2) = omega arith in omega (arith, e, four)
+
+  pub barren-is : eqb (a % 8) 7 ≡ eqb (choicesOf a) 0
+  barren-is = elim (ℕ-discrete (a % 8) 7) [
+    | yes e ↦ eq-eqb (a % 8) 7 e ∙ sym (eq-eqb (choicesOf a) 0 (choices-is ∙ none-left (a / 1 % 2) (a / 2 % 2) (a / 4 % 2) (omega arith) (omega arith) (omega arith) (sym eight ∙ e)))
+    | no n ↦ ne-eqb (a % 8) 7 n ∙ sym (ne-eqb (choicesOf a) 0 (λ e.
+        n (eight ∙ all-set (a / 1 % 2) (a / 2 % 2) (a / 4 % 2) (omega arith) (omega arith) (omega arith) (sym choices-is ∙ e))))
+  ]
+
+  pub narrow-is : eqb (a % 4) 3 ≡ ltb (choicesOf a) 2
+  narrow-is = elim (ℕ-discrete (a % 4) 3) [
+    | yes e ↦ eq-eqb (a % 4) 3 e ∙ sym (lt-ltb (choicesOf a) 2 (subst (λ (c : ℕ). c < 2) (sym choices-is)
+        (one-left (a / 1 % 2) (a / 2 % 2) (a / 4 % 2) (omega arith) (omega arith) (sym four ∙ e))))
+    | no n ↦ ne-eqb (a % 4) 3 n ∙ sym (le-ltb (choicesOf a) 2 (subst (λ (c : ℕ). 2 ≤ c) (sym choices-is)
+        (some-unset (a / 1 % 2) (a / 2 % 2) (a / 4 % 2) (omega arith) (omega arith) (λ e. n (four ∙ e)))))
+  ]
+
+  lowest-is : lowestOf a ≡ cond (eqb (a / 1 % 2) 0) 0 (cond (eqb (a / 2 % 2) 0) 10 (cond (eqb (a / 4 % 2) 0) 15 16))
+  unfolding lowestOf markAllows
+  lowest-is = first-bits (eqb (a / 1 % 2) 0) (eqb (a / 2 % 2) 0) (eqb (a / 4 % 2) 0)
+
+  pub lowest-digit : a % 2 ≡ 0 → 0 ≡ lowestOf a
+  lowest-digit e = sym (lowest-is ∙ rw (eq-eqb (a / 1 % 2) 0 (omega arith)))
+
+  pub lowest-letter : a % 4 ≡ 1 → 10 ≡ lowestOf a
+  lowest-letter e = sym (lowest-is ∙ rw (ne-eqb (a / 1 % 2) 0 (λ z. omega arith), eq-eqb (a / 2 % 2) 0 (omega arith)))
+
+  pub lowest-none : eqb (choicesOf a) 0 ≡ true → 16 ≡ lowestOf a
+  lowest-none e =
+      let s : a % 8 ≡ 7 = eqb-true (a % 8) 7 (barren-is ∙ e) in
+      sym (lowest-is ∙ rw (ne-eqb (a / 1 % 2) 0 (λ z. omega arith), ne-eqb (a / 2 % 2) 0 (λ z. omega arith), ne-eqb (a / 4 % 2) 0 (λ z. omega arith)))
+
+  pub lowest-zone : (a % 2 ≡ 0 → ⊥) → (a % 4 ≡ 1 → ⊥) → eqb (choicesOf a) 0 ≡ false → 15 ≡ lowestOf a
+  lowest-zone d l e =
+      let s : a % 8 ≡ 7 → ⊥ = eqb-false (a % 8) 7 (barren-is ∙ e) in
+      sym (lowest-is ∙ rw (ne-eqb (a / 1 % 2) 0 (λ z. omega arith), ne-eqb (a / 2 % 2) 0 (λ z. omega arith), eq-eqb (a / 4 % 2) 0 (omega arith)))
 
 -- a mark has the lowest of the halves that it permits
-pub lowest-says : (a : Mark) (q : ℕ → ℕ → Bool) (i : ℕ) → Says a (q i) → lowestOf a ≡ lowest q i
+pub lowest-says : (a : ℕ) (q : ℕ → ℕ → Bool) (i : ℕ) → Says a (q i) → lowestOf a ≡ lowest q i
 unfolding lowestOf lowest
 lowest-says a q i says = first-alike (markAllows a) (q i) 0 16 (λ v l. says v (omega arith))
-
--- ---- codes
-
--- a value alone comes back, where a half has it
-undone : (w : ℕ) → w ≤ 15 → decodedOf (codedOf (Only w)) ≡ Only w
-unfolding codedOf decodedOf
-undone w l =
-    rw (le-leb w 15 l, ne-eqb (w + 4) 0 (λ e. omega arith), ne-eqb (w + 4) 1 (λ e. omega arith), ne-eqb (w + 4) 2 (λ e. omega arith), ne-eqb (w + 4) 3 (λ e. omega arith))
-    (ap Only (let z : w + 4 - 4 ≡ w = omega arith in z))
-
--- the mark of a mark's code permits the same halves
-pub code-says : (a : Mark) → Says (decodedOf (codedOf a)) (markAllows a)
-unfolding codedOf decodedOf
-code-says Any v l = refl
-code-says Digit v l = refl
-code-says Sign v l = refl
-code-says (Only w) v l = elim (decLt 15 w) [
-  | yes past ↦ rw (lt-leb w 15 past, ne-eqb v w (λ e. omega arith))
-  | no half ↦ ap (λ (a : Mark). markAllows a v) (undone w (omega arith))
-]
-code-says Nothing v l = refl
-
--- ---- meeting
-
-and-true : (a : Bool) → a ≡ (a && true)
-and-true true = refl
-and-true false = refl
-
-and-false : (a : Bool) → false ≡ (a && false)
-and-false true = refl
-and-false false = refl
-
-and-same : (a : Bool) → a ≡ (a && a)
-and-same true = refl
-and-same false = refl
-
-and-swapped : (a b : Bool) → (a && b) ≡ (b && a)
-and-swapped true b = and-true b
-and-swapped false b = and-false b
-
--- no value is a digit and a sign
-apart : (v : ℕ) → false ≡ (digit v && sign v)
-apart v = go (digit v) refl (sign v) refl
-  where
-    go : (a : Bool) → digit v ≡ a → (b : Bool) → sign v ≡ b → false ≡ (a && b)
-    go true p true q = absurd (let d : v ≤ 9 = within-high 0 9 v p in let s : 10 ≤ v = within-low 10 15 v q in omega arith)
-    go true p false q = refl
-    go false p b q = refl
-
--- a value alone, where it is permitted, is what it and the mark both permit
-only-allows : (a : Mark) (w v : ℕ) → markAllows (onlyIf (markAllows a w) w) v ≡ (eqb v w && markAllows a v)
-only-allows a w v = go (eqb v w) refl (markAllows a w) refl
-  where
-    go : (e : Bool) → eqb v w ≡ e → (t : Bool) → markAllows a w ≡ t → markAllows (onlyIf t w) v ≡ (e && markAllows a v)
-    go true p true q = let s : v ≡ w = eqb-true v w p in rw (p, s, q)
-    go true p false q = let s : v ≡ w = eqb-true v w p in rw (s, q)
-    go false p true q = p
-    go false p false q = refl
-
-pub meet-allows : (a b : Mark) (v : ℕ) → v < 16 → markAllows (meetOf a b) v ≡ (markAllows a v && markAllows b v)
-meet-allows Any b v l = rw (any-of v l)
-meet-allows Digit Any v l = rw (any-of v l) (and-true (digit v))
-meet-allows Digit Digit v l = and-same (digit v)
-meet-allows Digit Sign v l = apart v
-meet-allows Digit (Only w) v l = only-allows Digit w v ∙ and-swapped (eqb v w) (digit v)
-meet-allows Digit Nothing v l = and-false (digit v)
-meet-allows Sign Any v l = rw (any-of v l) (and-true (sign v))
-meet-allows Sign Digit v l = apart v ∙ and-swapped (digit v) (sign v)
-meet-allows Sign Sign v l = and-same (sign v)
-meet-allows Sign (Only w) v l = only-allows Sign w v ∙ and-swapped (eqb v w) (sign v)
-meet-allows Sign Nothing v l = and-false (sign v)
-meet-allows (Only w) b v l = only-allows b w v
-meet-allows Nothing b v l = refl

@@ -2,40 +2,49 @@
 -- over the arrays end where those of the rules end. And the promise allows one answer alone.
 use mathlib.Core.Path.{_≡_, refl, ap, sym, _∙_}
 use mathlib.Core.List.{List}
-use Prim.Native.Nat.{ℕ, _*_, _≤_, _<_}
+use Prim.Native.Nat.{ℕ, zero, suc, _+_, _*_, _≤_, _<_}
 use native.Mathlib.Omega.{arith}
 use lib.Dec.{eqb}
-use lib.ListN.{getD}
+use lib.ListN.{length, getD, replicate}
 use borrow.Author.Tests.{eq-eqb, ne-eqb}
 use Rattle.rules.specs.Answer.{fine, refused, placeOf, _>>_, unless}
-use Rattle.rules.specs.Halves.{Field as RuleField, sources}
+use Rattle.rules.specs.Places.{All, noMore, also}
+use Rattle.rules.specs.Halves.{Field as RuleField, from, constant, froms, sources}
 use Rattle.rules.specs.Permitted.{permitted, choices}
 use Rattle.rules.specs.Keeping.{missing, lostHalf}
 use Rattle.rules.specs.Twins.{listed, lowest}
 use Rattle.rules.specs.Lent.{zoneF}
+use Rattle.rules.proofs.AllLaws.{all-at}
+use Rattle.rules.proofs.SizeLaws.{all-outHalves}
 use Rattle.rules.proofs.AnswerLaws.{fine-same}
 use Rattle.rules.proofs.Search.{first-most}
 use Rattle.rules.proofs.MarkLaws.{choices-alike, first-alike, lost-alike}
-use Rattle.terms.specs.Meaning.{noField}
-use Rattle.terms.specs.declared.Field.{Field}
-use Rattle.keeping.specs.Marks.{decodedOf, Says, permitsIn}
+use Rattle.rows.specs.Flat.{fieldAt}
+use Rattle.rows.specs.Kept.{fieldsIn}
+use Rattle.keeping.specs.Marks.{Says, permitsIn, numbered, nowhere, Stand}
 use Rattle.keeping.specs.Promise.{Fair, answerOf, barrenOf, lostOf, weighedOf}
 use Rattle.keeping.specs.declared.Weighed.{Weighed}
 use Rattle.keeping.specs.declared.Weighed.the-variants.{Barren, Kept, Lost}
 use Rattle.keeping.proofs.Fields.{fair-longer}
 
 -- fields inside their records lie inside the longest
-pub fair-longest : (fields : List Field) (count n m : ℕ) → Fair fields count n m → Fair fields count 4096 4096
-fair-longest fields count n m fair = record {
+pub fair-longest : (row : List ℕ) (n m : ℕ) → Fair row n m → Fair row 4096 4096
+fair-longest row n m fair = record {
   few = fair .few;
   n-high = omega arith;
   m-high = omega arith;
-  each = λ k l. fair-longer n m 4096 4096 (getD fields k noField) (fair .n-high) (fair .m-high) (fair .each k l);
+  each = λ k l. fair-longer n m 4096 4096 (fieldAt row k) (fair .n-high) (fair .m-high) (fair .each k l);
 }
 
 -- ---- from the arrays to the rules
 
-module _ (marks : List ℕ) (fs : List RuleField) (n : ℕ) (small : n ≤ 4096) (says : (h : ℕ) → h < 8192 → Says (decodedOf (getD marks h 0)) (permitted zoneF fs h)) where
+-- an array begins as zeros
+pub zeros : (many i : ℕ) → _≡_ {A = ℕ} (getD (replicate many 0) i 0) 0
+zeros zero i = refl
+zeros (suc many) zero = refl
+zeros (suc many) (suc i) = zeros many i
+
+module _ (marks : List ℕ) (fs : List RuleField) (n : ℕ) (small : n ≤ 4096) (says : (h : ℕ) → h < 8192 → Says (getD marks h 0) (permitted zoneF fs h)) where
   alike : (h v : ℕ) → h < 2 * n → v < 16 → permitsIn marks h v ≡ permitted zoneF fs h v
   unfolding permitsIn
   alike h v l s = says h (omega arith) v s
@@ -49,6 +58,18 @@ module _ (marks : List ℕ) (fs : List RuleField) (n : ℕ) (small : n ≤ 4096)
   pub lost-of : (m : ℕ) → lostHalf (permitsIn marks) (sources zoneF m fs (2 * n)) (2 * n) ≡ lostOf zoneF fs n m
   unfolding lostOf
   lost-of m = lost-alike (permitsIn marks) (permitted zoneF fs) (sources zoneF m fs (2 * n)) (2 * n) alike
+
+-- no number is past the input's
+all-froms : (most i many : ℕ) → i + many ≤ most → All (λ x. numbered x ≤ most) (froms i many)
+all-froms most i zero l = noMore
+all-froms most i (suc many) l = also {x = from i} (omega arith) (all-froms most (suc i) many (omega arith))
+
+pub numbers-low : (xs : List ℕ) (fs : List RuleField) (n m : ℕ) → Stand xs (sources zoneF m fs (2 * n)) → (g : ℕ) → g < length (sources zoneF m fs (2 * n)) → getD xs g 0 ≤ 2 * n
+unfolding Stand sources
+numbers-low xs fs n m stand g l =
+    let low : All (λ x. numbered x ≤ 2 * n) (sources zoneF m fs (2 * n))
+    = all-outHalves constant (λ c half. omega arith) zoneF (omega arith) m fs (all-froms (2 * n) 0 (2 * n) (omega arith)) in
+    omega (arith, stand g l, all-at nowhere (sources zoneF m fs (2 * n)) low g l)
 
 -- ---- the answer
 
@@ -77,7 +98,7 @@ module _ (zone : ℕ) (fs : List RuleField) (n m b : ℕ) (barren : b ≡ barren
 -- ---- one answer
 
 -- no two cases answer the same
-pub answer-once : (r q : Weighed) → answerOf r ≡ answerOf q → r ≡ q
+answer-once : (r q : Weighed) → answerOf r ≡ answerOf q → r ≡ q
 answer-once (Barren half) (Barren half′) e = ap Barren (ap placeOf e)
 answer-once (Barren half) Kept e = cc
 answer-once (Barren half) (Lost half′) e = cc
@@ -88,8 +109,9 @@ answer-once (Lost half) (Barren half′) e = cc
 answer-once (Lost half) Kept e = absurd (omega (arith, ap (λ (n : ℕ × ℕ). n .0) (fine-same (0, half) (1, 0) e)))
 answer-once (Lost half) (Lost half′) e = ap Lost (ap (λ (n : ℕ × ℕ). n .1) (fine-same (0, half) (0, half′) e))
 
-pub only-one : (zone : ℕ) (fs : List RuleField) (n m : ℕ) (r q : Weighed) → answerOf r ≡ weighedOf zone fs n m → answerOf q ≡ weighedOf zone fs n m → r ≡ q
-only-one zone fs n m r q e f = answer-once r q (e ∙ sym f)
+pub only-one : (row : List ℕ) (n m : ℕ) (r q : Weighed) → answerOf r ≡ weighedOf zoneF (fieldsIn row) n m → answerOf q ≡ weighedOf zoneF (fieldsIn row) n m → r ≡ q
+only-one row n m r q e f = answer-once r q (e ∙ sym f)
 
-pub only-one-lowest : (fs : List RuleField) (r q : List ℕ) → r ≡ listed (lowest (permitted zoneF fs)) 0 8192 → q ≡ listed (lowest (permitted zoneF fs)) 0 8192 → r ≡ q
-only-one-lowest fs r q e f = e ∙ sym f
+pub only-one-lowest : (row values values′ : List ℕ) → values ≡ listed (lowest (permitted zoneF (fieldsIn row))) 0 8192
+    → values′ ≡ listed (lowest (permitted zoneF (fieldsIn row))) 0 8192 → values ≡ values′
+only-one-lowest row values values′ e f = e ∙ sym f

@@ -1,71 +1,39 @@
--- What the marks and the numbers of the code mean in the rules: which values a mark permits, which mark a code stands for, and which source a
--- number stands for.
+-- What the marks and the numbers of the code mean in the rules: which values a mark permits, and which source a number stands for.
 use mathlib.Core.Path.{_≡_}
-use mathlib.Core.Bool.{Bool, true, false, cond}
+use mathlib.Core.Bool.{Bool, cond, _&&_}
 use mathlib.Core.List.{List}
-use Prim.Native.Nat.{ℕ, _+_, _-_, _*_, _≤_, _<_}
+use Prim.Native.Nat.{ℕ, suc, _+_, _*_, _/_, _%_, _≤_, _<_}
 use lib.Dec.{leb, eqb}
 use lib.ListN.{length, getD}
 use Rattle.rules.specs.Halves.{readsFrom, readsMany, writesFrom, blank, fieldHalves, Source, from, constant, froms}
-use Rattle.rules.specs.Permitted.{digit, sign, any, count, firstOf}
+use Rattle.rules.specs.Permitted.{any, count, firstOf}
 use Rattle.rules.specs.Lent.{zoneF}
 use Rattle.terms.specs.Meaning.{fieldOf}
 use Rattle.terms.specs.declared.Field.{Field}
 use Rattle.terms.specs.declared.Kind.{Kind}
 use Rattle.terms.specs.declared.Kind.the-variants.{Copy, Pack, Unpack}
-use Rattle.keeping.specs.declared.Mark.{Mark}
-use Rattle.keeping.specs.declared.Mark.the-variants.{Any, Digit, Sign, Only, Nothing}
 
 -- ---- marks
 
--- a mark permits the value v
-abbrev pub markAllows : Mark → ℕ → Bool
-markAllows Any v = any v
-markAllows Digit v = digit v
-markAllows Sign v = sign v
-markAllows (Only w) v = eqb v w
-markAllows Nothing v = false
+-- the mark that excludes the values that stand together with v: 0 to 9, A to E, or F
+abbrev pub excluding : ℕ → ℕ
+excluding v = cond (leb v 9) 1 (cond (leb v 14) 2 4)
 
--- w alone, where it is permitted
-abbrev pub onlyIf : Bool → ℕ → Mark
-onlyIf true w = Only w
-onlyIf false w = Nothing
-
--- what both permit
-abbrev pub meetOf : Mark → Mark → Mark
-meetOf Any b = b
-meetOf Digit Any = Digit
-meetOf Digit Digit = Digit
-meetOf Digit Sign = Nothing
-meetOf Digit (Only w) = onlyIf (markAllows Digit w) w
-meetOf Digit Nothing = Nothing
-meetOf Sign Any = Sign
-meetOf Sign Digit = Nothing
-meetOf Sign Sign = Sign
-meetOf Sign (Only w) = onlyIf (markAllows Sign w) w
-meetOf Sign Nothing = Nothing
-meetOf (Only w) b = onlyIf (markAllows b w) w
-meetOf Nothing b = Nothing
+-- a mark permits the value v of a half: those that stand together with v are not among the excluded
+unfoldable pub markAllows : ℕ → ℕ → Bool
+markAllows a v = any v && eqb (a / excluding v % 2) 0
 
 -- how many values a mark permits
-unfoldable pub choicesOf : Mark → ℕ
+unfoldable pub choicesOf : ℕ → ℕ
 choicesOf a = count (markAllows a) 16
 
--- a mark as a number of one byte; a value that no half has is not told from no value
-unfoldable pub codedOf : Mark → ℕ
-codedOf Any = 0
-codedOf Digit = 1
-codedOf Sign = 2
-codedOf (Only w) = cond (leb w 15) (w + 4) 3
-codedOf Nothing = 3
-
--- the mark of a code
-unfoldable pub decodedOf : ℕ → Mark
-decodedOf c = cond (eqb c 0) Any (cond (eqb c 1) Digit (cond (eqb c 2) Sign (cond (eqb c 3) Nothing (Only (c - 4)))))
-
 -- a mark permits just the halves that pass a test
-abbrev pub Says : Mark → (ℕ → Bool) → Type 0
+abbrev pub Says : ℕ → (ℕ → Bool) → Type 0
 Says a p = (v : ℕ) → v < 16 → markAllows a v ≡ p v
+
+-- an array of marks or sources at the beginning
+abbrev pub Zeros : List ℕ → Type 0
+Zeros xs = (length xs ≡ 8192) × ((i : ℕ) → getD xs i 0 ≡ 0)
 
 -- of how many halves of its input a field asks something: a copy takes any value
 unfoldable pub askingOf : Kind → ℕ → ℕ
@@ -73,20 +41,20 @@ askingOf Copy input = 0
 askingOf Pack input = 2 * input
 askingOf Unpack input = 2 * input
 
--- which values an array of marks, each by its code, permits in half i
+-- which values an array of marks permits in half i
 unfoldable pub permitsIn : List ℕ → ℕ → ℕ → Bool
-permitsIn marks i v = markAllows (decodedOf (getD marks i 0)) v
+permitsIn marks i v = markAllows (getD marks i 0) v
 
 -- the lowest value that a mark permits; 16 where it permits none
-unfoldable pub lowestOf : Mark → ℕ
+unfoldable pub lowestOf : ℕ → ℕ
 lowestOf a = firstOf (markAllows a) 0 16
 
 -- ---- sources
 
--- the number of a source: the input half, or one number for all that is taken from none
+-- the number of a source: the input half, counted from 1, or 0 for all that is taken from none
 abbrev pub numbered : Source → ℕ
-numbered (from i) = i
-numbered (constant c) = 8192
+numbered (from i) = suc i
+numbered (constant c) = 0
 
 -- what stands past the end of a list of sources
 abbrev pub nowhere : Source

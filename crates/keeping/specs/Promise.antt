@@ -2,16 +2,16 @@
 use mathlib.Core.Path.{_≡_}
 use mathlib.Core.Bool.{Bool, cond}
 use mathlib.Core.List.{List}
-use Prim.Native.Nat.{ℕ, _+_, _*_, _≤_, _<_}
+use Prim.Native.Nat.{ℕ, _+_, _*_, _≤_}
 use lib.Dec.{eqb}
-use lib.ListN.{getD}
+use lib.ListN.{length}
 use Rattle.rules.specs.Answer.{Answer, fine, refused, _>>_, unless}
 use Rattle.rules.specs.Halves.{Field as RuleField, sources}
 use Rattle.rules.specs.Permitted.{permitted, choices, firstOf}
 use Rattle.rules.specs.Keeping.{lostHalf}
-use Rattle.terms.specs.Meaning.{noField}
 use Rattle.terms.specs.declared.Field.{Field}
 use Rattle.terms.specs.declared.Kind.the-variants.{Copy}
+use Rattle.rows.specs.Flat.{fieldAt}
 use Rattle.keeping.specs.declared.Weighed.{Weighed}
 use Rattle.keeping.specs.declared.Weighed.the-variants.{Barren, Kept, Lost}
 
@@ -27,12 +27,12 @@ pub record FairField (n m : ℕ) (f : Field) : Type 0 where
   pub output-low : 1 ≤ f .output
   pub copies : f .kind ≡ Copy → f .input ≡ f .output
 
--- the first so many fields lie inside records of n and m bytes
-pub record Fair (fields : List Field) (count n m : ℕ) : Type 0 where
-  pub few : count ≤ 64
+-- the fields of a row, at most 64, lie inside records of n and m bytes
+pub record Fair (row : List ℕ) (n m : ℕ) : Type 0 where
+  pub few : length row ≤ 320
   pub n-high : n ≤ 4096
   pub m-high : m ≤ 4096
-  pub each : (k : ℕ) → k < count → FairField n m (getD fields k noField)
+  pub each : (k : ℕ) → 5 * k + 5 ≤ length row → FairField n m (fieldAt row k)
 
 -- ---- what it answers
 

@@ -9,7 +9,8 @@ fn refused(deck: &[u8], refusal: usize, place: usize, column: usize) {
 
 // A deck that is here as a whole.
 fn whole(deck: &[u8]) {
-    let p = plans::plan_deck(deck);
+    let mut row = [0u16; 320];
+    let p = plans::plan_deck(deck, &mut row);
     if p.refusal != 0 {
         refused(deck, p.refusal, p.place, p.column);
         return;

@@ -1,32 +1,34 @@
 -- From what a deck asks for to its plan: the verdict's numbers are those of the rules, and an accepted plan is what was read.
 use mathlib.Core.Path.{_≡_, refl, ap, sym, subst, _∙_}
-use mathlib.Core.List.{List}
+use mathlib.Core.List.{List, []}
 use Prim.Native.Nat.{ℕ}
-use lib.ListN.{length, take}
-use Rattle.rules.specs.Places.{All}
+use lib.ListN.{length}
+use Rattle.rules.specs.Base.{joined}
+use Rattle.rules.specs.Halves.{Field as RuleField}
 use Rattle.rules.specs.Answer.{Refusal, Answer, fine, refuse, _>>=_}
-use Rattle.rules.specs.Asked.{Asked as RuleAsked, askedOf}
-use Rattle.rules.specs.Accepted.{Accepted}
+use Rattle.rules.specs.Asked.{fieldsOf, Asked as RuleAsked, askedOf}
 use Rattle.rules.specs.Plan.{Plan, planAnswer}
 use Rattle.rules.specs.Lent.{zoneF, plan}
 use Rattle.rules.proofs.AnswerLaws.{fine-same}
-use Rattle.rules.proofs.AcceptedLaws.{accepted, limited-of, limits-utility, limits-fields}
-use Rattle.rules.proofs.PlanSteps.{deck-refused, deck-asks}
-use Rattle.terms.specs.Meaning.{OneSize, Means}
+use Rattle.rules.proofs.AcceptedLaws.{limited-of, limits-utility, limits-fields}
+use Rattle.rules.proofs.PlanSteps.{never-0, deck-refused, deck-asks}
+use Rattle.terms.specs.Meaning.{Means, planIn}
 use Rattle.terms.specs.declared.Asked.{Asked}
+use Rattle.rows.specs.Flat.{flatOf}
+use Rattle.rows.specs.Kept.{rowOf}
 use Rattle.judges.specs.Promise.{planned, judgedOf, Asks}
-use Rattle.judges.proofs.JudgeLaws.{plan-same, fields-same}
+use Rattle.judges.proofs.JudgeLaws.{plan-same}
 use Rattle.cards.specs.Promise.{nothingAsked}
-use Rattle.plans.specs.Promise.{refusedWith, plannedBy, Verdicts, numbersIn, Holds, HoldsFor, Plans}
+use Rattle.plans.specs.Promise.{refusedWith, plannedBy, numbersIn, Holds, HoldsFor, Plans}
 use Rattle.plans.specs.declared.Planned.{Planned}
 
 -- ---- a deck that is refused by 1 to 7
 
-pub refused-deck : (deck : List ℕ) (q : Refusal) → askedOf deck ≡ refuse q → Plans deck (refusedWith (q .number) (q .place) (q .column))
+pub refused-deck : (deck : List ℕ) (q : Refusal) (row : List ℕ) → askedOf deck ≡ refuse q → row ≡ rowOf [] → Plans deck (refusedWith (q .number) (q .place) (q .column)) row
 unfolding plan
-refused-deck deck q e =
+refused-deck deck q row e none =
     let r = deck-refused zoneF deck q e in
-    record { numbers = ap planAnswer (sym r); held = subst (λ (z : Answer Plan). HoldsFor deck z nothingAsked) (sym r) refl }
+    record { numbers = ap planAnswer (sym r); held = subst (λ (z : Answer Plan). HoldsFor deck z nothingAsked row) (sym r) (refl, none) }
 
 -- ---- a deck that asks for something
 
@@ -36,41 +38,56 @@ unfolding judgedOf _>>=_
 numbers-by x (refuse r) many = refl
 numbers-by x (fine p) many = rw (many p refl)
 
-module _ (deck : List ℕ) (a : RuleAsked) (asks : askedOf deck ≡ fine a) (x : Asked) (m : Means x a) (one : All OneSize (take (x .count) (x .fields))) where
+module _ (deck : List ℕ) (a : RuleAsked) (asks : askedOf deck ≡ fine a) (x : Asked) (m : Means x a) where
+  abbrev fs : List RuleField
+  fs = fieldsOf (joined (a .cards))
+
   -- it can be judged
-  pub judgeable : Asks x
-  judgeable =
+  pub judgeable : (row : List ℕ) → row ≡ flatOf fs → Asks x row
+  judgeable row e =
       let l = limited-of deck a asks in
-      record { asked = a; means = m; utility = limits-utility a l; fields = limits-fields a l; one-size = one }
+      record { asked = a; means = m; utility = limits-utility a l; fields = limits-fields a l; flat = e }
 
-  module _ (many : length (x .fields) ≡ 64) where
-    is-planned : plan deck ≡ planned zoneF a
-    unfolding plan
-    is-planned = deck-asks zoneF deck a asks
+  is-planned : plan deck ≡ planned zoneF a
+  unfolding plan
+  is-planned = deck-asks zoneF deck a asks
 
-    holds : (p : Plan) → planned zoneF a ≡ fine p → Holds deck p x
-    unfolding plan
-    holds p e =
-        let same = plan-same x a m p e in
-        record {
-          is = same;
-          fair = record { accepted = subst Accepted (sym same) (accepted zoneF deck p (is-planned ∙ e)); few = m .few; many = many; one-size = one };
-          means = λ b q. subst (Means x) (fine-same a b (sym asks ∙ q)) m;
-        }
+  -- its fields are those of the plan
+  fields-same : (p : Plan) → planned zoneF a ≡ fine p → fs ≡ p .fields
+  unfolding planIn
+  fields-same p e = ap (λ (q : Plan). q .fields) (plan-same x a m p e)
 
-    held : (q : Answer Plan) → planned zoneF a ≡ q → HoldsFor deck q (plannedBy x (judgedOf q) .asked)
-    unfolding judgedOf _>>=_
-    held (refuse r) e = refl
-    held (fine p) e = holds p e
+  numbers-are : (r : Planned) → r ≡ plannedBy x (judgedOf (planned zoneF a)) → numbersIn r ≡ planAnswer (plan deck)
+  numbers-are r e = ap numbersIn e ∙ numbers-by x (planned zoneF a) (λ p q. m .count ∙ ap length (fields-same p q)) ∙ ap planAnswer (sym is-planned)
 
-    pub asked-deck : (r : Planned) → Verdicts x r → Plans deck r
-    unfolding Verdicts
-    asked-deck r v =
-        let e = v a m in
-        record {
-          numbers =
-              ap numbersIn e ∙ numbers-by x (planned zoneF a) (fields-same x a m many) ∙ ap planAnswer (sym is-planned);
-          held =
-              subst (λ (s : Planned). HoldsFor deck (plan deck) (s .asked)) (sym e)
-              (subst (λ (z : Answer Plan). HoldsFor deck z (plannedBy x (judgedOf (planned zoneF a)) .asked)) (sym is-planned) (held (planned zoneF a) refl));
-        }
+  -- accepted, and the row holds its fields
+  held : (row : List ℕ) → row ≡ rowOf fs → (p : Plan) → planned zoneF a ≡ fine p → Holds deck p x row
+  held row e p q =
+      let same = fields-same p q in
+      record {
+        is = ap (planIn zoneF x) (sym same) ∙ plan-same x a m p q;
+        fields = e ∙ ap rowOf same;
+        count = m .count ∙ ap length same;
+        means = λ b w. subst (Means x) (fine-same a b (sym asks ∙ w)) m;
+      }
+
+  pub asked-kept : (row : List ℕ) → row ≡ rowOf fs → (r : Planned) → r ≡ plannedBy x (judgedOf (planned zoneF a)) → r .refusal ≡ 0 → Plans deck r row
+  unfolding plan judgedOf _>>=_
+  asked-kept row full r e z = record { numbers = numbers-are r e; held = go (planned zoneF a) refl }
+    where
+      go : (q : Answer Plan) → planned zoneF a ≡ q → HoldsFor deck (plan deck) (r .asked) row
+      go (fine p) w =
+          let i : r .asked ≡ x = ap (λ (s : Planned). s .asked) (e ∙ ap (λ (z : Answer Plan). plannedBy x (judgedOf z)) w) in
+          subst (λ (z : Answer Plan). HoldsFor deck z (r .asked) row) (sym (is-planned ∙ w)) (subst (λ (y : Asked). Holds deck p y row) (sym i) (held row full p w))
+      go (refuse q) w = absurd (never-0 zoneF deck q (is-planned ∙ w) (sym (ap (λ (s : Planned). s .refusal) (e ∙ ap (λ (z : Answer Plan). plannedBy x (judgedOf z)) w)) ∙ z))
+
+  -- refused, and the row is cleared
+  pub asked-refused : (row : List ℕ) → row ≡ rowOf [] → (r : Planned) → r ≡ plannedBy x (judgedOf (planned zoneF a)) → (r .refusal ≡ 0 → ⊥) → Plans deck r row
+  unfolding plan judgedOf _>>=_
+  asked-refused row none r e n = record { numbers = numbers-are r e; held = go (planned zoneF a) refl }
+    where
+      go : (q : Answer Plan) → planned zoneF a ≡ q → HoldsFor deck (plan deck) (r .asked) row
+      go (fine p) w = absurd (n (ap (λ (s : Planned). s .refusal) (e ∙ ap (λ (z : Answer Plan). plannedBy x (judgedOf z)) w)))
+      go (refuse q) w =
+          subst (λ (z : Answer Plan). HoldsFor deck z (r .asked) row) (sym (is-planned ∙ w))
+          (ap (λ (s : Planned). s .asked) (e ∙ ap (λ (z : Answer Plan). plannedBy x (judgedOf z)) w), none)

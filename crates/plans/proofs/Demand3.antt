@@ -14,10 +14,10 @@ use Rattle.plans.proofs.FilledLaws.{accepted-plan}
 
 -- marked as keeping exactly if no two different records that the plan converts give one output record; else the lost place is the lowest half
 -- in which alone two such records differ, or 2n
-pub demand3 : (deck : List ℕ) (r : Planned) → Plans deck r → r .refusal ≡ 0 → (p : Plan) × (plan deck ≡ fine p) × Judged p (r .keeping) (r .lost)
+pub demand3 : (deck : List ℕ) (r : Planned) (row : List ℕ) → Plans deck r row → r .refusal ≡ 0 → (p : Plan) × (plan deck ≡ fine p) × Judged p (r .keeping) (r .lost)
 unfolding plan
-demand3 deck r w z =
-    let s = accepted-plan deck r w z in (
+demand3 deck r row w z =
+    let s = accepted-plan deck r row w z in (
       s .0,
       s .1,
       subst (λ (n : PlanAnswer). Judged (s .0) (n .keeping) (n .lost)) (sym (w .numbers)) (rules-demand3 zoneF (omega arith) deck (s .0) (s .1)),

@@ -2,52 +2,50 @@
 use mathlib.Core.Path.{_≡_, refl, ap, sym, subst, _∙_}
 use mathlib.Core.List.{List}
 use Prim.Native.Nat.{ℕ}
-use lib.ListN.{length}
+use Rattle.rules.specs.Base.{joined}
 use Rattle.rules.specs.Answer.{Answer, fine, refuse}
-use Rattle.rules.specs.Asked.{Asked as RuleAsked}
-use Rattle.rules.specs.Plan.{Plan, planOf}
-use Rattle.rules.specs.Lent.{plan, planInto}
-use Rattle.rules.proofs.AnswerLaws.{bind-fine}
+use Rattle.rules.specs.Asked.{fieldsOf, Asked as RuleAsked}
+use Rattle.rules.specs.Plan.{Plan, planOf, assembled}
+use Rattle.rules.specs.Lent.{zoneF, plan, planInto}
+use Rattle.rules.proofs.AnswerLaws.{fine-same, bind-fine, then-fine}
 use Rattle.terms.specs.declared.Asked.{Asked}
-use Rattle.cards.specs.Promise.{Said, DeckSays}
+use Rattle.rows.specs.Kept.{rowOf}
+use Rattle.cards.specs.Promise.{Reads, DeckSays}
 use Rattle.cards.specs.declared.DeckRead.{DeckRead}
-use Rattle.cards.proofs.CopySizes.{sizes-read}
 use Rattle.cards.proofs.PromiseLaws.{only-one as read-once}
 use Rattle.plans.specs.Promise.{Holds, HoldsFor, Plans, filledFor}
 use Rattle.plans.specs.declared.Planned.{Planned}
 use Rattle.plans.specs.declared.Filled.{Filled}
-use Rattle.plans.proofs.FilledLaws.{fields-are, count-is}
 
 -- ---- of a plan
 
 module _ (deck : List ℕ) (p : Plan) (e : plan deck ≡ fine p) where
-  held-read : (x : Asked) → Holds deck p x → DeckSays deck (record { refusal = 0; place = 0; column = 0; asked = x })
-  unfolding plan planOf
-  held-read x h =
+  held-read : (x : Asked) (row : List ℕ) → Holds deck p x row → DeckSays deck (record { refusal = 0; place = 0; column = 0; asked = x }) row
+  unfolding plan planOf assembled
+  held-read x row h =
       let s = bind-fine _ _ p e in
-      let m = h .means (s .0) (s .1) in
-      subst (λ (z : Answer RuleAsked). Said z (record { refusal = 0; place = 0; column = 0; asked = x })) (sym (s .1))
-      (record {
-        refusal = refl;
-        place = refl;
-        column = refl;
-        means = m;
-        count = count-is deck p x h ∙ ap length (sym (fields-are deck p x h) ∙ m .fields);
-        sizes = sizes-read (h .fair .one-size);
-      })
+      let same : p .fields ≡ fieldsOf (joined (s .0 .cards)) = sym (ap (λ (q : Plan). q .fields) (fine-same (assembled zoneF (s .0)) p (then-fine _ _ p (s .2) .1))) in
+      record {
+        reads =
+            subst (λ (z : Answer RuleAsked). Reads z (record { refusal = 0; place = 0; column = 0; asked = x }) row) (sym (s .1))
+            (record { refusal = refl; place = refl; column = refl; means = h .means (s .0) (s .1); fields = h .fields ∙ ap rowOf same });
+        none = λ n. absurd (n refl);
+      }
 
-  held-once : (x y : Asked) → Holds deck p x → Holds deck p y → x ≡ y
-  held-once x y h k = ap (λ (d : DeckRead). d .asked) (read-once deck _ _ (held-read x h) (held-read y k))
+  held-once : (x y : Asked) (one other : List ℕ) → Holds deck p x one → Holds deck p y other → (x ≡ y) × (one ≡ other)
+  held-once x y one other h k =
+      let w = read-once deck _ _ one other (held-read x one h) (held-read y other k) in
+      (ap (λ (d : DeckRead). d .asked) (w .0), w .1)
 
-pub only-one : (deck : List ℕ) (r s : Planned) → Plans deck r → Plans deck s → r ≡ s
-only-one deck r s w v =
+pub only-one : (deck : List ℕ) (r s : Planned) (one other : List ℕ) → Plans deck r one → Plans deck s other → (r ≡ s) × (one ≡ other)
+only-one deck r s one other w v =
     let n = w .numbers ∙ sym (v .numbers) in
     let a = go (plan deck) refl (w .held) (v .held) in
-    λ i. record { refusal = n i .refusal; place = n i .place; column = n i .column; keeping = n i .keeping; lost = n i .lost; fields = n i .fields; asked = a i }
+    (λ i. record { refusal = n i .refusal; place = n i .place; column = n i .column; keeping = n i .keeping; lost = n i .lost; fields = n i .fields; asked = a .0 i }, a .1)
   where
-    go : (x : Answer Plan) → plan deck ≡ x → HoldsFor deck x (r .asked) → HoldsFor deck x (s .asked) → r .asked ≡ s .asked
-    go (fine p) e h k = held-once deck p e (r .asked) (s .asked) h k
-    go (refuse q) e h k = h ∙ sym k
+    go : (x : Answer Plan) → plan deck ≡ x → HoldsFor deck x (r .asked) one → HoldsFor deck x (s .asked) other → (r .asked ≡ s .asked) × (one ≡ other)
+    go (fine p) e h k = held-once deck p e (r .asked) (s .asked) one other h k
+    go (refuse q) e h k = (h .0 ∙ sym (k .0), h .1 ∙ sym (k .1))
 
 -- ---- of a table
 

@@ -1,17 +1,21 @@
 -- The entries of a table, field by field: while it is filled, it holds the entries of the fields so far, and nothing behind them.
 use mathlib.Core.Path.{_≡_, refl, ap, sym, _∙_}
 use mathlib.Core.List.{List, [], _∷_, _++_, map}
-use Prim.Native.Nat.{ℕ, suc, _+_, _-_, _≤_, _<_}
+use Prim.Native.Nat.{ℕ, suc, _+_, _-_, _/_, _≤_, _<_}
 use native.Mathlib.Numerals.{add-one}
 use native.Mathlib.Omega.{arith}
 use lib.ListN.{length, take, getD, set, replicate, length-map}
-use lib.Seq.{take-suc, set-at, append-snoc, length-take-le}
+use lib.Seq.{take-suc, take-length, set-at, append-snoc, length-take-le}
+use Rattle.rules.specs.Halves.{Field as RuleField}
 use Rattle.rules.specs.Lent.{kindNumber, entryOf}
 use Rattle.terms.specs.Meaning.{kindOf, fieldOf, OneSize, noField, entryFor, noEntry}
 use Rattle.terms.specs.declared.Kind.{Kind}
 use Rattle.terms.specs.declared.Kind.the-variants.{Copy, Pack, Unpack}
 use Rattle.terms.specs.declared.Field.{Field}
 use Rattle.terms.specs.declared.Entry.{Entry}
+use Rattle.rows.specs.Flat.{fieldAt}
+use Rattle.rows.specs.Kept.{fieldsIn}
+use Rattle.rows.proofs.RowLaws.{many-in, field-in}
 use Rattle.combinations.proofs.OutsideLaws.{input-size, output-size}
 use Rattle.plans.specs.Promise.{tableOf}
 
@@ -38,48 +42,49 @@ entry-is f k e one =
 
 -- ---- the table while it is filled
 
-pub record Filling (fields : List Field) (count : ℕ) (out : List Entry) (i : ℕ) : Type 0 where
-  pub so-far : i ≤ count
-  pub is : out ≡ tableOf (map fieldOf (take i fields))
+pub record Filling (row : List ℕ) (out : List Entry) (i : ℕ) : Type 0 where
+  pub so-far : i ≤ length row / 5
+  pub is : out ≡ tableOf (take i (fieldsIn row))
 
-pub fill-start : (fields : List Field) (count : ℕ) (out : List Entry) → out ≡ tableOf [] → Filling fields count out 0
-fill-start fields count out e = record { so-far = omega arith; is = e }
+pub fill-start : (row : List ℕ) (out : List Entry) → out ≡ tableOf [] → Filling row out 0
+fill-start row out e = record { so-far = omega arith; is = e }
 
 -- one more field
-map-snoc : (fs : List Field) (f : Field) → map entryFor (map entryOf (map fieldOf (fs ++ f ∷ []))) ≡ map entryFor (map entryOf (map fieldOf fs)) ++ entryFor (entryOf (fieldOf f)) ∷ []
+map-snoc : (fs : List RuleField) (f : RuleField) → map entryFor (map entryOf (fs ++ f ∷ [])) ≡ map entryFor (map entryOf fs) ++ entryFor (entryOf f) ∷ []
 map-snoc [] f = refl
-map-snoc (g ∷ fs) f = ap (entryFor (entryOf (fieldOf g)) ∷_) (map-snoc fs f)
+map-snoc (g ∷ fs) f = ap (entryFor (entryOf g) ∷_) (map-snoc fs f)
 
-module _ (fields : List Field) (many : length fields ≡ 64) where
+module _ (row : List ℕ) (few : length row ≤ 320) where
   -- the first i entries, and the rest
-  length-fields : (i : ℕ) → i ≤ 64 → length (map fieldOf (take i fields)) ≡ i
-  length-fields i l = length-map (take i fields) fieldOf ∙ length-take-le i fields (omega (arith, many))
+  length-fields : (i : ℕ) → i ≤ length row / 5 → length (take i (fieldsIn row)) ≡ i
+  length-fields i l = length-take-le i (fieldsIn row) (omega (arith, many-in row))
 
   abbrev made : ℕ → List Entry
-  made i = map entryFor (map entryOf (map fieldOf (take i fields)))
+  made i = map entryFor (map entryOf (take i (fieldsIn row)))
 
-  length-made : (i : ℕ) → i ≤ 64 → length (made i) ≡ i
-  length-made i l = length-map (map entryOf (map fieldOf (take i fields))) entryFor ∙ length-map (map fieldOf (take i fields)) entryOf ∙ length-fields i l
+  length-made : (i : ℕ) → i ≤ length row / 5 → length (made i) ≡ i
+  length-made i l = length-map (map entryOf (take i (fieldsIn row))) entryFor ∙ length-map (take i (fieldsIn row)) entryOf ∙ length-fields i l
 
-  table-at : (i : ℕ) → i ≤ 64 → tableOf (map fieldOf (take i fields)) ≡ made i ++ replicate (64 - i) noEntry
+  table-at : (i : ℕ) → i ≤ length row / 5 → tableOf (take i (fieldsIn row)) ≡ made i ++ replicate (64 - i) noEntry
   unfolding tableOf
   table-at i l = ap (λ (n : ℕ). made i ++ replicate (64 - n) noEntry) (length-fields i l)
 
-  set-next : (i : ℕ) → i < 64 → (e : Entry) → e ≡ entryFor (entryOf (fieldOf (getD fields i noField)))
-      → set (tableOf (map fieldOf (take i fields))) i e ≡ tableOf (map fieldOf (take (i + 1) fields))
+  set-next : (i : ℕ) → i < length row / 5 → (e : Entry) → e ≡ entryFor (entryOf (fieldOf (fieldAt row i)))
+      → set (tableOf (take i (fieldsIn row))) i e ≡ tableOf (take (i + 1) (fieldsIn row))
   set-next i l e q =
+      let d = fieldOf noField in
       let room : 64 - i ≡ suc (64 - (i + 1)) = omega arith in
       ap (λ (t : List Entry). set t i e) (table-at i (omega arith) ∙ ap (λ (n : ℕ). made i ++ replicate n noEntry) room)
       ∙ set-at (made i) noEntry (replicate (64 - (i + 1)) noEntry) e i (length-made i (omega arith))
-      ∙ ap (λ (v : Entry). made i ++ v ∷ replicate (64 - (i + 1)) noEntry) q
+      ∙ ap (λ (v : Entry). made i ++ v ∷ replicate (64 - (i + 1)) noEntry) (q ∙ ap (λ (f : RuleField). entryFor (entryOf f)) (sym (field-in row d i (omega arith))))
       ∙ sym (append-snoc (made i) _ (replicate (64 - (i + 1)) noEntry))
-      ∙ ap (_++ replicate (64 - (i + 1)) noEntry) (sym (map-snoc (take i fields) (getD fields i noField)) ∙ ap (λ (fs : List Field). map entryFor (map entryOf (map fieldOf fs))) (sym (take-suc fields i noField (omega (arith, many))) ∙ ap (λ (n : ℕ). take n fields) (sym (add-one i))))
+      ∙ ap (_++ replicate (64 - (i + 1)) noEntry) (sym (map-snoc (take i (fieldsIn row)) (getD (fieldsIn row) i d)) ∙ ap (λ (fs : List RuleField). map entryFor (map entryOf fs)) (sym (take-suc (fieldsIn row) i d (omega (arith, many-in row))) ∙ ap (λ (n : ℕ). take n (fieldsIn row)) (sym (add-one i))))
       ∙ sym (table-at (i + 1) (omega arith))
 
-  pub fill-more : (count : ℕ) → count ≤ 64 → (out : List Entry) (i : ℕ) → Filling fields count out i → i < count → (e : Entry)
-      → e ≡ entryFor (entryOf (fieldOf (getD fields i noField))) → Filling fields count (set out i e) (i + 1)
-  fill-more count few out i f l e q =
-      record { so-far = omega arith; is = ap (λ (t : List Entry). set t i e) (f .is) ∙ set-next i (omega arith) e q }
+  pub fill-more : (out : List Entry) (i : ℕ) → Filling row out i → i < length row / 5 → (e : Entry) → e ≡ entryFor (entryOf (fieldOf (fieldAt row i))) → Filling row (set out i e) (i + 1)
+  fill-more out i f l e q = record { so-far = omega arith; is = ap (λ (t : List Entry). set t i e) (f .is) ∙ set-next i (omega arith) e q }
 
-pub fill-end : (fields : List Field) (count : ℕ) (out : List Entry) (i : ℕ) → Filling fields count out i → count ≤ i → out ≡ tableOf (map fieldOf (take count fields))
-fill-end fields count out i f l = let e : i ≡ count = omega (arith, f .so-far) in f .is ∙ ap (λ (n : ℕ). tableOf (map fieldOf (take n fields))) e
+pub fill-end : (row : List ℕ) (out : List Entry) (i : ℕ) → Filling row out i → length row / 5 ≤ i → out ≡ tableOf (fieldsIn row)
+fill-end row out i f l =
+    let e : i ≡ length (fieldsIn row) = omega (arith, f .so-far, many-in row) in
+    f .is ∙ ap tableOf (ap (λ (n : ℕ). take n (fieldsIn row)) e ∙ take-length (fieldsIn row))

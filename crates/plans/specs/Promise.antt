@@ -3,15 +3,17 @@ use mathlib.Core.Path.{_≡_}
 use mathlib.Core.List.{List, [], _++_, map}
 use Prim.Native.Nat.{ℕ, _-_}
 use lib.ListN.{length, replicate}
+use Rattle.rules.specs.Base.{joined}
 use Rattle.rules.specs.Answer.{Answer, fine, refuse}
 use Rattle.rules.specs.Halves.{Field as RuleField}
-use Rattle.rules.specs.Asked.{Asked as RuleAsked, askedOf}
+use Rattle.rules.specs.Asked.{fieldsOf, Asked as RuleAsked, askedOf}
 use Rattle.rules.specs.Plan.{Plan, PlanAnswer, planAnswer}
 use Rattle.rules.specs.Lent.{zoneF, entryOf, plan}
 use Rattle.terms.specs.Meaning.{Means, planIn, entryFor, noEntry}
-use Rattle.terms.specs.Fair.{PlanFair}
 use Rattle.terms.specs.declared.Asked.{Asked}
 use Rattle.terms.specs.declared.Entry.{Entry}
+use Rattle.rows.specs.Flat.{flatOf}
+use Rattle.rows.specs.Kept.{rowOf}
 use Rattle.cards.specs.Promise.{nothingAsked}
 use Rattle.judges.specs.Promise.{planned, judgedOf}
 use Rattle.plans.specs.declared.Planned.{Planned}
@@ -30,32 +32,33 @@ abbrev pub plannedBy : Asked → Answer (ℕ × ℕ) → Planned
 plannedBy x (fine n) = keptAs x (n .0) (n .1)
 plannedBy x (refuse r) = refusedWith (r .number) (r .place) (r .column)
 
-unfoldable pub Verdicts : Asked → Planned → Type 0
-Verdicts x r = (a : RuleAsked) → Means x a → r ≡ plannedBy x (judgedOf (planned zoneF a))
+unfoldable pub Verdicts : Asked → List ℕ → Planned → Type 0
+Verdicts x row r = (a : RuleAsked) → Means x a → row ≡ flatOf (fieldsOf (joined (a .cards))) → r ≡ plannedBy x (judgedOf (planned zoneF a))
 
 -- the six numbers
 abbrev pub numbersIn : Planned → PlanAnswer
 numbersIn r = record { refusal = r .refusal; place = r .place; column = r .column; keeping = r .keeping; lost = r .lost; fields = r .fields }
 
--- the struct holds the plan p of the deck: it says just what the deck asks for
-pub record Holds (deck : List ℕ) (p : Plan) (x : Asked) : Type 0 where
-  pub is : planIn zoneF x ≡ p
-  pub fair : PlanFair x
+-- the struct and the row hold the plan p of the deck: they say just what the deck asks for
+pub record Holds (deck : List ℕ) (p : Plan) (x : Asked) (row : List ℕ) : Type 0 where
+  pub is : planIn zoneF x (p .fields) ≡ p
+  pub fields : row ≡ rowOf (p .fields)
+  pub count : x .count ≡ length (p .fields)
   pub means : (a : RuleAsked) → askedOf deck ≡ fine a → Means x a
 
--- where the deck is refused it holds nothing
-abbrev pub HoldsFor : List ℕ → Answer Plan → Asked → Type 0
-HoldsFor deck (fine p) x = Holds deck p x
-HoldsFor deck (refuse r) x = x ≡ nothingAsked
+-- where the deck is refused they hold nothing
+abbrev pub HoldsFor : List ℕ → Answer Plan → Asked → List ℕ → Type 0
+HoldsFor deck (fine p) x row = Holds deck p x row
+HoldsFor deck (refuse r) x row = (x ≡ nothingAsked) × (row ≡ rowOf [])
 
-pub record Plans (deck : List ℕ) (r : Planned) : Type 0 where
+pub record Plans (deck : List ℕ) (r : Planned) (row : List ℕ) : Type 0 where
   pub numbers : numbersIn r ≡ planAnswer (plan deck)
-  pub held : HoldsFor deck (plan deck) (r .asked)
+  pub held : HoldsFor deck (plan deck) (r .asked) row
 
 -- it is the plan of some deck
-pub record OfDeck (r : Planned) : Type 0 where
+pub record OfDeck (r : Planned) (row : List ℕ) : Type 0 where
   pub deck : List ℕ
-  pub plans : Plans deck r
+  pub plans : Plans deck r row
 
 -- ---- the fields for a lent table
 

@@ -5,18 +5,19 @@ use terms::Entry;
 use terms::Field;
 use terms::Kind;
 ghost use mathlib.Core.Path.{_≡_};
-ghost use mathlib.Core.List.{List, [], map};
-ghost use Prim.Native.Nat.{ℕ};
-ghost use lib.ListN.{take};
+ghost use mathlib.Core.List.{List, []};
+ghost use Prim.Native.Nat.{ℕ, _*_, _≤_};
+ghost use lib.ListN.{length, take};
 ghost use Rattle.rules.specs.Lent.{kindNumber, entryOf, planInto};
 ghost use Rattle.terms.specs.Meaning.{kindOf, fieldOf, entryFor};
+ghost use Rattle.rows.specs.Kept.{fieldsIn, rowOf};
 ghost use Rattle.combinations.specs.Promise.{FieldFair, FieldsFair};
 ghost use Rattle.judges.specs.Promise.{Asks};
 ghost use Rattle.plans.specs.Promise.{refusedWith, keptAs, Verdicts, Plans, OfDeck, tableOf, notFilled, filledFor};
 
 // ---- the plan of a deck
 
-// What a plan answers, and the plan: what the deck asks for, or nothing where it is refused.
+// What a plan answers, and the plan but for its fields, which stand in a row: what the deck asks for, or nothing where it is refused.
 pub struct Planned {
     pub refusal: usize,
     pub place: usize,
@@ -58,11 +59,13 @@ fn accepted(asked: Asked, keeping: usize, lost: usize) -> Planned
 }
 
 // What the cards ask for, judged. No byte of a card is at fault for 8 to 10, so these have no column.
-fn judged(asked: Asked) -> Planned
-    requires { ⌜ Asks asked ⌝ }
-    ensures { λ r. ⌜ Verdicts asked r ⌝ }
+fn judged(asked: Asked, row: &[u16]) -> Planned
+    requires { ⌜ 5 * asked .count ≤ length (now row) ⌝ }
+    requires { ⌜ Asks asked (take (5 * asked .count) (now row)) ⌝ }
+    ensures { λ r. ⌜ Verdicts asked (take (5 * asked .count) (now (row .entry))) r ⌝ }
 {
-    let verdict = judges::judge(asked);
+    let end = 5 * asked.count;
+    let verdict = judges::judge(asked, &row[..end]);
     match verdict {
         Verdict::Refused { number, place } => refused(number, place, 0),
         Verdict::Keeping => accepted(asked, 1, 0),
@@ -70,16 +73,21 @@ fn judged(asked: Asked) -> Planned
     }
 }
 
-// The plan of a deck.
-pub fn plan_deck(deck: &[u8]) -> Planned
-    ensures { λ r. ⌜ Plans (now (deck .entry)) r ⌝ }
+// The plan of a deck. Its fields go into the lent row, which holds none before; a refused deck leaves none in it.
+pub fn plan_deck(deck: &[u8], row: &mut [u16; 320]) -> Planned
+    requires { ⌜ now row ≡ rowOf [] ⌝ }
+    ensures { λ r. ⌜ Plans (now (deck .entry)) r (now (row .exit)) ⌝ }
 {
-    let read = cards::read_deck(deck);
+    let read = cards::read_deck(deck, row);
     if read.refusal != 0 {
         return refused(read.refusal, read.place, read.column);
     }
     let asked = read.asked;
-    judged(asked)
+    let answer = judged(asked, row);
+    if answer.refusal != 0 {
+        rows::clear(row);
+    }
+    answer
 }
 
 // ---- entries
@@ -123,14 +131,15 @@ fn no_entries() -> [Entry; 64]
 }
 
 // The fields of a plan in order.
-fn entries(fields: [Field; 64], count: usize) -> [Entry; 64]
-    requires { ⌜ FieldsFair fields count ⌝ }
-    ensures { λ r. ⌜ r ≡ tableOf (map fieldOf (take count fields)) ⌝ }
+fn entries(fields: &[u16]) -> [Entry; 64]
+    requires { ⌜ FieldsFair (now fields) × (length (now fields) ≤ 320) ⌝ }
+    ensures { λ r. ⌜ r ≡ tableOf (fieldsIn (now (fields .entry))) ⌝ }
 {
+    let count = fields.len() / 5;
     let mut out = no_entries();
     let mut i: usize = 0;
     while i < count {
-        let f = fields[i];
+        let f = rows::field_at(fields, i);
         out[i] = entry(f);
         i += 1;
     }
@@ -168,9 +177,9 @@ fn not_filled(number: usize, place: usize, column: usize) -> Filled
 }
 
 // Refusal 15: the table has fewer entries than the plan has fields.
-fn filled_by(planned: Planned, room: usize) -> Filled
-    requires { ⌜ OfDeck planned ⌝ }
-    ensures { λ r. ⌜ ((deck : List ℕ) → Plans deck planned → r ≡ filledFor (planInto room deck)) ⌝ }
+fn filled_by(planned: Planned, row: &[u16], room: usize) -> Filled
+    requires { ⌜ OfDeck planned (now row) ⌝ }
+    ensures { λ r. ⌜ ((deck : List ℕ) → Plans deck planned (now (row .entry)) → r ≡ filledFor (planInto room deck)) ⌝ }
 {
     if planned.refusal != 0 {
         return not_filled(planned.refusal, planned.place, planned.column);
@@ -179,9 +188,8 @@ fn filled_by(planned: Planned, room: usize) -> Filled
     if room < count {
         return not_filled(15, count, 0);
     }
-    let asked = planned.asked;
-    let fields = asked.fields;
-    let table = entries(fields, count);
+    let end = 5 * count;
+    let table = entries(&row[..end]);
     Filled {
         refusal: 0,
         place: 0,
@@ -198,6 +206,7 @@ fn filled_by(planned: Planned, room: usize) -> Filled
 pub fn plan_for(deck: &[u8], room: usize) -> Filled
     ensures { λ r. ⌜ r ≡ filledFor (planInto room (now (deck .entry))) ⌝ }
 {
-    let planned = plan_deck(deck);
-    filled_by(planned, room)
+    let mut row = [0u16; 320];
+    let planned = plan_deck(deck, &mut row);
+    filled_by(planned, &row, room)
 }

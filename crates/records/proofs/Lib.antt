@@ -1,4 +1,3 @@
-mod FlattenLaws
 mod CoverLaws
 mod PutLaws
 pub mod PromiseLaws

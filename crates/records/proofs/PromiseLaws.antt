@@ -2,7 +2,7 @@
 -- outcome only. It holds since the numbers say which fields they are of.
 use mathlib.Core.Path.{_≡_, refl, ap, ap₂, sym, _∙_}
 use mathlib.Core.Bool.{Bool, true, false, cond}
-use mathlib.Core.List.{List, [], _++_}
+use mathlib.Core.List.{List, []}
 use Prim.Native.Nat.{ℕ, _+_, _-_, _≤_}
 use lib.ListN.{length, take, drop, replicate, length-append, length-drop, length-replicate}
 use borrow.Author.Tests.{leb-true}
@@ -51,9 +51,6 @@ bytes-size {n = n} {m} {fs} fair c r long =
     tail false = refl
 
 -- ---- one outcome only
-
-pub flatten-only-one : (fs : List Field) (k : ℕ) (x y : List ℕ) → x ≡ flatOf fs ++ replicate k 0 → y ≡ flatOf fs ++ replicate k 0 → x ≡ y
-flatten-only-one fs k x y e g = e ∙ sym g
 
 pub covers-only-one : (fs : List Field) (m : ℕ) (x y : Bool) → Covers (flatOf fs) m x → Covers (flatOf fs) m y → x ≡ y
 unfolding Covers

@@ -1,37 +1,20 @@
-// Writing the output of one record. Document 01, "Blocks and records" and "Half bytes". The fields of a plan are flattened once, five numbers to a
-// field, and lent for every record, so that no record copies the plan.
+// Writing the output of one record. Document 01, "Blocks and records" and "Half bytes". The fields of a plan are lent for every
+// record as a row of numbers, five to a field, so that no record copies the plan.
 ghost use mathlib.Core.Path.{_≡_};
 ghost use mathlib.Core.Bool.{cond};
-ghost use mathlib.Core.List.{_++_, map};
-ghost use Prim.Native.Nat.{_+_, _-_, _*_, _≤_, _<_};
-ghost use lib.ListN.{length, take, replicate};
-ghost use Rattle.rules.specs.Places.{All};
+ghost use Prim.Native.Nat.{_+_, _-_, _≤_, _<_};
+ghost use lib.ListN.{length, replicate};
 ghost use Rattle.rules.specs.Halves.{outputSize};
 ghost use Rattle.rules.specs.Lent.{zoneF};
 ghost use Rattle.rules.specs.Rows.{KindWithin};
 ghost use Rattle.rules.specs.RecordParts.{convertedBytes};
-ghost use Rattle.terms.specs.Meaning.{kindOf, fieldOf};
-ghost use Rattle.rows.specs.Flat.{flatOf, kindAt, Short, Fielded};
+ghost use Rattle.terms.specs.Meaning.{kindOf};
+ghost use Rattle.rows.specs.Flat.{kindAt, Fielded};
 ghost use Rattle.records.specs.Promise.{Writes, Puts, Covers, fartherOf, groundOf};
 use terms::Field;
 
 // What stands where no field writes.
 const BLANK: u8 = 0x40;
-
-// The numbers of the first count fields, and zeros behind them.
-pub fn flatten(fields: [Field; 64], count: usize) -> [u16; 320]
-    requires { ⌜ count ≤ 64 ⌝ }
-    requires { ⌜ All Short (map fieldOf (take count fields)) ⌝ }
-    ensures { λ r. ⌜ r ≡ flatOf (map fieldOf (take count fields)) ++ replicate (320 - 5 * count) 0 ⌝ }
-{
-    let mut flat = [0u16; 320];
-    let mut i = 0;
-    while i < count {
-        rows::put_numbers(&mut flat, 5 * i, fields[i]);
-        i += 1;
-    }
-    flat
-}
 
 // Fills a part with blanks.
 fn put_blanks(part: &mut [u8])

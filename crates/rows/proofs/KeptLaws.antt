@@ -1,6 +1,5 @@
--- A field of the rules and the field as it is kept say the same, each the other, where a copy's size stands in both places. By its kind.
+-- A field of the rules and the field as it is read say the same, each the other, where a copy's size stands in both places. By its kind.
 use mathlib.Core.Path.{_≡_, refl, ap}
-use mathlib.Core.List.{List, [], _∷_, map}
 use Prim.Native.Nat.{ℕ}
 use native.Mathlib.Omega.{arith}
 use Rattle.rules.specs.Halves.{Kind as RuleKind, copy, pack, unpack, inputSize, outputSize, Field as RuleField}
@@ -13,14 +12,10 @@ kind-meant (copy s) = refl
 kind-meant (pack n m) = refl
 kind-meant (unpack n m) = refl
 
--- what is kept means the field
+-- what is read means the field
 pub field-meant : (f : RuleField) → fieldOf (fieldFor f) ≡ f
 unfolding fieldFor fieldOf
 field-meant f = ap (λ (k : RuleKind). record { r = f .r; kind = k; t = f .t }) (kind-meant (f .kind))
-
-pub fields-meant : (fs : List RuleField) → map fieldOf (map fieldFor fs) ≡ fs
-fields-meant [] = refl
-fields-meant (f ∷ fs) = λ i. field-meant f i ∷ fields-meant fs i
 
 size-once : (k : RuleKind) → kindFor k ≡ Copy → inputSize k ≡ outputSize k
 size-once (copy s) e = refl

@@ -7,7 +7,7 @@ ghost use Rattle.rules.specs.Halves.{outputSize, over};
 ghost use Rattle.rules.specs.Lent.{kindNumber};
 ghost use Rattle.terms.specs.Meaning.{fieldOf};
 ghost use Rattle.rows.specs.Flat.{flatOf, kindAt, fieldAt, Short};
-ghost use Rattle.rows.specs.Kept.{rowFields};
+ghost use Rattle.rows.specs.Kept.{rowOf};
 use terms::Field;
 use terms::Kind;
 
@@ -82,23 +82,14 @@ pub fn field_at(fields: &[u16], i: usize) -> Field
     }
 }
 
-// The first count fields of a row, and no field behind them.
-pub fn fields(row: [u16; 320], count: usize) -> [Field; 64]
-    requires { ⌜ count ≤ 64 ⌝ }
-    ensures { λ r. ⌜ r ≡ rowFields row count ⌝ }
+// No field stands in the row.
+pub fn clear(row: &mut [u16; 320])
+    requires { ⌜ length (now row) ≡ 320 ⌝ }
+    ensures { λ _. ⌜ now (row .exit) ≡ rowOf [] ⌝ }
 {
-    let none = Field {
-        kind: Kind::Copy,
-        r: 0,
-        input: 0,
-        output: 0,
-        t: 0,
-    };
-    let mut out = [none; 64];
     let mut i = 0;
-    while i < count {
-        out[i] = field_at(&row, i);
+    while i < 320 {
+        row[i] = 0;
         i += 1;
     }
-    out
 }

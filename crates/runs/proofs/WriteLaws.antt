@@ -1,22 +1,18 @@
 -- A run that finishes has what the writers ask, and what they write is what the rules say; a run that is refused leaves the lent output. By the parts of a
 -- finished run, and since no refusal has the number 0.
 use mathlib.Core.Path.{_≡_, refl, ap, sym, _∙_, subst}
-use mathlib.Core.Bool.{Bool, true, false}
-use mathlib.Core.List.{List, [], _∷_, _++_, map}
-use Prim.Native.Nat.{ℕ, zero, suc, _+_, _*_, _-_, _≤_, _<_}
+use mathlib.Core.Bool.{false}
+use mathlib.Core.List.{List, _++_}
+use Prim.Native.Nat.{ℕ, _≤_, _<_}
 use native.Mathlib.Omega.{arith}
-use lib.ListN.{length, take, drop, replicate, length-map}
-use lib.Seq.{length-take-le}
-use Rattle.rules.specs.Base.{joined}
+use lib.ListN.{length, drop}
 use Rattle.rules.specs.Answer.{Answer, fine, refuse}
 use Rattle.rules.specs.Places.{All, Byte}
-use Rattle.rules.specs.Grammar.{Mode, tc}
-use Rattle.rules.specs.Halves.{over}
-use Rattle.rules.specs.Reel.{isReel, blocksOf, reelOf}
+use Rattle.rules.specs.Grammar.{tc}
+use Rattle.rules.specs.Halves.{Field as RuleField, over}
+use Rattle.rules.specs.Reel.{reelOf}
 use Rattle.rules.specs.Plan.{Plan, isTC}
-use Rattle.rules.specs.Output.{blockOf}
 use Rattle.rules.specs.Run.{Ran as RuleRan, ranOf, convert, outputBlocks}
-use Rattle.rules.specs.Accepted.{Accepted}
 use Rattle.rules.specs.Lent.{zoneF, runAnswer, outputAfter}
 use Rattle.rules.proofs.Bounds.{reel-most}
 use Rattle.rules.proofs.BlocksOutcome.{reads-give}
@@ -26,15 +22,14 @@ use Rattle.rules.proofs.RunParts.{Finished, finished}
 use Rattle.rules.proofs.RunColumns.{Refuses, refuses-convert}
 use Rattle.terms.specs.declared.Asked.{Asked}
 use Rattle.terms.specs.declared.Task.{Task}
-use Rattle.terms.specs.Meaning.{modeOf, fieldOf, fieldsIn, planIn, TaskIs}
-use Rattle.rows.specs.Flat.{flatOf, Short}
-use Rattle.rows.proofs.FlatLaws.{length-flat}
-use Rattle.rows.proofs.RowLaws.{short-of, flat-front}
-use Rattle.fixed.specs.Promise.{blocksIn, Ready, Lent}
+use Rattle.terms.specs.Meaning.{modeOf, planIn, TaskIs}
+use Rattle.rows.specs.Kept.{fieldsIn}
+use Rattle.rows.specs.Fair.{PlanFair}
+use Rattle.fixed.specs.Promise.{blocksIn, Lent}
 use Rattle.writers.specs.Promise.{ReelPut}
 use Rattle.checks.specs.declared.Ran.{Ran}
 use Rattle.checks.specs.Promise.{ranStruct, Given, GivenPlan, Checked}
-use Rattle.runs.specs.Promise.{Runnable, Finishes, Finishing, Written, RanInto}
+use Rattle.runs.specs.Promise.{Finishes, Finishing, Written, RanInto}
 
 -- ---- a run that finishes
 
@@ -132,29 +127,13 @@ module _ {task : Task} {fields s : List ℕ} (old : List ℕ) {r : Ran} (h : Che
             k .is p (w .0) (w .1) ∙ ap (outputAfter old) (sym (w .1 .finishes));
       }
 
--- ---- the plan of a struct
+-- ---- the plan of a struct and a row
 
-module _ {asked : Asked} (ok : Runnable asked) where
-  pub all-short : All Short (map fieldOf (take (asked .count) (asked .fields)))
-  unfolding planIn fieldsIn
-  all-short = short-of (ok .accepted .limits)
-
-  -- the numbers of the fields stand before zeros
-  module _ (flat : List ℕ) (f : flat ≡ flatOf (map fieldOf (take (asked .count) (asked .fields))) ++ replicate (320 - 5 * asked .count) 0) where
-    fields-many : length (map fieldOf (take (asked .count) (asked .fields))) ≡ asked .count
-    fields-many = length-map (take (asked .count) (asked .fields)) fieldOf ∙ length-take-le (asked .count) (asked .fields) (omega (arith, ok .few, ok .many))
-
-    front : take (5 * asked .count) flat ≡ flatOf (map fieldOf (take (asked .count) (asked .fields)))
-    front =
-        ap (take (5 * asked .count)) f
-        ∙ flat-front (map fieldOf (take (asked .count) (asked .fields))) (5 * asked .count) (320 - 5 * asked .count) (ap (λ (n : ℕ). 5 * n) (sym fields-many))
-
-    pub front-many : 5 * asked .count ≡ length (take (5 * asked .count) flat)
-    front-many = ap (λ (n : ℕ). 5 * n) (sym fields-many) ∙ sym (length-flat (map fieldOf (take (asked .count) (asked .fields)))) ∙ ap length (sym front)
-
-    pub given-plan : (task : Task) → TaskIs task (planIn zoneF asked) → Given task (take (5 * asked .count) flat) (planIn zoneF asked)
-    unfolding planIn fieldsIn
-    given-plan task is = record { is = is; accepted = ok .accepted; flat = front; zone = refl }
+-- the row is lent as it is: it is just the numbers of the plan's fields
+pub given-plan : {asked : Asked} {row : List ℕ} → PlanFair asked row → (task : Task) → ((fs : List RuleField) → TaskIs task (planIn zoneF asked fs))
+    → Given task row (planIn zoneF asked (fieldsIn row))
+unfolding planIn
+given-plan {asked} {row} ok task is = record { is = is (fieldsIn row); accepted = ok .accepted; flat = ok .flat; zone = refl }
 
 -- ---- one outcome
 

@@ -1,24 +1,15 @@
 -- What is promised of writing, and of a whole run, for every plan that the numbers may be.
 use mathlib.Core.Path.{_≡_}
 use mathlib.Core.List.{List}
-use Prim.Native.Nat.{ℕ, _≤_}
+use Prim.Native.Nat.{ℕ}
 use lib.ListN.{length}
 use Rattle.rules.specs.Answer.{fine}
 use Rattle.rules.specs.Plan.{Plan}
-use Rattle.rules.specs.Accepted.{Accepted}
 use Rattle.rules.specs.Run.{Ran as RuleRan, convert}
-use Rattle.rules.specs.Lent.{zoneF, runAnswer, outputAfter}
-use Rattle.terms.specs.declared.Asked.{Asked}
+use Rattle.rules.specs.Lent.{runAnswer, outputAfter}
 use Rattle.terms.specs.declared.Task.{Task}
-use Rattle.terms.specs.Meaning.{planIn}
 use Rattle.checks.specs.declared.Ran.{Ran}
 use Rattle.checks.specs.Promise.{ranStruct, Given}
-
--- the struct holds an accepted plan
-pub record Runnable (x : Asked) : Type 0 where
-  pub accepted : Accepted (planIn zoneF x)
-  pub few : x .count ≤ 64
-  pub many : length (x .fields) ≡ 64
 
 -- the run finishes, with so many blocks
 pub record Finishes (task : Task) (fields s : List ℕ) (blocks room : ℕ) (p : Plan) (x : RuleRan) : Type 0 where

@@ -2,15 +2,18 @@
 // "Refusal numbers".
 ghost use mathlib.Core.Path.{_≡_};
 ghost use mathlib.Core.Bool.{not};
-ghost use Prim.Native.Nat.{ℕ};
+ghost use mathlib.Core.List.{List};
 ghost use lib.Dec.{eqb};
 ghost use lib.ListN.{length};
+ghost use Rattle.rules.specs.Halves.{Field as RuleField};
 ghost use Rattle.rules.specs.Output.{cost as costOf};
 ghost use Rattle.rules.specs.Run.{convert};
 ghost use Rattle.rules.specs.Lent.{zoneF, runAnswer, outputAfter};
 ghost use Rattle.terms.specs.Meaning.{formatOf, planIn, TaskIs};
+ghost use Rattle.rows.specs.Kept.{fieldsIn};
+ghost use Rattle.rows.specs.Fair.{PlanFair};
 ghost use Rattle.checks.specs.Promise.{ranStruct, GivenPlan};
-ghost use Rattle.runs.specs.Promise.{Finishing, Written, RanInto, Runnable};
+ghost use Rattle.runs.specs.Promise.{Finishing, Written, RanInto};
 use checks::Ran;
 use terms::Asked;
 use terms::Format;
@@ -37,7 +40,7 @@ fn carries(cv: usize) -> bool
 
 // The numbers that a run needs of the plan.
 fn task_of(asked: Asked) -> Task
-    ensures { λ r. ⌜ TaskIs r (planIn zoneF asked) ⌝ }
+    ensures { λ r. ⌜ ((fs : List RuleField) → TaskIs r (planIn zoneF asked fs)) ⌝ }
 {
     let mode = asked.mode;
     let format = asked.format;
@@ -86,15 +89,11 @@ fn run(task: Task, fields: &[u16], s: &[u8], out: &mut [u8]) -> Ran
 }
 
 // The run of a plan over a reel: refusals 11 to 15, or the output reel at the front of what is lent.
-pub fn run_plan(asked: Asked, s: &[u8], out: &mut [u8]) -> Ran
-    requires { ⌜ Runnable asked ⌝ }
-    ensures answer { λ r. ⌜ r ≡ ranStruct (runAnswer (convert (length (now (out .entry))) (planIn zoneF asked) (now (s .entry)))) ⌝ }
-    ensures output { λ _. ⌜ now (out .exit) ≡ outputAfter (now (out .entry)) (convert (length (now (out .entry))) (planIn zoneF asked) (now (s .entry))) ⌝ }
+pub fn run_plan(asked: Asked, fields: &[u16], s: &[u8], out: &mut [u8]) -> Ran
+    requires { ⌜ PlanFair asked (now fields) ⌝ }
+    ensures answer { λ r. ⌜ r ≡ ranStruct (runAnswer (convert (length (now (out .entry))) (planIn zoneF asked (fieldsIn (now (fields .entry)))) (now (s .entry)))) ⌝ }
+    ensures output { λ _. ⌜ now (out .exit) ≡ outputAfter (now (out .entry)) (convert (length (now (out .entry))) (planIn zoneF asked (fieldsIn (now (fields .entry)))) (now (s .entry))) ⌝ }
 {
     let task = task_of(asked);
-    let fields = asked.fields;
-    let count = asked.count;
-    let flat = records::flatten(fields, count);
-    let end = 5 * count;
-    run(task, &flat[..end], s, out)
+    run(task, fields, s, out)
 }

@@ -1,5 +1,6 @@
 -- An accepted plan is accepted from record 1 on too: R is only asked to be within its limits, and to be 1 for TC.
 use mathlib.Core.Path.{refl}
+use mathlib.Core.List.{List}
 use Prim.Native.Nat.{ℕ}
 use native.Mathlib.Omega.{arith}
 use Rattle.rules.specs.Grammar.{Mode, Format, Size}
@@ -7,9 +8,11 @@ use Rattle.rules.specs.Plan.{Plan, inputHalves, allowed}
 use Rattle.rules.specs.Rows.{Required}
 use Rattle.rules.specs.Accepted.{Accepted}
 use Rattle.rules.specs.Lent.{zoneF}
-use Rattle.terms.specs.Meaning.{planIn, fieldsIn}
+use Rattle.terms.specs.Meaning.{planIn}
 use Rattle.terms.specs.declared.Asked.{Asked}
-use Rattle.runs.specs.Promise.{Runnable}
+use Rattle.rows.specs.Kept.{fieldsIn}
+use Rattle.rows.specs.Fair.{PlanFair}
+use Rattle.show_twins.specs.First.{askedFromFirst}
 
 abbrev fromFirst : Plan → Plan
 fromFirst p =
@@ -58,22 +61,6 @@ accepted-first p h =
       some = h .some;
     }
 
--- the struct with R as 1
-abbrev pub askedFromFirst : Asked → Asked
-askedFromFirst x =
-    record {
-      mode = x .mode;
-      format = x .format;
-      input = x .input;
-      output = x .output;
-      first = 1;
-      fields = x .fields;
-      cards = x .cards;
-      count = x .count;
-      fs = x .fs;
-      cv = x .cv;
-    }
-
-pub runnable-first : (x : Asked) → Runnable x → Runnable (askedFromFirst x)
-unfolding planIn fieldsIn
-runnable-first x h = record { accepted = accepted-first (planIn zoneF x) (h .accepted); few = h .few; many = h .many }
+pub fair-first : (x : Asked) (row : List ℕ) → PlanFair x row → PlanFair (askedFromFirst x) row
+unfolding planIn
+fair-first x row h = record { accepted = accepted-first (planIn zoneF x (fieldsIn row)) (h .accepted); flat = h .flat }

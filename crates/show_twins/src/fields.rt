@@ -2,7 +2,6 @@
 ghost use Prim.Native.Nat.{_≤_};
 use notices::number;
 use notices::say;
-use terms::Asked;
 use terms::Field;
 use terms::Kind;
 
@@ -25,12 +24,12 @@ fn is_over(f: Field, side: Side, byte: usize) -> bool {
 }
 
 // The number of the last field over a byte, or 0.
-pub(crate) fn last_over(fields: [Field; 64], count: usize, side: Side, byte: usize) -> usize {
+pub(crate) fn last_over(fields: &[u16], side: Side, byte: usize) -> usize {
+    let count = fields.len() / 5;
     let mut last = 0;
     let mut i = 0;
-    while i < 64 {
-        let f = fields[i];
-        if i < count && is_over(f, side, byte) {
+    while i < count {
+        if is_over(rows::field_at(fields, i), side, byte) {
             last = i + 1;
         }
         i += 1;
@@ -38,15 +37,26 @@ pub(crate) fn last_over(fields: [Field; 64], count: usize, side: Side, byte: usi
     last
 }
 
-// The field of a number, from 1; the first where there is no such number.
-pub(crate) fn numbered(fields: [Field; 64], field: usize) -> Field {
+// What stands for a field where there is none.
+fn none() -> Field {
+    Field {
+        kind: Kind::Copy,
+        r: 0,
+        input: 0,
+        output: 0,
+        t: 0,
+    }
+}
+
+// The field of a number, from 1, or none.
+pub(crate) fn numbered(fields: &[u16], field: usize) -> Field {
     if field == 0 {
-        return fields[0];
+        return none();
     }
-    if 64 < field {
-        return fields[0];
+    if fields.len() / 5 < field {
+        return none();
     }
-    fields[field - 1]
+    rows::field_at(fields, field - 1)
 }
 
 // A number of a field, which on a card is 1 to 4,096: said so that sums of them are seen to fit.
@@ -136,19 +146,14 @@ fn say_item(f: Field) {
 }
 
 // Says a field by its number, its item and its card.
-pub(crate) fn say_field(asked: Asked, field: usize) {
+pub(crate) fn say_field(deck: &[u8], fields: &[u16], field: usize) {
     if field == 0 {
         return;
     }
-    if 64 < field {
-        return;
-    }
-    let fields = asked.fields;
-    let cards = asked.cards;
     say(b"field ");
     number(field);
     say(b", ");
     say_item(numbered(fields, field));
     say(b" on card ");
-    number(cards[field - 1]);
+    number(cards::field_card(deck, field - 1));
 }

@@ -12,7 +12,7 @@ mod room;
 
 ghost use mathlib.Core.Path.{_≡_};
 ghost use lib.ListN.{length};
-ghost use Rattle.runs.specs.Promise.{Runnable};
+ghost use Rattle.rows.specs.Fair.{PlanFair};
 use arguments::Wanted;
 use terms::Asked;
 
@@ -55,26 +55,43 @@ fn write_reel(path: &[u8], asked: Asked, first: &[u8], second: &[u8]) -> bool {
 }
 
 // What people see: the records, why they become alike, and what they become.
-fn explain(asked: Asked, reason: usize, lost: usize, first: &[u8], second: &[u8])
-    requires { ⌜ Runnable asked ⌝ }
+fn explain(
+    deck: &[u8],
+    asked: Asked,
+    fields: &[u16],
+    reason: usize,
+    lost: usize,
+    first: &[u8],
+    second: &[u8],
+)
+    requires { ⌜ PlanFair asked (now fields) ⌝ }
 {
     notices::say(b"two records that this deck makes one:\n");
     hex::pair(first, second, hex::lost_digits(lost, reason == 4));
-    reason::explain(asked, reason, lost);
+    reason::explain(deck, asked, fields, reason, lost);
     notices::say(b"both become:\n");
-    outcome::show(asked, first);
+    outcome::show(asked, fields, first);
 }
 
 // The twins are of one length but for the tail, so that the first ends in the middle. The files come first: one that is not written gives no line.
-fn show(asked: Asked, reason: usize, lost: usize, both: &[u8], records: &[u8], reel: &[u8])
-    requires { ⌜ Runnable asked ⌝ }
+fn show(
+    deck: &[u8],
+    asked: Asked,
+    fields: &[u16],
+    reason: usize,
+    lost: usize,
+    both: &[u8],
+    records: &[u8],
+    reel: &[u8],
+)
+    requires { ⌜ PlanFair asked (now fields) ⌝ }
 {
     let n = both.len() / 2;
     let first = room::front(both, n);
     let second = room::behind(both, n);
     if write_records(records, both) && write_reel(reel, asked, first, second) {
         notices::line(&[0, 0, 0, reason, both.len()]);
-        explain(asked, reason, lost, first, second);
+        explain(deck, asked, fields, reason, lost, first, second);
     }
 }
 
@@ -86,11 +103,22 @@ fn show_twins(deck: &[u8], records: &[u8], reel: &[u8]) {
         refused(deck, twins.refusal, twins.place, twins.column);
         return;
     }
-    let plan = plans::plan_deck(deck);
+    let mut row = [0u16; 320];
+    let plan = plans::plan_deck(deck, &mut row);
     if plan.refusal == 0 {
         let asked = plan.asked;
         let both = room::front(&room, twins.length);
-        show(asked, twins.reason, plan.lost, both, records, reel);
+        let end = 5 * asked.count;
+        show(
+            deck,
+            asked,
+            &row[..end],
+            twins.reason,
+            plan.lost,
+            both,
+            records,
+            reel,
+        );
     }
 }
 

@@ -1,5 +1,7 @@
 // What the twins become: the output record of a run of the plan over the first of them alone.
-ghost use Rattle.runs.specs.Promise.{Runnable};
+ghost use mathlib.Core.Path.{_≡_};
+ghost use Rattle.rows.specs.Fair.{PlanFair};
+ghost use Rattle.show_twins.specs.First.{askedFromFirst};
 use crate::blocks;
 use crate::hex;
 use crate::room;
@@ -8,8 +10,7 @@ use terms::Format;
 
 // The plan, but that it takes the records from the first on.
 fn from_first(asked: Asked) -> Asked
-    requires { ⌜ Runnable asked ⌝ }
-    ensures { λ r. ⌜ Runnable r ⌝ }
+    ensures { λ r. ⌜ r ≡ askedFromFirst asked ⌝ }
 {
     let mut whole = asked;
     whole.first = 1;
@@ -26,13 +27,13 @@ fn data_start(format: Format) -> usize {
 }
 
 // A run that is refused has no output, so that nothing is shown.
-pub(crate) fn show(asked: Asked, record: &[u8])
-    requires { ⌜ Runnable asked ⌝ }
+pub(crate) fn show(asked: Asked, fields: &[u16], record: &[u8])
+    requires { ⌜ PlanFair asked (now fields) ⌝ }
 {
     let format = asked.format;
     let mut reel = io::large_buffer();
     let n = blocks::reel(format, 1, record, b"", &mut reel);
     let mut out = io::large_buffer();
-    let ran = runs::run_plan(from_first(asked), room::front(&reel, n), &mut out);
+    let ran = runs::run_plan(from_first(asked), fields, room::front(&reel, n), &mut out);
     hex::single(room::behind(room::front(&out, ran.length), data_start(format)));
 }

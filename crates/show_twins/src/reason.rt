@@ -7,9 +7,8 @@ use notices::say;
 use terms::Asked;
 
 // The number of the last field that reads a half, or 0.
-fn last_reader(asked: Asked, half: usize) -> usize {
-    let fields = asked.fields;
-    fields::last_over(fields, asked.count, Side::Input, half / 2 + 1)
+fn last_reader(fields: &[u16], half: usize) -> usize {
+    fields::last_over(fields, Side::Input, half / 2 + 1)
 }
 
 fn not_read(lost: usize) {
@@ -26,10 +25,9 @@ fn say_digits(count: usize) {
     }
 }
 
-fn dropped(asked: Asked, lost: usize) {
-    let reader = last_reader(asked, lost);
-    let fields = asked.fields;
-    fields::say_field(asked, reader);
+fn dropped(deck: &[u8], fields: &[u16], lost: usize) {
+    let reader = last_reader(fields, lost);
+    fields::say_field(deck, fields, reader);
     say(b", has room for ");
     say_digits(fields::digits(fields::numbered(fields, reader)));
     say(b": the digit in ");
@@ -38,20 +36,16 @@ fn dropped(asked: Asked, lost: usize) {
 }
 
 // The field that covers the half writes its byte last, so that it comes behind the one that reads it.
-fn covered(asked: Asked, lost: usize) {
-    let reader = last_reader(asked, lost);
-    let fields = asked.fields;
+fn covered(deck: &[u8], fields: &[u16], lost: usize) {
+    let reader = last_reader(fields, lost);
     let byte = fields::output_byte(fields::numbered(fields, reader), lost);
-    fields::say_field(asked, reader);
+    fields::say_field(deck, fields, reader);
     say(b", is the last that reads ");
     half_of_byte(lost);
     say(b"; it writes it to byte ");
     number(byte);
     say(b" of the output, and ");
-    fields::say_field(
-        asked,
-        fields::last_over(fields, asked.count, Side::Output, byte),
-    );
+    fields::say_field(deck, fields, fields::last_over(fields, Side::Output, byte));
     say(b", covers that");
 }
 
@@ -63,11 +57,11 @@ fn tail(asked: Asked) {
 }
 
 // Says one of the reasons 1 to 4.
-pub(crate) fn explain(asked: Asked, reason: usize, lost: usize) {
+pub(crate) fn explain(deck: &[u8], asked: Asked, fields: &[u16], reason: usize, lost: usize) {
     match reason {
         1 => not_read(lost),
-        2 => dropped(asked, lost),
-        3 => covered(asked, lost),
+        2 => dropped(deck, fields, lost),
+        3 => covered(deck, fields, lost),
         _ => tail(asked),
     }
     say(b"\n");

@@ -1,18 +1,17 @@
--- The plan that a struct is, where it says what a deck asks for, is the plan of the rules: part by part, and CV is given exactly if some card says it.
-use mathlib.Core.Path.{_≡_, refl, ap, sym, _∙_}
-use mathlib.Core.Bool.{Bool, true, false, cond, not, true≢false}
-use mathlib.Core.List.{List, [], _∷_, _++_}
-use Prim.Native.Nat.{ℕ, zero, suc, _+_, _≤_}
-use native.Mathlib.Nat.{zero-add}
+-- The plan that a struct is with the deck's fields, where it says what the deck asks for, is the plan of the rules: part by part, and CV is given exactly if some card says it.
+use mathlib.Core.Path.{_≡_, refl, ap, _∙_}
+use mathlib.Core.Bool.{Bool, true, false, not}
+use mathlib.Core.List.{List, [], _∷_}
+use Prim.Native.Nat.{ℕ, suc, _≤_}
 use native.Mathlib.Omega.{arith}
 use lib.Dec.{eqb}
-use borrow.Author.Tests.{eqb-true, eqb-false, eq-eqb, ne-eqb}
+use borrow.Author.Tests.{eqb-true, eqb-false, ne-eqb}
 use Rattle.rules.specs.Base.{joined}
 use Rattle.rules.specs.Grammar.{Item}
-use Rattle.rules.specs.Asked.{cvs, fieldsOf, Utility, Asked as RuleAsked}
-use Rattle.rules.specs.Plan.{Plan, assembled}
+use Rattle.rules.specs.Asked.{cvs, fieldsOf, Asked as RuleAsked}
+use Rattle.rules.specs.Plan.{assembled}
 use Rattle.rules.proofs.AcceptedLaws.{cvs-append}
-use Rattle.terms.specs.Meaning.{utilityOf, fieldsIn, cvCard, Means, planIn}
+use Rattle.terms.specs.Meaning.{utilityOf, cvCard, Means, planIn}
 use Rattle.terms.specs.declared.Asked.{Asked}
 
 -- a card is named exactly if some card says CV
@@ -28,7 +27,7 @@ cv-said i l (c ∷ cards) = go (cv-said (suc i) (omega arith) cards) (eqb (cvs c
         let n = eqb-false (cvs c) 0 t in
         rw (t, ne-eqb i 0 (λ q. omega arith), ne-eqb (cvs (joined (c ∷ cards))) 0 (λ q. n (omega (arith, cvs-append c (joined cards)))))
 
-pub plan-means : (zone : ℕ) (x : Asked) (a : RuleAsked) → Means x a → planIn zone x ≡ assembled zone a
+pub plan-means : (zone : ℕ) (x : Asked) (a : RuleAsked) → Means x a → planIn zone x (fieldsOf (joined (a .cards))) ≡ assembled zone a
 unfolding planIn assembled utilityOf
 plan-means zone x a m =
     let u = m .utility in
@@ -40,6 +39,6 @@ plan-means zone x a m =
       input = u i .input;
       output = u i .output;
       first = u i .first;
-      fields = m .fields i;
+      fields = fieldsOf (joined (a .cards));
       carries = not (c i);
     }

@@ -1,10 +1,10 @@
 -- What the types that cards name mean in the rules.
 use mathlib.Core.Path.{_≡_}
-use mathlib.Core.Bool.{Bool, cond, not}
-use mathlib.Core.List.{List, [], _∷_, _++_, map}
+use mathlib.Core.Bool.{cond, not}
+use mathlib.Core.List.{List, [], _∷_, _++_}
 use Prim.Native.Nat.{ℕ, suc, _-_, _≤_}
 use lib.Dec.{eqb}
-use lib.ListN.{length, take, replicate}
+use lib.ListN.{length, replicate}
 use Rattle.rules.specs.Base.{joined}
 use Rattle.rules.specs.Grammar.{Mode as RuleMode, tc, tf, tr, trf, Format as RuleFormat, ff, fv, fu, Size as RuleSize, two, one, Item}
 use Rattle.rules.specs.Halves.{Kind as RuleKind, copy, pack, unpack, Field as RuleField}
@@ -53,7 +53,7 @@ fieldOf f = record { r = f .r; kind = kindOf (f .kind) (f .input) (f .output); t
 abbrev pub OneSize : Field → Type 0
 OneSize f = f .kind ≡ Copy → f .input ≡ f .output
 
--- a field that stands nowhere: what an array holds where there is no field
+-- a field that stands nowhere: what a list holds where there is no field
 abbrev pub noField : Field
 noField = record { kind = Copy; r = 0; input = 0; output = 0; t = 0 }
 
@@ -61,10 +61,6 @@ noField = record { kind = Copy; r = 0; input = 0; output = 0; t = 0 }
 
 unfoldable pub utilityOf : Asked → Utility
 utilityOf x = record { mode = modeOf (x .mode); format = formatOf (x .format); input = sizeOf (x .input); output = sizeOf (x .output); first = x .first }
-
--- the fields in order
-unfoldable pub fieldsIn : Asked → List RuleField
-fieldsIn x = map fieldOf (take (x .count) (x .fields))
 
 -- the card of each field, the first FS card being card i
 abbrev pub fieldCards : ℕ → List (List Item) → List ℕ
@@ -76,19 +72,17 @@ abbrev pub cvCard : ℕ → List (List Item) → ℕ
 cvCard i [] = 0
 cvCard i (c ∷ cs) = let later = cvCard (suc i) cs in cond (eqb (cvs c) 0) later i
 
--- the struct says just what the rules say that the deck asks for; past the count its arrays hold nothing
+-- the struct says just what the rules say that the deck asks for beside the fields, and how many they are
 pub record Means (x : Asked) (a : RuleAsked) : Type 0 where
   pub utility : utilityOf x ≡ a .utility
-  pub fields : fieldsIn x ≡ fieldsOf (joined (a .cards))
+  pub count : x .count ≡ length (fieldsOf (joined (a .cards)))
   pub few : x .count ≤ 64
-  pub many : x .fields ≡ take (x .count) (x .fields) ++ replicate (64 - x .count) noField
-  pub cards : x .cards ≡ fieldCards 2 (a .cards) ++ replicate (64 - x .count) 0
   pub fs : x .fs ≡ length (a .cards)
   pub cv : x .cv ≡ cvCard 2 (a .cards)
 
--- the plan that it is, in a zone
-unfoldable pub planIn : ℕ → Asked → Plan
-planIn zone x =
+-- the plan that it is with these fields, in a zone
+unfoldable pub planIn : ℕ → Asked → List RuleField → Plan
+planIn zone x fs =
     record {
       zone = zone;
       mode = modeOf (x .mode);
@@ -96,7 +90,7 @@ planIn zone x =
       input = sizeOf (x .input);
       output = sizeOf (x .output);
       first = x .first;
-      fields = fieldsIn x;
+      fields = fs;
       carries = not (eqb (x .cv) 0);
     }
 

@@ -37,16 +37,14 @@ pub struct Field {
     pub t: usize,
 }
 
-// What the cards of a deck ask for: the parameters of the U card, R being 1 where it is not given; the fields with the card of each, and how
-// many they are; how many FS cards there are; and the card of CV, or 0.
+// What the cards of a deck ask for beside the fields: the parameters of the U card, R being 1 where it is not given; how many fields there are, which stand
+// in a row that is lent; how many FS cards there are; and the card of CV, or 0.
 pub struct Asked {
     pub mode: Mode,
     pub format: Format,
     pub input: Size,
     pub output: Size,
     pub first: usize,
-    pub fields: [Field; 64],
-    pub cards: [usize; 64],
     pub count: usize,
     pub fs: usize,
     pub cv: usize,

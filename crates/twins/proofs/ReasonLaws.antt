@@ -1,14 +1,12 @@
 -- The reason, field by field: which halves a field of the code reads and shows is what the rules say of its meaning, by how many halves stand behind the half;
--- and one more field of the plan takes the reason one step on.
+-- and one more field of the row takes the reason one step on.
 use mathlib.Core.Path.{_≡_, ap, ap₂, sym, _∙_}
 use mathlib.Core.Bool.{Bool, true, false, cond, _&&_, _||_}
-use mathlib.Core.List.{List}
+use mathlib.Core.List.{List, _∷_}
 use Prim.Native.Nat.{ℕ, _+_, _-_, _*_, _/_, _%_, _≤_, _<_}
-use native.Mathlib.Numerals.{add-one}
 use native.Mathlib.Omega.{arith}
 use lib.Dec.{ltb, leb, eqb}
-use lib.ListN.{length, drop, getD, drop-of-length-le}
-use lib.Seq.{drop-cons}
+use lib.ListN.{length, drop}
 use borrow.Author.Tests.{lt-ltb, le-ltb, le-leb, lt-leb, eq-eqb, ne-eqb}
 use Rattle.rules.specs.Halves.{Field as RuleField, readsFrom, readsMany}
 use Rattle.rules.specs.Permitted.{reads}
@@ -16,12 +14,14 @@ use Rattle.rules.specs.Lent.{zoneF}
 use Rattle.rules.specs.Twins.{shows, reasonOf, reasonBy}
 use Rattle.rules.specs.TwinWords.{Reads}
 use Rattle.rules.proofs.ShowsLaws.{reads-words, shows-longer, shows-copy, shows-pack, shows-unpack}
-use Rattle.terms.specs.Meaning.{fieldOf, noField}
+use Rattle.terms.specs.Meaning.{fieldOf}
 use Rattle.terms.specs.declared.Field.{Field}
 use Rattle.terms.specs.declared.Kind.the-variants.{Copy, Pack, Unpack}
+use Rattle.rows.specs.Flat.{fieldAt}
+use Rattle.rows.specs.Kept.{fieldsIn}
+use Rattle.rows.proofs.RowLaws.{fields-on, fields-end}
 use Rattle.keeping.specs.Promise.{FairField}
 use Rattle.keeping.proofs.Fields.{kind-of, input-is, fair-fits}
-use Rattle.keeping.proofs.AllFields.{planned, field-at, length-planned}
 
 -- ---- one field
 
@@ -102,25 +102,21 @@ module _ (zone many h : ℕ) where
     unfolding reasonOf
     reason-dropped e = rw (← s, e)
 
-  module _ (fields : List Field) (count : ℕ) (enough : count ≤ length fields) where
-    -- one more field: the reason is x before it and y behind it, and z in the end
-    module _ (k : ℕ) (l : k < count) (x y z : ℕ) (left : reasonBy zone many h x (drop k (planned fields count)) ≡ z) where
-      one-more : y ≡ cond (reads (fieldOf (getD fields k noField)) h) (reasonOf zone many h (fieldOf (getD fields k noField))) x
-          → reasonBy zone many h y (drop (k + 1) (planned fields count)) ≡ z
+  module _ (row : List ℕ) where
+    -- one more field, which is f: the reason is x before it and y behind it, and z in the end
+    module _ (k : ℕ) (l : 5 * k + 5 ≤ length row) (f : Field) (read : f ≡ fieldAt row k) (x y z : ℕ) (left : reasonBy zone many h x (drop k (fieldsIn row)) ≡ z) where
+      one-more : y ≡ cond (reads (fieldOf f) h) (reasonOf zone many h (fieldOf f)) x → reasonBy zone many h y (drop (k + 1) (fieldsIn row)) ≡ z
       one-more e =
-          ap₂ (λ (r i : ℕ). reasonBy zone many h r (drop i (planned fields count)))
-          (e ∙ ap (λ (g : RuleField). cond (reads g h) (reasonOf zone many h g) x) (sym (field-at fields count k l))) (add-one k)
-          ∙ sym (ap (reasonBy zone many h x) (drop-cons (planned fields count) k (fieldOf noField) (omega (arith, length-planned fields count enough))))
+          ap (λ (r : ℕ). reasonBy zone many h r (drop (k + 1) (fieldsIn row))) e
+          ∙ sym (ap (reasonBy zone many h x) (fields-on row k l ∙ ap (λ (g : Field). fieldOf g ∷ drop (k + 1) (fieldsIn row)) (sym read)))
           ∙ left
 
-      pub reason-read : (t : Bool) → t ≡ reads (fieldOf (getD fields k noField)) h → t ≡ true → y ≡ reasonOf zone many h (fieldOf (getD fields k noField))
-          → reasonBy zone many h y (drop (k + 1) (planned fields count)) ≡ z
+      pub reason-read : (t : Bool) → t ≡ reads (fieldOf f) h → t ≡ true → y ≡ reasonOf zone many h (fieldOf f) → reasonBy zone many h y (drop (k + 1) (fieldsIn row)) ≡ z
       reason-read t s e q = one-more (rw (← s, e) q)
 
-      pub reason-unread : (t : Bool) → t ≡ reads (fieldOf (getD fields k noField)) h → t ≡ false → y ≡ x
-          → reasonBy zone many h y (drop (k + 1) (planned fields count)) ≡ z
+      pub reason-unread : (t : Bool) → t ≡ reads (fieldOf f) h → t ≡ false → y ≡ x → reasonBy zone many h y (drop (k + 1) (fieldsIn row)) ≡ z
       reason-unread t s e q = one-more (rw (← s, e) q)
 
     -- after all fields the reason is what it is
-    pub reason-all : (k x : ℕ) → count ≤ k → reasonBy zone many h x (drop k (planned fields count)) ≡ x
-    reason-all k x l = ap (reasonBy zone many h x) (drop-of-length-le (planned fields count) {i = k} (omega (arith, length-planned fields count enough)))
+    pub reason-all : (k x : ℕ) → k ≡ length row / 5 → reasonBy zone many h x (drop k (fieldsIn row)) ≡ x
+    reason-all k x e = ap (reasonBy zone many h x) (fields-end row k e)

@@ -2,15 +2,13 @@
 -- an accepted plan lie inside its records, so that they can be marked. And the twins of a deck are those of its plan, or its refusal, by cases on the plan.
 use mathlib.Core.Path.{_≡_, refl, ap, ap₂, sym, _∙_, subst}
 use mathlib.Core.Bool.{Bool, true, false, cond, not}
-use mathlib.Core.List.{List, [], _∷_, _++_, map, append-assoc}
+use mathlib.Core.List.{List, [], _∷_, _++_, append-nil, append-assoc}
 use Prim.Native.Nat.{ℕ, suc, _+_, _*_, _≤_, _<_}
 use native.Mathlib.Nat.{zero-add}
 use native.Mathlib.Omega.{arith}
 use lib.Dec.{leb, eqb}
 use lib.ListN.{length, take, drop, getD}
-use lib.Seq.{getD-take, length-take-le}
 use borrow.Author.Tests.{eqb-true, eqb-false, eq-eqb, ne-eqb, le-leb, lt-leb}
-use Rattle.rules.specs.Places.{All, noMore, also}
 use Rattle.rules.specs.Answer.{Answer, fine, refuse, refusedAt, _>>=_, _>>_, unless}
 use Rattle.rules.specs.Grammar.{Format, Size, two, one}
 use Rattle.rules.specs.Halves.{bytes}
@@ -25,16 +23,20 @@ use Rattle.rules.proofs.KeepingLaws.{lowest-passes, second-passes}
 use Rattle.rules.proofs.Twins.{lost-most}
 use Rattle.rules.proofs.TwinLaws.{lost-two, length-first, length-second, length-more, length-twins}
 use Rattle.rules.proofs.NextValue.{lost-next}
-use Rattle.terms.specs.Meaning.{sizeOf, fieldOf, OneSize, noField, fieldsIn, planIn}
-use Rattle.terms.specs.Fair.{PlanFair}
-use Rattle.terms.specs.declared.Field.{Field}
+use Rattle.terms.specs.Meaning.{sizeOf, fieldOf, OneSize, noField, planIn}
 use Rattle.terms.specs.declared.Asked.{Asked}
-use Rattle.keeping.specs.Promise.{FairField, Fair}
+use Rattle.rows.specs.Flat.{flatOf, fieldAt}
+use Rattle.rows.specs.Kept.{fieldFor, fieldsIn}
+use Rattle.rows.specs.Fair.{PlanFair}
+use Rattle.rows.proofs.KeptLaws.{one-size}
+use Rattle.rows.proofs.FlatLaws.{field-kept, fields-many}
+use Rattle.rows.proofs.RowLaws.{many-in, field-in}
+use Rattle.keeping.specs.Promise.{Fair}
 use Rattle.keeping.proofs.PlanLaws.{fair-field}
 use Rattle.keeping.proofs.Weighs.{fair-longest}
 use Rattle.plans.specs.Promise.{numbersIn, Holds, Plans}
 use Rattle.plans.specs.declared.Planned.{Planned}
-use Rattle.plans.proofs.FilledLaws.{refused-plan, accepted-plan}
+use Rattle.plans.proofs.FilledLaws.{refused-plan, accepted-plan, plan-is, plan-fair, row-holds}
 use Rattle.twins.specs.Promise.{raisedIn, Values, neededFor, recordsIn, WrittenInto, Loses, twinsOf, refusedTwins, fitting, ShownInto, TwinsWritten}
 use Rattle.twins.specs.declared.Twins.{Twins}
 
@@ -45,33 +47,37 @@ length-most : (f : Format) (s : Size) → SizeWithin f s → recordLength s ≤ 
 length-most f (two n m) w = w .0 .1
 length-most f (one g) w = omega arith
 
-fair-each : (n m : ℕ) (fs : List Field) → All OneSize fs → All FieldWithin (map fieldOf fs) → All (Inside n m) (map fieldOf fs) → All (FairField n m) fs
-fair-each n m [] a b c = noMore
-fair-each n m (f ∷ fs) (also o a) (also w b) (also i c) = also (fair-field n m f w i o) (fair-each n m fs a b c)
-
-module _ (x : Asked) (fair : PlanFair x) where
+module _ (x : Asked) (row : List ℕ) (fair : PlanFair x row) where
   abbrev p : Plan
-  p = planIn zoneF x
+  p = planIn zoneF x (fieldsIn row)
 
   abbrev n : ℕ
   n = recordLength (sizeOf (x .input))
 
-  pub fields-fair : Fair (x .fields) (x .count) n (recordLength (sizeOf (x .output)))
-  unfolding planIn fieldsIn
+  -- field k stands in the row as it is read: a copy's size in both places
+  read-as : (k : ℕ) → 5 * k + 5 ≤ length row → fieldAt row k ≡ fieldFor (getD (fieldsIn row) k (fieldOf noField))
+  read-as k l =
+      ap (λ (xs : List ℕ). fieldAt xs k) (fair .flat ∙ sym (append-nil (flatOf (fieldsIn row))))
+      ∙ field-kept (fieldOf noField) (fieldsIn row) [] k (omega (arith, many-in row))
+
+  pub fields-fair : Fair row n (recordLength (sizeOf (x .output)))
+  unfolding planIn
   fields-fair =
       let m = recordLength (sizeOf (x .output)) in
-      let fs = take (x .count) (x .fields) in
-      let size : length fs ≡ x .count = length-take-le (x .count) (x .fields) (omega (arith, fair .few, fair .many)) in
-      let all = fair-each n m fs (fair .one-size) (fair .accepted .limits) (fair .accepted .insides) in
+      let d = fieldOf noField in
       record {
-        few = fair .few;
+        few = omega (arith, fair .accepted .few, fields-many (fieldsIn row) (fair .flat));
         n-high = length-most (p .format) (p .input) (fair .accepted .input);
         m-high = length-most (p .format) (p .output) (fair .accepted .output);
-        each = λ k l. subst (FairField n m) (getD-take (x .count) (x .fields) k noField l) (all-at noField fs all k (omega (arith, size)));
+        each = λ k l.
+            let here : k < length (fieldsIn row) = omega (arith, many-in row) in
+            fair-field n m (fieldAt row k) (subst FieldWithin (field-in row d k l) (all-at d (fieldsIn row) (fair .accepted .limits) k here))
+            (subst (Inside n m) (field-in row d k l) (all-at d (fieldsIn row) (fair .accepted .insides) k here))
+            (subst OneSize (sym (read-as k l)) (one-size (getD (fieldsIn row) k d)));
       }
 
-  pub fields-wide : Fair (x .fields) (x .count) 4096 4096
-  fields-wide = fair-longest (x .fields) (x .count) n _ fields-fair
+  pub fields-wide : Fair row 4096 4096
+  fields-wide = fair-longest row n _ fields-fair
 
   -- ---- the reason
 
@@ -81,20 +87,20 @@ module _ (x : Asked) (fair : PlanFair x) where
     reason-tail e = rw (eq-eqb (lostAt p) (2 * n) (sym place ∙ e))
 
     pub reason-half : (lost ≡ 2 * n → ⊥) → (r : ℕ)
-        → ((a b : ℕ) → Fair (x .fields) (x .count) a b → r ≡ reasonBy zoneF (2 * a) lost 1 (map fieldOf (take (x .count) (x .fields)))) → r ≡ reason p
-    unfolding reason inputHalves planIn fieldsIn
+        → ((a b : ℕ) → Fair row a b → r ≡ reasonBy zoneF (2 * a) lost 1 (fieldsIn row)) → r ≡ reason p
+    unfolding reason inputHalves planIn
     reason-half h r w =
         let ne : eqb (lostAt p) (2 * n) ≡ false = ne-eqb (lostAt p) (2 * n) (λ e. h (place ∙ e)) in
-        w n _ fields-fair ∙ ap (λ (l : ℕ). reasonBy zoneF (2 * n) l 1 (map fieldOf (take (x .count) (x .fields)))) place ∙ rw ne refl
+        w n _ fields-fair ∙ ap (λ (l : ℕ). reasonBy zoneF (2 * n) l 1 (fieldsIn row)) place ∙ rw ne refl
 
   -- ---- the two records
 
-  module _ (lost : ℕ) (loses : Loses p lost) (values : List ℕ) (are : values ≡ listed (lowest (permitted zoneF (map fieldOf (take (x .count) (x .fields))))) 0 8192) where
+  module _ (lost : ℕ) (loses : Loses p lost) (values : List ℕ) (are : values ≡ listed (lowest (permitted zoneF (fieldsIn row))) 0 8192) where
     short : 2 * n ≤ 8192
     short = omega (arith, fields-fair .n-high)
 
     value-at : (i : ℕ) → i < 2 * n → getD values i 0 ≡ lowest (allowed p) i
-    unfolding allowed planIn fieldsIn
+    unfolding allowed planIn
     value-at i l = ap (λ (vs : List ℕ). getD vs i 0) are ∙ getD-listed (lowest (allowed p)) 0 8192 i (omega (arith, short)) ∙ ap (lowest (allowed p)) (zero-add i)
 
     first-at : (i : ℕ) → i < 2 * n → raisedIn values (2 * n) i ≡ lowest (allowed p) i
@@ -149,7 +155,7 @@ module _ (x : Asked) (fair : PlanFair x) where
         let short : leb (length (twins p)) (length before) ≡ false = lt-leb (length (twins p)) (length before) (omega arith) in
         record { answer = rw short (ap (λ (m : ℕ). refusedTwins 15 m 0) same); output = rw short }
 
-    pub shown-both : (before after values : List ℕ) (a k why : ℕ) → values ≡ listed (lowest (permitted zoneF (map fieldOf (take (x .count) (x .fields))))) 0 8192
+    pub shown-both : (before after values : List ℕ) (a k why : ℕ) → values ≡ listed (lowest (permitted zoneF (fieldsIn row))) 0 8192
         → a ≡ n → k ≡ neededFor a lost → k ≤ length before → why ≡ reason p → WrittenInto (recordsIn values a lost) before after
         → ShownInto p before (record { refusal = 0; place = 0; column = 0; reason = why; length = k }) after
     unfolding fitting unless _>>_
@@ -163,7 +169,7 @@ module _ (x : Asked) (fair : PlanFair x) where
 
 -- ---- a deck
 
-module _ (deck before : List ℕ) (r : Planned) (w : Plans deck r) where
+module _ (deck before : List ℕ) (r : Planned) (row : List ℕ) (w : Plans deck r row) where
   planned : (x : Answer Plan) → plan deck ≡ x
       → twinsInto (length before) deck ≡ (x >>= λ p. unless (not (keeps p)) 16 0 >> (unless (leb (length (twins p)) (length before)) 15 (length (twins p)) >> fine (shown p)))
   unfolding twinsInto
@@ -175,12 +181,25 @@ module _ (deck before : List ℕ) (r : Planned) (w : Plans deck r) where
   pub twins-refused : (r .refusal ≡ 0 → ⊥) → TwinsWritten deck before (refusedTwins (r .refusal) (r .place) (r .column)) before
   unfolding _>>=_
   twins-refused h =
-      let q = refused-plan deck r w h in
+      let q = refused-plan deck r row w h in
       into-of (refuse (q .0)) (planned (refuse (q .0)) (q .1)) _ before (λ i. refusedTwins (q .2 i) (q .3 i) (q .4 i)) refl
 
   module _ (z : r .refusal ≡ 0) where
-    made : (p : Plan) × (plan deck ≡ fine p) × (numbersIn r ≡ planAnswer (fine p)) × Holds deck p (r .asked)
-    made = accepted-plan deck r w z
+    made : (p : Plan) × (plan deck ≡ fine p) × (numbersIn r ≡ planAnswer (fine p)) × Holds deck p (r .asked) row
+    made = accepted-plan deck r row w z
+
+    -- the numbers of its fields, at most 320, stand at the front of the row
+    all-fields : 5 * r .asked .count ≡ 5 * length (made .0 .fields)
+    all-fields = ap (λ (k : ℕ). 5 * k) (made .3 .count)
+
+    pub fields-stand : (5 * r .asked .count ≤ 320) × (length row ≡ 320)
+    fields-stand = let s = row-holds deck (made .0) (made .1) (r .asked) row (made .3) in (omega (arith, all-fields, s .0), s .1)
+
+    is : planIn zoneF (r .asked) (fieldsIn (take (5 * r .asked .count) row)) ≡ made .0
+    is = plan-is deck (made .0) (r .asked) row (made .3) (5 * r .asked .count) all-fields
+
+    pub fair-plan : PlanFair (r .asked) (take (5 * r .asked .count) row)
+    fair-plan = plan-fair deck (made .0) (r .asked) row (made .3) (5 * r .asked .count) all-fields (made .1)
 
     pub twins-kept : (r .keeping ≡ 0 → ⊥) → TwinsWritten deck before (refusedTwins 16 0 0) before
     unfolding _>>=_ unless _>>_
@@ -190,22 +209,19 @@ module _ (deck before : List ℕ) (r : Planned) (w : Plans deck r) where
         go true k = into-of (refusedAt 16 0 0) (planned (fine (made .0)) (made .1) ∙ rw k refl) _ before refl refl
         go false k = absurd (h (ap (λ (a : PlanAnswer). a .keeping) (made .2) ∙ ap bit k))
 
-    pub loses-of : r .keeping ≡ 0 → Loses (planIn zoneF (r .asked)) (r .lost)
-    loses-of e = subst (λ (q : Plan). Loses q (r .lost)) (sym (made .3 .is)) (go (keeps (made .0)) refl)
+    pub loses-of : r .keeping ≡ 0 → Loses (planIn zoneF (r .asked) (fieldsIn (take (5 * r .asked .count) row))) (r .lost)
+    loses-of e = subst (λ (q : Plan). Loses q (r .lost)) (sym is) (go (keeps (made .0)) refl)
       where
         go : (k : Bool) → keeps (made .0) ≡ k → Loses (made .0) (r .lost)
         go true k = absurd (omega (arith, sym (ap (λ (a : PlanAnswer). a .keeping) (made .2) ∙ ap bit k) ∙ e))
         go false k = record { loses = k; place = ap (λ (a : PlanAnswer). a .lost) (made .2) ∙ ap (λ (b : Bool). cond b 0 (lostAt (made .0))) k }
 
-    pub twins-shown : r .keeping ≡ 0 → (t : Twins) (after : List ℕ) → ShownInto (planIn zoneF (r .asked)) before t after → TwinsWritten deck before t after
+    pub twins-shown : r .keeping ≡ 0 → (t : Twins) (after : List ℕ) → ShownInto (planIn zoneF (r .asked) (fieldsIn (take (5 * r .asked .count) row))) before t after → TwinsWritten deck before t after
     unfolding _>>=_ unless _>>_ fitting
     twins-shown e t after s =
         let k = loses-of e .loses in
-        let q : Plan = planIn zoneF (r .asked) in
-        into-of (fitting (length before) q) (planned (fine q) (made .1 ∙ ap fine (sym (made .3 .is))) ∙ rw k refl) t after (s .answer) (s .output)
-
-    pub plan-fair : PlanFair (r .asked)
-    plan-fair = made .3 .fair
+        let q : Plan = planIn zoneF (r .asked) (fieldsIn (take (5 * r .asked .count) row)) in
+        into-of (fitting (length before) q) (planned (fine q) (made .1 ∙ ap fine (sym is)) ∙ rw k refl) t after (s .answer) (s .output)
 
 -- the promise allows one outcome alone
 pub only-one : (deck before : List ℕ) (r r′ : Twins) (after after′ : List ℕ) → TwinsWritten deck before r after → TwinsWritten deck before r′ after′ → (r ≡ r′) × (after ≡ after′)

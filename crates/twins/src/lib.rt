@@ -1,16 +1,16 @@
 // For a deck whose plan loses, two input records that it makes one, and the reason (document 02, order 3).
 ghost use mathlib.Core.Path.{_≡_};
 ghost use mathlib.Core.Bool.{true};
-ghost use mathlib.Core.List.{map};
 ghost use Prim.Native.Nat.{ℕ, _+_, _*_, _≤_, _<_};
-ghost use lib.ListN.{length, take};
+ghost use lib.ListN.{length};
 ghost use Rattle.rules.specs.Halves.{readsFrom, readsMany, bytes};
 ghost use Rattle.rules.specs.Permitted.{reads as readsBy};
 ghost use Rattle.rules.specs.Plan.{lostAt};
 ghost use Rattle.rules.specs.Lent.{zoneF};
 ghost use Rattle.rules.specs.Twins.{listed, shows as showsBy, reasonOf, reasonBy, reason as reasonFor};
 ghost use Rattle.terms.specs.Meaning.{fieldOf, planIn};
-ghost use Rattle.terms.specs.Fair.{PlanFair};
+ghost use Rattle.rows.specs.Kept.{fieldsIn};
+ghost use Rattle.rows.specs.Fair.{PlanFair};
 ghost use Rattle.keeping.specs.Promise.{FairField, Fair};
 ghost use Rattle.twins.specs.Promise.{refusedTwins, raisedIn, Values, neededFor, recordsIn, WrittenInto, Loses, ShownInto, TwinsWritten};
 use terms::Asked;
@@ -66,14 +66,15 @@ fn reason_of(f: Field, h: usize) -> usize
 }
 
 // The last field that reads half h decides; where none does, it is never read.
-fn reason(fields: [Field; 64], count: usize, h: usize) -> usize
-    requires { ⌜ Fair fields count 4096 4096 ⌝ }
-    ensures { λ r. ⌜ ((n m : ℕ) → Fair fields count n m → r ≡ reasonBy zoneF (2 * n) h 1 (map fieldOf (take count fields))) ⌝ }
+fn reason(fields: &[u16], h: usize) -> usize
+    requires { ⌜ Fair (now fields) 4096 4096 ⌝ }
+    ensures { λ r. ⌜ ((n m : ℕ) → Fair (now (fields .entry)) n m → r ≡ reasonBy zoneF (2 * n) h 1 (fieldsIn (now (fields .entry)))) ⌝ }
 {
+    let count = fields.len() / 5;
     let mut reason = 1;
     let mut k = 0;
     while k < count {
-        let f = fields[k];
+        let f = rows::field_at(fields, k);
         if reads(f, h) {
             reason = reason_of(f, h);
         }
@@ -148,24 +149,23 @@ fn refused(number: usize, place: usize, column: usize) -> Twins
 }
 
 // The reason of a plan that loses: the tail, or what becomes of the lost half.
-fn why(asked: Asked, lost: usize) -> usize
-    requires { ⌜ PlanFair asked ⌝ }
-    requires { ⌜ lost ≡ lostAt (planIn zoneF asked) ⌝ }
-    ensures { λ r. ⌜ r ≡ reasonFor (planIn zoneF asked) ⌝ }
+fn why(asked: Asked, fields: &[u16], lost: usize) -> usize
+    requires { ⌜ PlanFair asked (now fields) ⌝ }
+    requires { ⌜ lost ≡ lostAt (planIn zoneF asked (fieldsIn (now fields))) ⌝ }
+    ensures { λ r. ⌜ r ≡ reasonFor (planIn zoneF asked (fieldsIn (now (fields .entry)))) ⌝ }
 {
     let input = asked.input;
     if lost == 2 * combinations::record_length(input) {
         return 4;
     }
-    let fields = asked.fields;
-    reason(fields, asked.count, lost)
+    reason(fields, lost)
 }
 
 // Of a plan that loses: refusal 15, or both records.
-fn show(asked: Asked, lost: usize, out: &mut [u8]) -> Twins
-    requires { ⌜ PlanFair asked ⌝ }
-    requires { ⌜ Loses (planIn zoneF asked) lost ⌝ }
-    ensures { λ r. ⌜ ShownInto (planIn zoneF asked) (now (out .entry)) r (now (out .exit)) ⌝ }
+fn show(asked: Asked, fields: &[u16], lost: usize, out: &mut [u8]) -> Twins
+    requires { ⌜ PlanFair asked (now fields) ⌝ }
+    requires { ⌜ Loses (planIn zoneF asked (fieldsIn (now fields))) lost ⌝ }
+    ensures { λ r. ⌜ ShownInto (planIn zoneF asked (fieldsIn (now (fields .entry)))) (now (out .entry)) r (now (out .exit)) ⌝ }
 {
     let input = asked.input;
     let n = combinations::record_length(input);
@@ -173,14 +173,14 @@ fn show(asked: Asked, lost: usize, out: &mut [u8]) -> Twins
     if out.len() < length {
         return refused(15, length, 0);
     }
-    let fields = asked.fields;
-    let values = keeping::lowest_halves(fields, asked.count);
+    let mut values = [0u8; 8192];
+    keeping::lowest_halves(fields, &mut values);
     put_twins(&values, n, lost, out);
     Twins {
         refusal: 0,
         place: 0,
         column: 0,
-        reason: why(asked, lost),
+        reason: why(asked, fields, lost),
         length,
     }
 }
@@ -189,7 +189,8 @@ fn show(asked: Asked, lost: usize, out: &mut [u8]) -> Twins
 pub fn twins_of(deck: &[u8], out: &mut [u8]) -> Twins
     ensures { λ r. ⌜ TwinsWritten (now (deck .entry)) (now (out .entry)) r (now (out .exit)) ⌝ }
 {
-    let p = plans::plan_deck(deck);
+    let mut row = [0u16; 320];
+    let p = plans::plan_deck(deck, &mut row);
     if p.refusal != 0 {
         return refused(p.refusal, p.place, p.column);
     }
@@ -197,5 +198,6 @@ pub fn twins_of(deck: &[u8], out: &mut [u8]) -> Twins
         return refused(16, 0, 0);
     }
     let asked = p.asked;
-    show(asked, p.lost, out)
+    let end = 5 * asked.count;
+    show(asked, &row[..end], p.lost, out)
 }

@@ -1,15 +1,12 @@
 -- The six numbers of the plan are those that the rules answer.
-use mathlib.Core.Path.{ap}
+use mathlib.Core.Path.{ap, sym}
+use Rattle.rows.proofs.RowLaws.{row-none}
 use Rattle.bhexodana.specs.Promise.{plannedOf}
-use borrow.Author.Needs.{needs}
 use Rattle.bhexodana.proofs.bhx_plan.Statement.{statement}
 use Rattle.bhexodana.proofs.bhx_plan.Tie as tie
-use Rattle.bhexodana.proofs.bhx_plan.Reads as reads
-use Rattle.bhexodana.proofs.bhx_plan.Lts as lts
-use Rattle.plans.proofs.plan_deck.Reads as plan-deck-reads
 
 plan-deck-requires : tie.Need-plan-deck-requires
-plan-deck-requires c κs = search needs
+plan-deck-requires c κs = sym row-none
 
 returns : tie.Need-returns
 returns c = ap plannedOf (c .plan-deck .ensures .numbers)

@@ -4,12 +4,9 @@ use borrow.Author.Needs.{needs}
 use Rattle.cards.proofs.asked_for.Statement.{statement}
 use Rattle.cards.proofs.asked_for.Tie as tie
 
-fields-requires : tie.Need-fields-requires
-fields-requires c κs = search needs
-
 returns : tie.Need-returns
 unfolding askedFor
-returns c = rw (c .fields .ensures)
+returns c = search needs
 
 pub asked-for-spec : {M : Type 1} → statement M
-asked-for-spec = tie.close (tie.spec fields-requires returns)
+asked-for-spec = tie.close (tie.spec returns)

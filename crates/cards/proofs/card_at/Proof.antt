@@ -14,8 +14,10 @@ enum-known-found : tie.Need-enum-known-found
 enum-known-found c = search needs
 
 card-on-requires : tie.Need-card-on-requires
-card-on-requires c κs =
-    subst (LineSays (now (c .before .before .before .before .before .args .deck)) (c .before .before .before .before .before .args .at)) (c .before .found .given .1) (c .before .before .before .line .ensures)
+card-on-requires c κs = (
+  subst (LineSays (now (c .before .before .before .before .before .args .deck)) (c .before .before .before .before .before .args .at)) (c .before .found .given .1) (c .before .before .before .line .ensures),
+  c .before .before .before .before .before .pre,
+)
 
 enum-told : tie.Need-enum-told
 enum-told c = search needs

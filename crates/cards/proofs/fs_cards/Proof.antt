@@ -1,63 +1,68 @@
 -- `cards::fs_cards` meets its contract: the loop's invariant is that what is right of the cards from here on is right of all cards. The measure is what is left of
 -- the deck.
-use mathlib.Core.Path.{_≡_, refl, ap, sym, _∙_, subst}
+use mathlib.Core.Path.{_≡_, ap, sym, _∙_, subst}
 use mathlib.Core.Logic.{_⊎_, ⊎-elim}
-use mathlib.Core.List.{List}
-use Prim.Native.Nat.{ℕ, suc, _+_, _-_, _≤_}
+use mathlib.Core.List.{List, []}
+use Prim.Native.Nat.{ℕ, _-_}
 use native.Mathlib.Numerals.{add-one}
 use native.Mathlib.Omega.{arith}
 use denote.Ref.{now}
 use denote.Enum.Declared.{tagOf}
-use lib.ListN.{length, drop, replicate}
+use lib.ListN.{length, drop}
 use lib.Seq.{slice}
 use borrow.Author.Needs.{needs}
 use Rattle.rules.specs.Reader.{listOf}
+use Rattle.rules.specs.Places.{All}
 use Rattle.rules.specs.Deck.{fsCard}
 use Rattle.rules.specs.Grammar.{item}
 use Rattle.rules.specs.Words.{worded}
+use Rattle.rules.proofs.AllLaws.{all-tail}
 use Rattle.rules.proofs.LineLaws.{slice-part}
+use Rattle.rows.specs.Kept.{rowOf}
+use Rattle.rows.proofs.RowLaws.{length-row}
+use Rattle.lines.specs.Meaning.{IsCard}
 use Rattle.cards.specs.declared.CardAt.{CardAt}
 use Rattle.cards.specs.declared.CardAt.the-variants.{UAt, FsAt, NoOperand}
 use Rattle.cards.specs.declared.Noted.{Noted}
-use Rattle.cards.specs.declared.Selected.{Selected}
-use Rattle.cards.specs.Selected.{nothingNoted, ListSays, onCard, noSelection}
+use Rattle.cards.specs.Selected.{Taken, nothingNoted, ListSays, noSelection}
 use Rattle.cards.specs.Deck.{cardsIn, fsFirst, OperandAt, CardAtSays, FsSaid}
-use Rattle.cards.proofs.DeckLaws.{Selecting, selecting-start, selecting-none, selecting-u, selecting-stop, selecting-counts, selecting-more}
+use Rattle.cards.proofs.DeckLaws.{Selecting, selecting-start, selecting-none, selecting-u, selecting-stop, selecting-more}
 use Rattle.cards.proofs.CardAt as card-type
 use Rattle.cards.proofs.fs_cards.Statement.{statement}
 use Rattle.cards.proofs.fs_cards.Tie as tie
 
 abbrev Inv-loop : tie.InvT-loop
-Inv-loop deck from row₀ cards₀ noted₀ card₀ at₀ row cards noted card at = (length row ≡ 320) × Selecting deck from (record { row = row; cards = cards; noted = noted }) card at
+Inv-loop deck from row₀ noted₀ card₀ at₀ row noted card at = (length row ≡ 320) × All IsCard (cardsIn (drop at deck)) × Selecting deck from (noted, row) card at
 
 abbrev μ-loop : tie.MeasureT-loop
-μ-loop deck from row₀ cards₀ noted₀ card₀ at₀ row cards noted card at = length deck - at
+μ-loop deck from row₀ noted₀ card₀ at₀ row noted card at = length deck - at
 
 nothing-noted-requires : tie.Need-nothing-noted-requires Inv-loop μ-loop
 nothing-noted-requires c κs = tt
 
-start : (deck : List ℕ) (from : ℕ) → Selecting deck from (record { row = replicate 320 0; cards = replicate 64 0; noted = nothingNoted }) 2 from
+start : (deck : List ℕ) (from : ℕ) (n : Noted) (row : List ℕ) → n ≡ nothingNoted → row ≡ rowOf [] → Selecting deck from (n, row) 2 from
 unfolding noSelection
-start deck from = selecting-start deck from
+start deck from n row e f = subst (λ (t : Taken). Selecting deck from t 2 from) (λ i. (sym e i, sym f i)) (selecting-start deck from)
 
 loop-holds : tie.Need-loop-holds Inv-loop μ-loop
 loop-holds c =
-    let a = c .before .before .args in
-    (refl, subst (λ (n : Noted). Selecting (now (a .deck)) (a .from) (record { row = replicate 320 0; cards = replicate 64 0; noted = n }) 2 (a .from)) (sym (c .nothing-noted .ensures)) (start (now (a .deck)) (a .from)))
+    let s = c .before .before in
+    let a = s .args in
+    (ap length (s .pre .1) ∙ length-row [] (omega arith), s .pre .0, start (now (a .deck)) (a .from) _ (now (a .row)) (c .nothing-noted .ensures) (s .pre .1))
 
 card-at-requires : tie.Need-card-at-requires Inv-loop μ-loop
-card-at-requires c κs = tt
+card-at-requires c κs = c .loop .inv .1
 
 enum-known-found : tie.Need-enum-known-found Inv-loop μ-loop
 enum-known-found c = search needs
 
 -- a card whose number is not that of `FsAt`
-other : (deck : List ℕ) (from : ℕ) (st : Selected) (card at : ℕ) → Selecting deck from st card at → (r : CardAt) → CardAtSays deck at r
+other : (deck : List ℕ) (from : ℕ) (t : Taken) (card at : ℕ) → Selecting deck from t card at → (r : CardAt) → CardAtSays deck at r
     → (tagOf card-type.the-type r ≡ 0) ⊎ (tagOf card-type.the-type r ≡ 2)
-    → FsSaid 2 noSelection (fsFirst (cardsIn (drop from deck))) (record { state = st; unread = 0; column = 0 })
-other deck from st card at g (UAt start end next) h k = selecting-u deck from st card at g (start - at) start end next h
-other deck from st card at g (FsAt start end next) h k = absurd (⊎-elim (λ e. omega arith) (λ e. omega arith) k)
-other deck from st card at g NoOperand h k = selecting-none deck from st card at g h
+    → FsSaid 2 noSelection (fsFirst (cardsIn (drop from deck))) (record { noted = t .0; unread = 0; column = 0 }) (t .1)
+other deck from t card at g (UAt start end next) h k = selecting-u deck from t card at g (start - at) start end next h
+other deck from t card at g (FsAt start end next) h k = absurd (⊎-elim (λ e. omega arith) (λ e. omega arith) k)
+other deck from t card at g NoOperand h k = selecting-none deck from t card at g h
 
 -- what stands here is an FS card
 is-fs : (c : tie.After-found Inv-loop μ-loop)
@@ -68,7 +73,7 @@ returns : tie.Need-returns Inv-loop μ-loop
 returns c =
     let l = c .before .before .loop in
     let a = c .before .before .before .before .before .args in
-    other (now (a .deck)) (a .from) (record { row = l .row; cards = l .cards; noted = l .noted }) (l .card) (l .at) (l .inv .1) (c .before .card-at .result) (c .before .card-at .ensures) (c .match .keys2)
+    (l .inv .0, other (now (a .deck)) (a .from) (l .noted, l .row) (l .card) (l .at) (l .inv .2) (c .before .card-at .result) (c .before .card-at .ensures) (c .match .keys2))
 
 sub-list : tie.Need-sub-list Inv-loop μ-loop
 sub-list c = is-fs (c .before) .from
@@ -101,39 +106,30 @@ told c =
 
 returns-2 : tie.Need-returns-2 Inv-loop μ-loop
 returns-2 c =
-    let f = c .before .before .before .before .before in
-    let l = f .before .before .before .loop in
-    let a = f .before .before .before .before .before .before .args in
-    let g = f .found .given .0 in
-    selecting-stop (now (a .deck)) (a .from) (record { row = l .row; cards = l .cards; noted = l .noted }) (l .card) (l .at) (l .inv .1) (g .0) (g .1 .0) (g .1 .1 .0) (is-fs f)
-    (c .before .list .result) (c .before .list .last .1 .1 .1 .1 .0) (told (c .before)) (c .if1 .taken) _
-
-on-card-requires : tie.Need-on-card-requires Inv-loop μ-loop
-on-card-requires c κs =
     let f = c .before .before .before .before .before .before in
     let l = f .before .before .before .loop in
     let a = f .before .before .before .before .before .before .args in
     let g = f .found .given .0 in
-    selecting-counts (now (a .deck)) (a .from) (record { row = l .row; cards = l .cards; noted = l .noted }) (l .card) (l .at) (l .inv .1) (g .0) (g .1 .0) (g .1 .1 .0) (is-fs f)
-    (c .before .before .list .result) (c .before .before .list .last .1 .1 .1 .1 .0) (told (c .before .before)) (c .before .if1 .left)
+    let r = c .before .before .list in
+    (r .ensures .0, selecting-stop (now (a .deck)) (a .from) (l .noted, l .row) (l .card) (l .at) (l .inv .2) (g .0) (g .1 .0) (g .1 .1 .0) (is-fs f) (r .result) (r .last .1 .1 .1 .1 .0) (told (c .before .before)) (c .if1 .taken) _)
 
 add-card : tie.Need-add-card Inv-loop μ-loop
-add-card c = let f = c .before .before .before .before .before .before .before in let h = is-fs f in let low = f .before .before .before .loop .inv .1 .low in omega (arith, h .on, h .within)
+add-card c = let f = c .before .before .before .before .before .before in let h = is-fs f in let low = f .before .before .before .loop .inv .2 .low in omega (arith, h .on, h .within)
 
 loop-less : tie.Need-loop-less Inv-loop μ-loop
-loop-less c = let f = c .before .before .before .before .before .before .before in let h = is-fs f in omega (arith, h .on, h .within)
+loop-less c = let f = c .before .before .before .before .before .before in let h = is-fs f in omega (arith, h .on, h .within)
 
 loop-again : tie.Need-loop-again Inv-loop μ-loop
 loop-again c =
-    let f = c .before .before .before .before .before .before .before in
+    let f = c .before .before .before .before .before .before in
     let l = f .before .before .before .loop in
     let a = f .before .before .before .before .before .before .args in
     let g = f .found .given .0 in
-    let r = c .before .before .before .list in (
+    let r = c .before .before .list in (
       r .ensures .0,
-      rw (add-one (l .card), c .on-card .ensures)
-          (selecting-more (now (a .deck)) (a .from) (record { row = l .row; cards = l .cards; noted = l .noted }) (l .card) (l .at) (l .inv .1) (g .0) (g .1 .0) (g .1 .1 .0) (is-fs f)
-          (r .result) (r .last .1 .1 .1 .1 .0) (told (c .before .before .before)) (c .before .before .if1 .left)),
+      all-tail (subst (All IsCard) (is-fs f .is) (l .inv .1)),
+      rw (add-one (l .card))
+          (selecting-more (now (a .deck)) (a .from) (l .noted, l .row) (l .card) (l .at) (l .inv .2) (g .0) (g .1 .0) (g .1 .1 .0) (is-fs f) (r .result) (r .last .1 .1 .1 .1 .0) (told (c .before .before)) (c .if1 .left)),
     )
 
 pub fs-cards-spec : {M : Type 1} → statement M
@@ -152,7 +148,6 @@ fs-cards-spec =
     part-list-end
     list-requires
     returns-2
-    on-card-requires
     add-card
     loop-less
     loop-again)

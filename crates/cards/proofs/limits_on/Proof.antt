@@ -1,5 +1,4 @@
 -- `cards::limits_on` meets its contract: each return has passed the tests before it.
-use mathlib.Core.Path.{sym, _∙_}
 use borrow.Author.Tests.{eq-eqb, ne-eqb}
 use Rattle.cards.specs.Verdict.{limitsOf}
 use borrow.Author.Needs.{needs}

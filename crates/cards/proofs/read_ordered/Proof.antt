@@ -1,42 +1,37 @@
 -- `cards::read_ordered` meets its contract: the first card is a U card, and each way out is one of the ways in which the cards are read.
-use mathlib.Core.Path.{_≡_, sym, subst}
-use mathlib.Core.Logic.{_⊎_, ⊎-elim}
-use mathlib.Core.List.{List}
+use mathlib.Core.Path.{ap, sym, _∙_, subst}
+use mathlib.Core.List.{List, []}
 use Prim.Native.Nat.{ℕ, _+_, _-_}
 use native.Mathlib.Omega.{arith}
 use denote.Ref.{now}
-use denote.Enum.Declared.{tagOf}
+use lib.ListN.{length}
 use lib.Seq.{slice}
 use borrow.Author.Needs.{needs}
 use Rattle.rules.specs.Reader.{listOf}
+use Rattle.rules.specs.Places.{All}
 use Rattle.rules.specs.Deck.{uCard}
 use Rattle.rules.specs.Grammar.{parameter}
 use Rattle.rules.specs.Words.{worded}
+use Rattle.rules.proofs.AllLaws.{all-tail}
 use Rattle.rules.proofs.LineLaws.{slice-part}
-use Rattle.cards.specs.declared.CardAt.{CardAt}
-use Rattle.cards.specs.declared.CardAt.the-variants.{UAt, FsAt, NoOperand}
+use Rattle.rows.proofs.RowLaws.{length-row}
+use Rattle.lines.specs.Meaning.{IsCard}
+use Rattle.cards.specs.declared.DeckRead.{DeckRead}
 use Rattle.cards.specs.Parameters.{UListed}
 use Rattle.cards.specs.Deck.{OperandAt, CardAtSays}
-use Rattle.cards.specs.Promise.{DeckSays, InOrder}
-use Rattle.cards.proofs.OrderedLaws.{first-u, first-not-fs, unread-u, unread-fs, few-kept, all-read}
-use Rattle.cards.proofs.CardAt as card-type
+use Rattle.cards.specs.Promise.{DeckReads}
+use Rattle.cards.proofs.OrderedLaws.{all-cards, first-known, unread-u, unread-fs, all-read}
 use Rattle.cards.proofs.read_ordered.Statement.{statement}
 use Rattle.cards.proofs.read_ordered.Tie as tie
 
 card-at-requires : tie.Need-card-at-requires
-card-at-requires c κs = search needs
+card-at-requires c κs = let s = c .before in all-cards (now (s .args .deck)) (s .args .fs) (s .pre .0)
 
 enum-known-first : tie.Need-enum-known-first
 enum-known-first c = search needs
 
 refused-requires : tie.Need-refused-requires
 refused-requires c κs = search needs
-
--- a card whose number is not that of `UAt` is not the first of a deck in order
-never : (deck : List ℕ) (fs : ℕ) → InOrder deck fs → (r : CardAt) → CardAtSays deck 0 r → (tagOf card-type.the-type r ≡ 1) ⊎ (tagOf card-type.the-type r ≡ 2) → ⊥
-never deck fs o (UAt start end next) h k = ⊎-elim (λ e. omega arith) (λ e. omega arith) k
-never deck fs o (FsAt start end next) h k = first-not-fs deck fs o start end next h
-never deck fs o NoOperand h k = first-u deck fs o h
 
 -- the first card is a U card
 is-u : (c : tie.After-first)
@@ -54,7 +49,7 @@ said c =
     (sym (slice-part (g .0) (g .1 .0) (now (f .before .before .before .before .args .deck)) (is-u f .from))) (c .u-card .ensures)
 
 returns : tie.Need-returns
-returns c = absurd (never (now (c .before .before .before .before .args .deck)) (c .before .before .before .before .args .fs) (c .before .before .before .before .pre) (c .before .before .card-at .result) (c .before .before .card-at .ensures) (c .before .match .keys2))
+returns c = absurd (first-known (now (c .before .before .before .before .args .deck)) (c .before .before .before .before .args .fs) (c .before .before .before .before .pre .0) (c .before .before .card-at .result) (c .before .before .card-at .ensures) (c .before .match .keys2))
 
 sub-u-card : tie.Need-sub-u-card
 sub-u-card c = is-u (c .before) .from
@@ -80,46 +75,52 @@ returns-2 c =
     let f = u .before .before .before in
     let s = f .before .before .before .before in
     let g = f .first .given .0 in
-    subst (DeckSays (now (s .args .deck))) (sym (c .refused2 .ensures))
-    (unread-u (now (s .args .deck)) (s .args .fs) (s .pre) (g .0) (g .1 .0) (g .1 .1 .0) (is-u f) (u .u-card .result) (said u) (c .before .if1 .taken))
+    let row = now (s .args .row) in (
+      ap length (s .pre .1) ∙ length-row [] (omega arith),
+      subst (λ (r : DeckRead). DeckReads (now (s .args .deck)) r row) (sym (c .refused2 .ensures))
+          (unread-u (now (s .args .deck)) (s .args .fs) (s .pre .0) (g .0) (g .1 .0) (g .1 .1 .0) (is-u f) (u .u-card .result) (said u) (c .before .if1 .taken) row),
+    )
 
 fs-cards-requires : tie.Need-fs-cards-requires
-fs-cards-requires c κs = search needs
+fs-cards-requires c κs =
+    let u = c .before .before .before in
+    let f = u .before .before .before in
+    let s = f .before .before .before .before in
+    (all-tail (subst (All IsCard) (is-u f .is) (all-cards (now (s .args .deck)) (s .args .fs) (s .pre .0))), s .pre .1)
 
 refused-requires-3 : tie.Need-refused-requires-3
 refused-requires-3 c κs = search needs
 
 returns-3 : tie.Need-returns-3
 returns-3 c =
-    let e = c .before .before .before in
+    let e = c .before .before .before .before in
     let u = e .before .before in
     let f = u .before .before .before in
     let s = f .before .before .before .before in
     let g = f .first .given .0 in
-    subst (DeckSays (now (s .args .deck))) (sym (c .refused3 .ensures))
-    (unread-fs (now (s .args .deck)) (s .args .fs) (s .pre) (g .0) (g .1 .0) (g .1 .1 .0) (is-u f) (u .u-card .result) (said u) (e .if1 .left)
-    (c .before .before .fs-cards .result) (c .before .before .fs-cards .ensures) (c .before .if2 .taken))
+    let k = c .before .before .fs-cards in (
+      k .ensures .0,
+      subst (λ (r : DeckRead). DeckReads (now (s .args .deck)) r (k .last .1 .1 .0)) (sym (c .refused3 .ensures))
+          (unread-fs (now (s .args .deck)) (s .args .fs) (s .pre .0) (g .0) (g .1 .0) (g .1 .1 .0) (is-u f) (u .u-card .result) (said u) (e .if1 .left)
+          (k .result) (k .last .1 .1 .0) (k .ensures .1) (c .before .if2 .taken)),
+    )
 
 judged-requires : tie.Need-judged-requires
-judged-requires c κs =
-    let k = c .before .before .before .before in
-    let e = k .before in
-    let u = e .before .before in
-    let f = u .before .before .before in
-    let s = f .before .before .before .before in
-    let g = f .first .given .0 in
-    few-kept (now (s .args .deck)) (s .args .fs) (s .pre) (g .0) (g .1 .0) (g .1 .1 .0) (is-u f) (u .u-card .result) (said u) (e .if1 .left) (k .fs-cards .result) (k .fs-cards .ensures) (c .before .before .before .if2 .left)
+judged-requires c κs = search needs
 
 returns-4 : tie.Need-returns-4
 returns-4 c =
     let k = c .before .before .before .before .before in
-    let e = k .before in
+    let e = k .before .before in
     let u = e .before .before in
     let f = u .before .before .before in
     let s = f .before .before .before .before in
     let g = f .first .given .0 in
-    subst (DeckSays (now (s .args .deck))) (sym (c .judged .ensures))
-    (all-read (now (s .args .deck)) (s .args .fs) (s .pre) (g .0) (g .1 .0) (g .1 .1 .0) (is-u f) (u .u-card .result) (said u) (e .if1 .left) (k .fs-cards .result) (k .fs-cards .ensures) (c .before .before .before .before .if2 .left))
+    let w = k .fs-cards in (
+      w .ensures .0,
+      subst (λ (r : DeckRead). DeckReads (now (s .args .deck)) r (w .last .1 .1 .0)) (sym (c .judged .ensures))
+          (all-read (now (s .args .deck)) (s .args .fs) (s .pre .0) (g .0) (g .1 .0) (g .1 .1 .0) (is-u f) (u .u-card .result) (said u) (e .if1 .left) (w .result) (w .last .1 .1 .0) (w .ensures .1) (c .before .before .before .before .if2 .left)),
+    )
 
 pub read-ordered-spec : {M : Type 1} → statement M
 read-ordered-spec =

@@ -4,34 +4,36 @@ use mathlib.Core.Bool.{true}
 use borrow.Author.Tests.{not-true, not-false}
 use borrow.Author.Needs.{needs}
 use Rattle.rules.specs.Plan.{recordLength}
-use Rattle.terms.specs.Meaning.{sizeOf, fieldsIn}
+use Rattle.terms.specs.Meaning.{sizeOf}
+use Rattle.rows.specs.Kept.{fieldsIn}
 use Rattle.combinations.specs.Promise.{firstOutside}
 use Rattle.combinations.proofs.CombineLaws.{rightLines, rightCards, rightCV, broken-lines, broken-cards, broken-cv, outside-field, none-outside}
 use Rattle.combinations.proofs.combine.Statement.{statement}
 use Rattle.combinations.proofs.combine.Tie as tie
 
 -- past each test it holds
-lines : (c : tie.Else1) → rightLines (c .before .before .args .asked) ≡ true
+lines : (c : tie.Else1) → rightLines (c .before .before .before .args .asked) ≡ true
 lines c = sym (c .before .sound .ensures) ∙ not-false (c .before .sound .result) (c .if1 .left)
 
-cards : (c : tie.Else2) → rightCards (c .before .before .before .before .args .asked) ≡ true
+cards : (c : tie.Else2) → rightCards (c .before .before .before .before .before .args .asked) ≡ true
 cards c = sym (c .before .cards-allowed .ensures) ∙ not-false (c .before .cards-allowed .result) (c .if2 .left)
 
-cv : (c : tie.Else3) → rightCV (c .before .before .before .before .before .before .args .asked) ≡ true
+cv : (c : tie.Else3) → rightCV (c .before .before .before .before .before .before .before .args .asked) ≡ true
 cv c = sym (c .before .cv-allowed .ensures) ∙ not-false (c .before .cv-allowed .result) (c .if3 .left)
 
 -- the first field outside the records of what is asked for
 field : (c : tie.After-first-outside)
-    → let x = c .before .before .before .before .before .before .before .before .before .before .args .asked in
-    c .first-outside .result ≡ firstOutside (recordLength (sizeOf (x .input))) (recordLength (sizeOf (x .output))) 1 (fieldsIn x)
-unfolding fieldsIn
+    → let args = c .before .before .before .before .before .before .before .before .before .before .args in
+    c .first-outside .result ≡ firstOutside (recordLength (sizeOf (args .asked .input))) (recordLength (sizeOf (args .asked .output))) 1 (fieldsIn (args .fields .now))
 field c = rw (c .before .before .record-length .ensures, c .before .record-length2 .ensures) at (c .first-outside .ensures)
 
 sound-requires : tie.Need-sound-requires
 sound-requires c κs = search needs
 
 returns : tie.Need-returns
-returns c = broken-lines (c .before .before .args .asked) (sym (c .before .sound .ensures) ∙ not-true (c .before .sound .result) (c .if1 .taken))
+returns c =
+    broken-lines (c .before .before .before .args .asked) (fieldsIn (c .before .before .before .args .fields .now))
+    (sym (c .before .sound .ensures) ∙ not-true (c .before .sound .result) (c .if1 .taken))
 
 cards-allowed-requires : tie.Need-cards-allowed-requires
 cards-allowed-requires c κs = search needs
@@ -39,7 +41,8 @@ cards-allowed-requires c κs = search needs
 returns-2 : tie.Need-returns-2
 returns-2 c =
     let e = c .before .before in
-    broken-cards (e .before .before .args .asked) (lines e) (sym (c .before .cards-allowed .ensures) ∙ not-true (c .before .cards-allowed .result) (c .if2 .taken))
+    let args = e .before .before .before .args in
+    broken-cards (args .asked) (fieldsIn (args .fields .now)) (lines e) (sym (c .before .cards-allowed .ensures) ∙ not-true (c .before .cards-allowed .result) (c .if2 .taken))
 
 cv-allowed-requires : tie.Need-cv-allowed-requires
 cv-allowed-requires c κs = search needs
@@ -48,7 +51,8 @@ returns-3 : tie.Need-returns-3
 returns-3 c =
     let e = c .before .before in
     let f = e .before .before in
-    broken-cv (f .before .before .args .asked) (lines f) (cards e) (sym (c .before .cv-allowed .ensures) ∙ not-true (c .before .cv-allowed .result) (c .if3 .taken))
+    let args = f .before .before .before .args in
+    broken-cv (args .asked) (fieldsIn (args .fields .now)) (lines f) (cards e) (sym (c .before .cv-allowed .ensures) ∙ not-true (c .before .cv-allowed .result) (c .if3 .taken))
 
 record-length-requires : tie.Need-record-length-requires
 record-length-requires c κs = search needs
@@ -61,17 +65,19 @@ first-outside-requires c κs = search needs
 
 returns-4 : tie.Need-returns-4
 returns-4 c =
-    let e = c .before .before .before .before .before in
+    let e = c .before .before .before .before in
     let f = e .before .before in
     let g = f .before .before in
-    outside-field (g .before .before .args .asked) (lines g) (cards f) (cv e) _ (field (c .before)) (c .if4 .taken)
+    let args = g .before .before .before .args in
+    outside-field (args .asked) (fieldsIn (args .fields .now)) (lines g) (cards f) (cv e) _ (field (c .before)) (c .if4 .taken)
 
 returns-5 : tie.Need-returns-5
 returns-5 c =
-    let e = c .before .before .before .before .before in
+    let e = c .before .before .before .before in
     let f = e .before .before in
     let g = f .before .before in
-    none-outside (g .before .before .args .asked) (lines g) (cards f) (cv e) _ (field (c .before)) (c .if4 .left)
+    let args = g .before .before .before .args in
+    none-outside (args .asked) (fieldsIn (args .fields .now)) (lines g) (cards f) (cv e) _ (field (c .before)) (c .if4 .left)
 
 pub combine-spec : {M : Type 1} → statement M
 combine-spec =

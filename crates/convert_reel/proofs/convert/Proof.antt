@@ -1,4 +1,6 @@
--- What was written lies within the room, so it can be lent to be stored.
+-- What was written lies within the room, so it can be lent to be stored; and a row of zeros holds no field, as the plan asks of it.
+use mathlib.Core.Path.{sym}
+use Rattle.rows.proofs.RowLaws.{row-none}
 use Rattle.io.proofs.Counting.{front}
 use Rattle.convert_reel.proofs.RoomLaws.{reel-within}
 use borrow.Author.Needs.{needs}
@@ -36,7 +38,7 @@ line-requires : tie.Need-line-requires
 line-requires c κs = search needs
 
 plan-deck-requires : tie.Need-plan-deck-requires
-plan-deck-requires c κs = search needs
+plan-deck-requires c κs = sym row-none
 
 loss-requires : tie.Need-loss-requires
 loss-requires c κs = search needs

@@ -1,13 +1,21 @@
 -- What the fields of the plan do, told by weighing them, and then the tail. In TC and TR there is no field, so no half is without a value.
-use mathlib.Core.Path.{_≡_, ap, sym, _∙_}
+use mathlib.Core.Path.{_≡_, ap, sym, _∙_, subst}
 use mathlib.Core.Bool.{true}
-use lib.ListN.{length, length-map}
+use mathlib.Core.List.{List}
+use denote.Ref.{now}
 use borrow.Author.Tests.{not-true, not-false}
 use borrow.Author.Needs.{needs}
 use Rattle.rules.specs.Lent.{zoneF}
-use Rattle.rules.specs.Answer.{_>>=_}
+use Rattle.rules.specs.Base.{joined}
+use Rattle.rules.specs.Answer.{fine, _>>=_}
+use Rattle.rules.specs.Halves.{Field as RuleField}
+use Rattle.rules.specs.Asked.{fieldsOf, Asked as RuleAsked}
 use Rattle.rules.specs.Plan.{selects, recordLength}
-use Rattle.terms.specs.Meaning.{modeOf, sizeOf, fieldsIn}
+use Rattle.terms.specs.Meaning.{modeOf, sizeOf}
+use Rattle.rows.specs.Flat.{flatOf}
+use Rattle.rows.specs.Kept.{fieldsIn}
+use Rattle.rows.proofs.RowLaws.{fields-back}
+use Rattle.combinations.specs.Promise.{combinedOf}
 use Rattle.keeping.specs.Promise.{weighedOf, answerOf as weighed}
 use Rattle.keeping.specs.declared.Weighed.the-variants.{Barren, Kept, Lost}
 use Rattle.judges.specs.Promise.{Judges}
@@ -16,20 +24,23 @@ use Rattle.judges.proofs.JudgeLaws.{carried, by-weighing}
 use Rattle.judges.proofs.by_halves.Statement.{statement}
 use Rattle.judges.proofs.by_halves.Tie as tie
 
--- the array has 64 fields
-many : (c : tie.Start) → length (c .args .asked .fields) ≡ 64
-many c = sym (length-map (c .args .asked .fields) _) ∙ c .good .0 .1 .1 .1 .1 .1 .1 .1 .0 .1 .0 .1
-
 -- TF or TRF, past the first test
-selected : (c : tie.Else1) → selects (modeOf (c .before .before .args .asked .mode)) ≡ true
+selected : (c : tie.Else1) → selects (modeOf (c .before .before .before .args .asked .mode)) ≡ true
 selected c = sym (c .before .selects .ensures) ∙ not-false (c .before .selects .result) (c .if1 .left)
 
--- what weighing answers of what is asked for
-told : (c : tie.After-weigh)
+-- what weighing answers of the fields that are asked for
+told : (c : tie.After-weigh) (a : RuleAsked)
     → let x = c .before .before .before .before .before .before .args .asked in
-    weighed (c .weigh .result) ≡ weighedOf zoneF (fieldsIn x) (recordLength (sizeOf (x .input))) (recordLength (sizeOf (x .output)))
-unfolding fieldsIn
-told c = rw (c .before .before .before .record-length .ensures, c .before .record-length2 .ensures) at (c .weigh .ensures)
+    now (c .before .before .before .before .before .before .args .fields) ≡ flatOf (fieldsOf (joined (a .cards)))
+    → weighed (c .weigh .result) ≡ weighedOf zoneF (fieldsOf (joined (a .cards))) (recordLength (sizeOf (x .input))) (recordLength (sizeOf (x .output)))
+told c a e =
+    let x = c .before .before .before .before .before .before .args .asked in
+    rw (c .before .before .record-length .ensures, c .before .record-length2 .ensures) at (c .weigh .ensures)
+    ∙ ap (λ (fs : List RuleField). weighedOf zoneF fs (recordLength (sizeOf (x .input))) (recordLength (sizeOf (x .output)))) (ap fieldsIn e ∙ fields-back (fieldsOf (joined (a .cards))))
+
+-- the fields of the row are those that are asked for
+sound : (c : tie.Start) (a : RuleAsked) → now (c .args .fields) ≡ flatOf (fieldsOf (joined (a .cards))) → combinedOf (c .args .asked) (fieldsOf (joined (a .cards))) ≡ fine tt
+sound c a e = subst (λ (fs : List RuleField). combinedOf (c .args .asked) fs ≡ fine tt) (ap fieldsIn e ∙ fields-back (fieldsOf (joined (a .cards)))) (c .pre .1)
 
 selects-requires : tie.Need-selects-requires
 selects-requires c κs = search needs
@@ -37,8 +48,8 @@ selects-requires c κs = search needs
 returns : tie.Need-returns
 unfolding Judges
 returns c =
-    let start = c .before .before in
-    λ a m. carried (start .args .asked) a m (start .pre .1) (sym (c .before .selects .ensures) ∙ not-true (c .before .selects .result) (c .if1 .taken))
+    let start = c .before .before .before in
+    λ a m e. carried (start .args .asked) a m (sound start a e) (sym (c .before .selects .ensures) ∙ not-true (c .before .selects .result) (c .if1 .taken))
 
 record-length-requires : tie.Need-record-length-requires
 record-length-requires c κs = search needs
@@ -49,7 +60,7 @@ record-length-requires-2 c κs = search needs
 weigh-requires : tie.Need-weigh-requires
 weigh-requires c κs =
     let start = c .before .before .before .before .before in
-    rw (c .before .before .record-length .ensures, c .record-length2 .ensures) (fair-sound (start .args .asked) (start .pre .0) (many start) (start .pre .1))
+    rw (c .before .record-length .ensures, c .record-length2 .ensures) (fair-sound (start .args .asked) (now (start .args .fields)) (start .pre .0 .0) (start .pre .0 .1) (start .pre .1))
 
 enum-known-weighed : tie.Need-enum-known-weighed
 enum-known-weighed c = search needs
@@ -71,22 +82,22 @@ unfolding Judges _>>=_
 returns-2 c =
     let w = c .before .before .before in
     let start = w .before .before .before .before .before .before in
-    λ a m. by-weighing (start .args .asked) a m (start .pre .1) (selected (w .before .before .before .before)) (Barren _) (ap weighed (sym (c .before .weighed .given .1)) ∙ told w)
+    λ a m e. by-weighing (start .args .asked) a m (sound start a e) (selected (w .before .before .before)) (Barren _) (ap weighed (sym (c .before .weighed .given .1)) ∙ told w a e)
 
 returns-3 : tie.Need-returns-3
 unfolding Judges _>>=_
 returns-3 c =
     let w = c .before .before .before in
     let start = w .before .before .before .before .before .before in
-    λ a m. by-weighing (start .args .asked) a m (start .pre .1) (selected (w .before .before .before .before)) (Lost _) (ap weighed (sym (c .before .weighed2 .given .1)) ∙ told w)
+    λ a m e. by-weighing (start .args .asked) a m (sound start a e) (selected (w .before .before .before)) (Lost _) (ap weighed (sym (c .before .weighed2 .given .1)) ∙ told w a e)
 
 returns-4 : tie.Need-returns-4
 unfolding Judges _>>=_
 returns-4 c =
     let w = c .before .before .before .before in
     let start = w .before .before .before .before .before .before in
-    λ a m. rw (w .before .before .before .record-length .ensures, c .before .block-length .ensures) at (c .by-tail .ensures)
-    ∙ by-weighing (start .args .asked) a m (start .pre .1) (selected (w .before .before .before .before)) Kept (ap weighed (sym (c .before .before .enum-told .given .1)) ∙ told w)
+    λ a m e. rw (w .before .before .record-length .ensures, c .before .block-length .ensures) at (c .by-tail .ensures)
+    ∙ by-weighing (start .args .asked) a m (sound start a e) (selected (w .before .before .before)) Kept (ap weighed (sym (c .before .before .enum-told .given .1)) ∙ told w a e)
 
 pub by-halves-spec : {M : Type 1} → statement M
 by-halves-spec =

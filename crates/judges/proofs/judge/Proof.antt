@@ -1,18 +1,40 @@
 -- By what the combinations answer; what they ask holds of all that some deck asks for.
-use mathlib.Core.Path.{ap, sym, _∙_}
+use mathlib.Core.Path.{_≡_, ap, sym, _∙_}
+use mathlib.Core.List.{List}
+use Prim.Native.Nat.{ℕ, _≤_}
+use native.Mathlib.Omega.{arith}
+use denote.Ref.{now}
+use lib.ListN.{length}
 use borrow.Author.Needs.{needs}
-use Rattle.combinations.specs.Promise.{answerOf, AskedFair}
+use Rattle.rules.specs.Base.{joined}
+use Rattle.rules.specs.Asked.{fieldsOf, Asked as RuleAsked}
+use Rattle.terms.specs.declared.Asked.{Asked}
+use Rattle.rows.specs.Flat.{flatOf}
+use Rattle.rows.specs.Kept.{fieldsIn}
+use Rattle.rows.proofs.FlatLaws.{fields-many}
+use Rattle.rows.proofs.RowLaws.{fields-back}
+use Rattle.combinations.specs.declared.Combined.{Combined}
+use Rattle.combinations.specs.Promise.{answerOf, combinedOf, AskedFair}
 use Rattle.combinations.proofs.CombineLaws.{asked-fair}
 use Rattle.judges.specs.Promise.{Judges}
 use Rattle.judges.proofs.JudgeLaws.{combined-refused}
 use Rattle.judges.proofs.judge.Statement.{statement}
 use Rattle.judges.proofs.judge.Tie as tie
 
-fair : (c : tie.Start) → AskedFair (c .args .asked)
-fair c = asked-fair (c .args .asked) (c .pre .asked) (c .pre .means) (c .pre .utility) (c .pre .fields) (c .pre .one-size)
+fair : (c : tie.Start) → AskedFair (c .args .asked) (now (c .args .fields))
+fair c = asked-fair (c .args .asked) (c .pre .asked) (now (c .args .fields)) (c .pre .means) (c .pre .utility) (c .pre .fields) (c .pre .flat)
+
+-- at most 64 fields
+few : (c : tie.Start) → length (now (c .args .fields)) ≤ 320
+few c = omega (arith, c .pre .means .few, c .pre .means .count, fields-many (fieldsOf (joined (c .pre .asked .cards))) (c .pre .flat))
+
+-- where the row holds what a deck asks for, its fields are those
+answered : (x : Asked) (row : List ℕ) (r : Combined) (a : RuleAsked) → row ≡ flatOf (fieldsOf (joined (a .cards))) → answerOf r ≡ combinedOf x (fieldsIn row)
+    → answerOf r ≡ combinedOf x (fieldsOf (joined (a .cards)))
+answered x row r a e h = h ∙ ap (combinedOf x) (ap fieldsIn e ∙ fields-back (fieldsOf (joined (a .cards))))
 
 combine-requires : tie.Need-combine-requires
-combine-requires c κs = fair c
+combine-requires c κs = fair (c .before)
 
 enum-known-combined : tie.Need-enum-known-combined
 enum-known-combined c = search needs
@@ -24,15 +46,23 @@ enum-told : tie.Need-enum-told
 enum-told c = search needs
 
 by-halves-requires : tie.Need-by-halves-requires
-by-halves-requires c κs = (fair (c .before .before .before), sym (ap answerOf (sym (c .enum-told .given .1)) ∙ c .before .before .combine .ensures))
+by-halves-requires c κs =
+    let s = c .before .before .before .before in
+    ((fair s, few s), sym (ap answerOf (sym (c .enum-told .given .1)) ∙ c .before .before .combine .ensures))
 
 returns : tie.Need-returns
 unfolding Judges
-returns c = λ a m. combined-refused _ a m 8 _ (ap answerOf (sym (c .before .combined .given .1)) ∙ c .before .before .before .combine .ensures)
+returns c =
+    let k = c .before .before .before in
+    let s = k .before .before in
+    λ a m e. combined-refused _ a m 8 _ (ap answerOf (sym (c .before .combined .given .1)) ∙ answered (s .args .asked) (now (s .args .fields)) (k .combine .result) a e (k .combine .ensures))
 
 returns-2 : tie.Need-returns-2
 unfolding Judges
-returns-2 c = λ a m. combined-refused _ a m 9 _ (ap answerOf (sym (c .before .combined2 .given .1)) ∙ c .before .before .before .combine .ensures)
+returns-2 c =
+    let k = c .before .before .before in
+    let s = k .before .before in
+    λ a m e. combined-refused _ a m 9 _ (ap answerOf (sym (c .before .combined2 .given .1)) ∙ answered (s .args .asked) (now (s .args .fields)) (k .combine .result) a e (k .combine .ensures))
 
 returns-3 : tie.Need-returns-3
 returns-3 c = search needs

@@ -19,7 +19,7 @@ use Rattle.keeping.proofs.copy_sources.Tie as tie
 record Copies (from to many : ℕ) (f : Field) : Type 0 where
   fair : FairField 4096 4096 f
   kind : f .kind ≡ Copy
-  reads : from ≡ 2 * f .r - 2
+  reads : from ≡ 2 * f .r - 1
   writes : to ≡ 2 * f .t - 2
   size : many ≡ 2 * f .output
 

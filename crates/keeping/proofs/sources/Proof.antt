@@ -1,63 +1,64 @@
--- `keeping::sources` meets its contract: before each turn the numbers stand for the sources after the first k fields.
-use mathlib.Core.Path.{_≡_, subst}
+-- `keeping::sources` meets its contract: before each turn the numbers stand for the sources after the first i fields.
+use mathlib.Core.Path.{_≡_, sym, subst}
 use mathlib.Core.List.{List}
 use Prim.Native.Nat.{ℕ, _*_, _-_, _≤_}
 use native.Mathlib.Omega.{arith}
-use lib.ListN.{length, take, length-replicate}
+use lib.ListN.{length, take}
 use borrow.Author.Needs.{needs}
+use denote.Ref.{now}
 use Rattle.rules.specs.Lent.{zoneF}
-use Rattle.rules.specs.Halves.{Field, sources}
+use Rattle.rules.specs.Halves.{Field as RuleField, sources}
+use Rattle.rows.specs.Kept.{fieldsIn}
 use Rattle.keeping.specs.Marks.{Stand}
-use Rattle.keeping.specs.Promise.{Fair}
-use Rattle.keeping.proofs.AllFields.{planned, planned-all, stand-none, stand-more}
+use Rattle.keeping.specs.Promise.{FairField, Fair}
+use Rattle.keeping.proofs.AllFields.{fields-all, stand-none, stand-more}
 use Rattle.keeping.proofs.sources.Statement.{statement}
 use Rattle.keeping.proofs.sources.Tie as tie
 
 abbrev Inv-loop : tie.InvT-loop
-Inv-loop count fields out₀ k₀ out k = (length fields ≡ 64) × (length out ≡ 8192) × (k ≤ count) × ((n m : ℕ) → Fair fields count n m → Stand out (sources zoneF m (take k (planned fields count)) (2 * n)))
+Inv-loop fields out₀ count i₀ out i = (length out ≡ 8192) × (i ≤ count) × ((n m : ℕ) → Fair fields n m → Stand out (sources zoneF m (take i (fieldsIn fields)) (2 * n)))
 
 abbrev μ-loop : tie.MeasureT-loop
-μ-loop count fields out₀ k₀ out k = count - k
+μ-loop fields out₀ count i₀ out i = count - i
 
 loop-holds : tie.Need-loop-holds Inv-loop μ-loop
-loop-holds c =
-    let a = c .args in
-    (c .good .0 .1 .0 .1, length-replicate {A = ℕ} 8192 8192, omega arith, λ n m fair. stand-none n m (planned (a .t1) (a .count)) (fair .m-high))
+loop-holds c = (c .before .pre .1 .0, omega arith, λ n m fair. stand-none n m (fieldsIn (now (c .before .args .fields))) _ (c .before .pre .1 .1))
 
-mul-f : tie.Need-mul-f Inv-loop μ-loop
-mul-f c = search needs
-
-array-copy-out-f : tie.Need-array-copy-out-f Inv-loop μ-loop
-array-copy-out-f c = search needs
+field-at-requires : tie.Need-field-at-requires Inv-loop μ-loop
+field-at-requires c κs = omega (arith, c .loop-test .taken)
 
 field-sources-requires : tie.Need-field-sources-requires Inv-loop μ-loop
-field-sources-requires c κs = (c .before .before .before .before .pre .each _ (c .before .before .loop-test .taken), c .before .before .before .loop .inv .1)
+field-sources-requires c κs =
+    let read = c .before in (
+      subst (FairField 4096 4096) (sym (read .field-at .ensures))
+          (read .before .before .before .before .pre .0 .each (read .before .before .loop .i) (omega (arith, read .before .loop-test .taken))),
+      read .before .before .loop .inv .0,
+    )
 
-add-k : tie.Need-add-k Inv-loop μ-loop
-add-k c = search needs
+add-i : tie.Need-add-i Inv-loop μ-loop
+add-i c = search needs
 
 loop-less : tie.Need-loop-less Inv-loop μ-loop
 loop-less c = search needs
 
 loop-again : tie.Need-loop-again Inv-loop μ-loop
 loop-again c =
-    let l = c .before .before .before .before in
-    let o = l .loop .inv in
+    let read = c .before .before in
+    let l = read .before .before .loop in
+    let row = now (read .before .before .before .before .args .fields) in
     let covers = c .field-sources .ensures in (
-      o .0,
       covers .long,
       omega arith,
-      λ n m fair. stand-more _ _ (omega (arith, o .0, l .before .pre .few)) _ (c .before .before .before .loop-test .taken) n m fair _ _ (covers .each) (o .3 n m fair),
+      λ n m fair. stand-more row (l .i) (omega (arith, read .before .loop-test .taken)) _ (read .field-at .ensures) n m fair _ _ (covers .each) (l .inv .2 n m fair),
     )
 
 returns : tie.Need-returns Inv-loop μ-loop
 returns c =
-    λ n m fair.
-    let start = c .before .before in
-    let i = c .before .loop .inv in
-    subst (λ (fs : List Field). Stand (c .before .loop .out) (sources zoneF m fs (2 * n)))
-    (planned-all (start .args .t1) (start .args .count) _ (c .loop-test .left) (omega (arith, i .0, start .pre .few)))
-    (i .3 n m fair)
+    let row = now (c .before .before .before .args .fields) in
+    let l = c .before .loop in (
+      l .inv .0,
+      λ n m fair. subst (λ (fs : List RuleField). Stand (l .out) (sources zoneF m fs (2 * n))) (fields-all row (l .i) (c .loop-test .left)) (l .inv .2 n m fair),
+    )
 
 pub sources-spec : {M : Type 1} → statement M
 sources-spec =
@@ -66,10 +67,9 @@ sources-spec =
     Inv-loop
     μ-loop
     loop-holds
-    mul-f
-    array-copy-out-f
+    field-at-requires
     field-sources-requires
-    add-k
+    add-i
     loop-less
     loop-again
     returns)

@@ -1,40 +1,36 @@
 -- Field by field: the table holds the entries of the fields so far, and nothing behind them.
-use Prim.Native.Nat.{_-_}
+use Prim.Native.Nat.{_/_, _-_}
 use native.Mathlib.Omega.{arith}
+use denote.Ref.{now}
+use lib.ListN.{length}
 use borrow.Author.Needs.{needs}
-use Rattle.combinations.proofs.OutsideLaws.{fair-at}
 use Rattle.plans.proofs.TableLaws.{Filling, fill-start, fill-more, fill-end}
 use Rattle.plans.proofs.entries.Statement.{statement}
 use Rattle.plans.proofs.entries.Tie as tie
 
 abbrev Inv-loop : tie.InvT-loop
-Inv-loop count fields out₀ i₀ out i = Filling fields count out i
+Inv-loop fields count out₀ i₀ out i = Filling fields out i
 
 abbrev μ-loop : tie.MeasureT-loop
-μ-loop count fields out₀ i₀ out i = count - i
+μ-loop fields count out₀ i₀ out i = length fields / 5 - i
 
 no-entries-requires : tie.Need-no-entries-requires Inv-loop μ-loop
 no-entries-requires c κs = search needs
 
 loop-holds : tie.Need-loop-holds Inv-loop μ-loop
-loop-holds c = fill-start _ _ _ (c .no-entries .ensures)
+loop-holds c = fill-start _ _ (c .no-entries .ensures)
 
-mul-f : tie.Need-mul-f Inv-loop μ-loop
-mul-f c = search needs
-
-array-copy-out-f : tie.Need-array-copy-out-f Inv-loop μ-loop
-array-copy-out-f c = omega (arith, c .before .before .before .pre .few)
+field-at-requires : tie.Need-field-at-requires Inv-loop μ-loop
+field-at-requires c κs = search needs
 
 entry-requires : tie.Need-entry-requires Inv-loop μ-loop
-entry-requires c κs =
-    let start = c .before .before .before .before in
-    fair-at (start .args .t1) (start .args .count) 0 0 (start .pre) (start .good .0 .1 .0 .1) (c .before .before .loop .i) (c .before .loop-test .taken)
+entry-requires c κs = let l = c .before .before .loop in rw (c .field-at .ensures) (c .before .before .before .before .before .pre .0 (l .i) (omega arith))
 
 mul-out : tie.Need-mul-out Inv-loop μ-loop
 mul-out c = search needs
 
 array-set-from-out : tie.Need-array-set-from-out Inv-loop μ-loop
-array-set-from-out c = search needs
+array-set-from-out c = omega (arith, c .before .before .before .before .before .before .pre .1)
 
 add-i : tie.Need-add-i Inv-loop μ-loop
 add-i c = search needs
@@ -44,12 +40,12 @@ loop-less c = omega arith
 
 loop-again : tie.Need-loop-again Inv-loop μ-loop
 loop-again c =
-    let start = c .before .before .before .before .before in
+    let s = c .before .before .before .before .before .before in
     let l = c .before .before .before .loop in
-    fill-more (start .args .t1) (start .good .0 .1 .0 .1) (start .args .count) (start .pre .few) (l .out) (l .i) (l .inv) (c .before .before .loop-test .taken) _ (c .entry .ensures)
+    fill-more (now (s .args .fields)) (s .pre .1) (l .out) (l .i) (l .inv) (omega arith) _ (rw (c .before .field-at .ensures) at (c .entry .ensures))
 
 returns : tie.Need-returns Inv-loop μ-loop
-returns c = fill-end _ _ _ _ (c .before .loop .inv) (c .loop-test .left)
+returns c = fill-end _ _ _ (c .before .loop .inv) (c .loop-test .left)
 
 pub entries-spec : {M : Type 1} → statement M
 entries-spec =
@@ -59,8 +55,7 @@ entries-spec =
     μ-loop
     no-entries-requires
     loop-holds
-    mul-f
-    array-copy-out-f
+    field-at-requires
     entry-requires
     mul-out
     array-set-from-out

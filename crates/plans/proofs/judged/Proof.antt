@@ -1,13 +1,22 @@
 -- By the verdict, in each of its three cases.
 use mathlib.Core.Path.{ap, sym, _∙_}
+use Prim.Native.Nat.{_*_}
+use denote.Ref.{now}
+use lib.Seq.{length-take-le}
 use borrow.Author.Needs.{needs}
 use Rattle.judges.specs.Promise.{answerOf, Judges}
 use Rattle.plans.specs.Promise.{plannedBy, Verdicts}
 use Rattle.plans.proofs.judged.Statement.{statement}
 use Rattle.plans.proofs.judged.Tie as tie
 
+mul-end : tie.Need-mul-end
+mul-end c = search needs
+
+slice-aggregate-judge : tie.Need-slice-aggregate-judge
+slice-aggregate-judge c = let s = c .before .before .before in sym (length-take-le (5 * s .args .asked .count) (now (s .args .row)) (s .pre .0))
+
 judge-requires : tie.Need-judge-requires
-judge-requires c κs = search needs
+judge-requires c κs = c .before .before .before .pre .1
 
 enum-known-verdict : tie.Need-enum-known-verdict
 enum-known-verdict c = search needs
@@ -29,20 +38,28 @@ accepted-requires-2 c κs = search needs
 
 returns : tie.Need-returns
 unfolding Verdicts Judges
-returns c = λ a m. c .refused .ensures ∙ ap (plannedBy (c .before .before .before .before .before .args .asked)) (ap answerOf (sym (c .before .before .verdict .given .1)) ∙ c .before .before .before .before .judge .ensures a m)
+returns c =
+    let k = c .before .before .before .before in
+    λ a m e. c .refused .ensures ∙ ap (plannedBy (k .before .before .before .before .args .asked)) (ap answerOf (sym (c .before .before .verdict .given .1)) ∙ k .judge .ensures a m e)
 
 returns-2 : tie.Need-returns-2
 unfolding Verdicts Judges
-returns-2 c = λ a m. c .accepted .ensures ∙ ap (plannedBy (c .before .before .before .before .args .asked)) (ap answerOf (sym (c .before .enum-told .given .1)) ∙ c .before .before .before .judge .ensures a m)
+returns-2 c =
+    let k = c .before .before .before in
+    λ a m e. c .accepted .ensures ∙ ap (plannedBy (k .before .before .before .before .args .asked)) (ap answerOf (sym (c .before .enum-told .given .1)) ∙ k .judge .ensures a m e)
 
 returns-3 : tie.Need-returns-3
 unfolding Verdicts Judges
-returns-3 c = λ a m. c .accepted2 .ensures ∙ ap (plannedBy (c .before .before .before .before .before .args .asked)) (ap answerOf (sym (c .before .before .verdict2 .given .1)) ∙ c .before .before .before .before .judge .ensures a m)
+returns-3 c =
+    let k = c .before .before .before .before in
+    λ a m e. c .accepted2 .ensures ∙ ap (plannedBy (k .before .before .before .before .args .asked)) (ap answerOf (sym (c .before .before .verdict2 .given .1)) ∙ k .judge .ensures a m e)
 
 pub judged-spec : {M : Type 1} → statement M
 judged-spec =
     tie.close
     (tie.spec
+    mul-end
+    slice-aggregate-judge
     judge-requires
     enum-known-verdict
     refused-requires

@@ -1,4 +1,4 @@
--- Number by number.
+-- Number by number, whatever the fields are: no number of a task is taken from them.
 use mathlib.Core.Path.{refl}
 use Rattle.terms.specs.Meaning.{planIn}
 use borrow.Author.Needs.{needs}
@@ -25,7 +25,7 @@ carries-requires c κs = search needs
 
 returns : tie.Need-returns
 unfolding planIn
-returns c =
+returns c fs =
     record {
       mode = refl;
       format = refl;

@@ -6,25 +6,19 @@ use Rattle.answers.proofs.asked.tell_fields.Statement.{statement}
 use Rattle.answers.proofs.asked.tell_fields.Tie as tie
 
 abbrev Inv-loop : tie.InvT-loop
-Inv-loop asked count i₀ i = Unit {0}
+Inv-loop deck fields count i₀ i = Unit {0}
 
 abbrev μ-loop : tie.MeasureT-loop
-μ-loop asked count i₀ i = count - i
+μ-loop deck fields count i₀ i = count - i
 
 loop-holds : tie.Need-loop-holds Inv-loop μ-loop
 loop-holds c = tt
 
-mul-tell-field : tie.Need-mul-tell-field Inv-loop μ-loop
-mul-tell-field c = search needs
+field-at-requires : tie.Need-field-at-requires Inv-loop μ-loop
+field-at-requires c κs = search needs
 
-element-copy-out-tell-field : tie.Need-element-copy-out-tell-field Inv-loop μ-loop
-element-copy-out-tell-field c = search needs
-
-mul-tell-field-2 : tie.Need-mul-tell-field-2 Inv-loop μ-loop
-mul-tell-field-2 c = search needs
-
-element-copy-out-tell-field-2 : tie.Need-element-copy-out-tell-field-2 Inv-loop μ-loop
-element-copy-out-tell-field-2 c = search needs
+field-card-requires : tie.Need-field-card-requires Inv-loop μ-loop
+field-card-requires c κs = tt
 
 tell-field-requires : tie.Need-tell-field-requires Inv-loop μ-loop
 tell-field-requires c κs = tt
@@ -41,9 +35,6 @@ loop-again c = tt
 returns : tie.Need-returns Inv-loop μ-loop
 returns c = tt
 
-returns-2 : tie.Need-returns-2 Inv-loop μ-loop
-returns-2 c = tt
-
 pub tell-fields-spec : {M : Type 1} → statement M
 tell-fields-spec =
     tie.close
@@ -51,13 +42,10 @@ tell-fields-spec =
     Inv-loop
     μ-loop
     loop-holds
-    mul-tell-field
-    element-copy-out-tell-field
-    mul-tell-field-2
-    element-copy-out-tell-field-2
+    field-at-requires
+    field-card-requires
     tell-field-requires
     add-i
     loop-less
     loop-again
-    returns
-    returns-2)
+    returns)

@@ -5,19 +5,16 @@ use Rattle.show_twins.proofs.fields.last_over.Statement.{statement}
 use Rattle.show_twins.proofs.fields.last_over.Tie as tie
 
 abbrev Inv-loop : tie.InvT-loop
-Inv-loop count side byte fields last₀ i₀ last i = Unit {0}
+Inv-loop fields side byte count last₀ i₀ last i = Unit {0}
 
 abbrev μ-loop : tie.MeasureT-loop
-μ-loop count side byte fields last₀ i₀ last i = 64 - i
+μ-loop fields side byte count last₀ i₀ last i = count - i
 
 loop-holds : tie.Need-loop-holds Inv-loop μ-loop
 loop-holds c = search needs
 
-mul-f : tie.Need-mul-f Inv-loop μ-loop
-mul-f c = search needs
-
-array-copy-out-f : tie.Need-array-copy-out-f Inv-loop μ-loop
-array-copy-out-f c = search needs
+field-at-requires : tie.Need-field-at-requires Inv-loop μ-loop
+field-at-requires c κs = search needs
 
 is-over-requires : tie.Need-is-over-requires Inv-loop μ-loop
 is-over-requires c κs = search needs
@@ -44,8 +41,7 @@ last-over-spec =
     Inv-loop
     μ-loop
     loop-holds
-    mul-f
-    array-copy-out-f
+    field-at-requires
     is-over-requires
     add-last
     add-i

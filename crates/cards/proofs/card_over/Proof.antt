@@ -1,0 +1,146 @@
+-- `cards::card_over` meets its contract: the loop's invariant is that the field stands on none of the cards before, so that its card is that among the cards from
+-- here on. The measure is what is left of the deck.
+use mathlib.Core.Path.{_≡_, sym, subst}
+use mathlib.Core.Logic.{_⊎_, ⊎-elim}
+use mathlib.Core.List.{List}
+use Prim.Native.Nat.{ℕ, _-_}
+use native.Mathlib.Numerals.{add-one}
+use native.Mathlib.Omega.{arith}
+use denote.Ref.{now}
+use denote.Enum.Declared.{tagOf}
+use lib.ListN.{length, drop, length-replicate}
+use lib.Seq.{slice}
+use borrow.Author.Needs.{needs}
+use Rattle.rules.specs.Reader.{listOf}
+use Rattle.rules.specs.Places.{All}
+use Rattle.rules.specs.Deck.{fsCard}
+use Rattle.rules.specs.Grammar.{item}
+use Rattle.rules.specs.Words.{worded}
+use Rattle.rules.proofs.AllLaws.{all-tail}
+use Rattle.rules.proofs.LineLaws.{slice-part}
+use Rattle.lines.specs.Meaning.{IsCard}
+use Rattle.cards.specs.declared.CardAt.{CardAt}
+use Rattle.cards.specs.declared.CardAt.the-variants.{UAt, FsAt, NoOperand}
+use Rattle.cards.specs.declared.Noted.{Noted}
+use Rattle.cards.specs.Selected.{Taken, ListSays}
+use Rattle.cards.specs.Deck.{cardsIn, OperandAt, CardAtSays}
+use Rattle.cards.proofs.HolderLaws.{Seeking, Held, seeking-start, seeking-none, seeking-u, seeking-found, seeking-more}
+use Rattle.cards.proofs.CardAt as card-type
+use Rattle.cards.proofs.card_over.Statement.{statement}
+use Rattle.cards.proofs.card_over.Tie as tie
+
+abbrev Inv-loop : tie.InvT-loop
+Inv-loop deck from field row₀ noted₀ card₀ at₀ row noted card at = (length row ≡ 320) × All IsCard (cardsIn (drop at deck)) × Seeking deck from field (noted .count) card at
+
+abbrev μ-loop : tie.MeasureT-loop
+μ-loop deck from field row₀ noted₀ card₀ at₀ row noted card at = length deck - at
+
+nothing-noted-requires : tie.Need-nothing-noted-requires Inv-loop μ-loop
+nothing-noted-requires c κs = tt
+
+loop-holds : tie.Need-loop-holds Inv-loop μ-loop
+loop-holds c =
+    let s = c .before .before in
+    let a = s .args in
+    (length-replicate {A = ℕ} 320 0, s .pre .0, subst (λ (n : Noted). Seeking (now (a .deck)) (a .from) (a .field) (n .count) 2 (a .from)) (sym (c .nothing-noted .ensures)) (seeking-start (now (a .deck)) (a .from) (a .field) (s .pre .1)))
+
+card-at-requires : tie.Need-card-at-requires Inv-loop μ-loop
+card-at-requires c κs = c .loop .inv .1
+
+enum-known-found : tie.Need-enum-known-found Inv-loop μ-loop
+enum-known-found c = search needs
+
+-- a card whose number is not that of `FsAt`
+other : (deck : List ℕ) (from field : ℕ) (t : Taken) (card at : ℕ) (g : Seeking deck from field (t .0 .count) card at) (r : CardAt) → CardAtSays deck at r
+    → (tagOf card-type.the-type r ≡ 0) ⊎ (tagOf card-type.the-type r ≡ 2) → Held deck from field t card at g 0
+other deck from field t card at g (UAt start end next) h k = seeking-u deck from field t card at g (start - at) start end next h
+other deck from field t card at g (FsAt start end next) h k = absurd (⊎-elim (λ e. omega arith) (λ e. omega arith) k)
+other deck from field t card at g NoOperand h k = seeking-none deck from field t card at g h
+
+-- what stands here is an FS card
+is-fs : (c : tie.After-found Inv-loop μ-loop)
+    → OperandAt fsCard (now (c .before .before .before .before .before .before .args .deck)) (c .before .before .before .loop .at) (c .found .given .0 .0) (c .found .given .0 .1 .0) (c .found .given .0 .1 .1 .0)
+is-fs c = subst (CardAtSays (now (c .before .before .before .before .before .before .args .deck)) (c .before .before .before .loop .at)) (c .found .given .1) (c .before .before .card-at .ensures)
+
+returns : tie.Need-returns Inv-loop μ-loop
+returns c =
+    let l = c .before .before .loop in
+    let a = c .before .before .before .before .before .args in
+    other (now (a .deck)) (a .from) (a .field) (l .noted, l .row) (l .card) (l .at) (l .inv .2) (c .before .card-at .result) (c .before .card-at .ensures) (c .match .keys2)
+
+sub-list : tie.Need-sub-list Inv-loop μ-loop
+sub-list c = is-fs (c .before) .from
+
+part-list-start : tie.Need-part-list-start Inv-loop μ-loop
+part-list-start c = is-fs (c .before) .from
+
+part-list-end : tie.Need-part-list-end Inv-loop μ-loop
+part-list-end c = is-fs (c .before) .upto
+
+list-requires : tie.Need-list-requires Inv-loop μ-loop
+list-requires c κs =
+    let l = c .before .before .before .before .before .before .loop in
+    let h = is-fs (c .before .before .before) in
+    (l .inv .0, omega arith, omega (arith, h .upto))
+
+-- what the two functions gave of it
+told : (c : tie.After-list Inv-loop μ-loop)
+    → ListSays (c .before .before .before .before .before .before .before .loop .card) 7 7
+    (c .before .before .before .before .before .before .before .loop .noted, c .before .before .before .before .before .before .before .loop .row)
+    (slice (c .before .before .before .before .found .given .0 .0) (c .before .before .before .before .found .given .0 .1 .0) (now (c .before .before .before .before .before .before .before .before .before .before .args .deck)))
+    (listOf "/" (worded item) (slice (c .before .before .before .before .found .given .0 .0) (c .before .before .before .before .found .given .0 .1 .0) (now (c .before .before .before .before .before .before .before .before .before .before .args .deck))))
+    (c .list .result) (c .list .last .1 .1 .1 .1 .0)
+told c =
+    let f = c .before .before .before .before in
+    let l = f .before .before .before .loop in
+    let g = f .found .given .0 in
+    subst (λ (o : List ℕ). ListSays (l .card) 7 7 (l .noted, l .row) o (listOf "/" (worded item) o) (c .list .result) (c .list .last .1 .1 .1 .1 .0))
+    (sym (slice-part (g .0) (g .1 .0) (now (f .before .before .before .before .before .before .args .deck)) (is-fs f .from))) (c .list .ensures .1)
+
+returns-2 : tie.Need-returns-2 Inv-loop μ-loop
+returns-2 c =
+    let f = c .before .before .before .before .before .before .before in
+    let l = f .before .before .before .loop in
+    let a = f .before .before .before .before .before .before .args in
+    let g = f .found .given .0 in
+    let r = c .before .before .before .list in
+    seeking-found (now (a .deck)) (a .from) (a .field) (l .noted, l .row) (l .card) (l .at) (l .inv .2) (g .0) (g .1 .0) (g .1 .1 .0) (is-fs f) (r .result) (r .last .1 .1 .1 .1 .0) (told (c .before .before .before)) (c .if1 .taken)
+
+add-card : tie.Need-add-card Inv-loop μ-loop
+add-card c = let f = c .before .before .before .before .before .before .before in let h = is-fs f in let low = f .before .before .before .loop .inv .2 .low in omega (arith, h .on, h .within)
+
+loop-less : tie.Need-loop-less Inv-loop μ-loop
+loop-less c = let h = is-fs (c .before .before .before .before .before .before .before) in omega (arith, h .on, h .within)
+
+loop-again : tie.Need-loop-again Inv-loop μ-loop
+loop-again c =
+    let f = c .before .before .before .before .before .before .before in
+    let l = f .before .before .before .loop in
+    let a = f .before .before .before .before .before .before .args in
+    let g = f .found .given .0 in
+    let r = c .before .before .before .list in (
+      r .ensures .0,
+      all-tail (subst (All IsCard) (is-fs f .is) (l .inv .1)),
+      rw (add-one (l .card))
+          (seeking-more (now (a .deck)) (a .from) (a .field) (l .noted, l .row) (l .card) (l .at) (l .inv .2) (g .0) (g .1 .0) (g .1 .1 .0) (is-fs f) (r .result) (r .last .1 .1 .1 .1 .0) (told (c .before .before .before)) (c .if1 .left)),
+    )
+
+pub card-over-spec : {M : Type 1} → statement M
+card-over-spec =
+    tie.close
+    (tie.spec
+    Inv-loop
+    μ-loop
+    nothing-noted-requires
+    loop-holds
+    card-at-requires
+    enum-known-found
+    returns
+    sub-list
+    part-list-start
+    part-list-end
+    list-requires
+    returns-2
+    add-card
+    loop-less
+    loop-again)
