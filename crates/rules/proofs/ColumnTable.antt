@@ -20,7 +20,7 @@ use Rattle.rules.specs.Grammar.{Parameter, Item, uOperand, fsOperand}
 use Rattle.rules.specs.Words.{Worded, uWords, fsWords, againColumn, numberColumns, outsideColumn}
 use Rattle.rules.specs.Texts.{UText, FsText}
 use Rattle.rules.specs.Columns.{NoWay, RightTo}
-use Rattle.rules.specs.Asked.{grammatical, itemsFrom, cardsOf, letter, distinct, fieldsOf, cvs, sameLetter, cvColumn, upTo, once, Given, given, need, Utility, complete, utilityLimits, fieldLimits, parameterNumbers, fieldColumn, limits, askedOf}
+use Rattle.rules.specs.Asked.{grammatical, itemsFrom, cardsOf, letter, distinct, fieldsOf, cvs, sameLetter, cvColumn, upTo, once, Given, given, need, Utility, complete, utilityLimits, fieldLimits, parameterNumbers, fieldColumn, limits, Asked, askedOf}
 use Rattle.rules.specs.Plan.{Plan, assembled, barrenHalf, combined, planOf}
 use Rattle.rules.specs.Rows.{Operands, Alike, Twice, Complete, Row, Done, GivenBy}
 use Rattle.rules.specs.RunRows.{RowInto, RowRun}
@@ -322,19 +322,19 @@ module _ (deck : List ℕ) where
       columned-bind (complete (given (c .parameters))) _ (columned-complete (given (c .parameters))) (λ u e4.
       columned-then (limits os c u) _ (columned-limits os o (c .parameters) (c .items) t b u (complete-fine (c .parameters) u e4) (not-twice 0 deck Done os c e3)) (λ e5. tt)))))
 
-  columned-combined : (pl : Plan) (cards : List (List Item)) → Columned (combined pl cards)
+  columned-combined : (zone : ℕ) (a : Asked) → Columned (combined zone a)
   unfolding combined
-  columned-combined pl cards =
+  columned-combined zone a =
       columned-then _ _ (columned-unless _ 8 1 (λ p. lowest-zero)) (λ e1.
       columned-then _ _ (columned-unless _ 8 2 (λ p. lowest-zero)) (λ e2.
-      columned-then _ _ (columned-each 8 _ 2 cards (λ p. lowest-zero)) (λ e3.
-      columned-then _ _ (columned-each 9 _ 1 (pl .fields) (λ p. lowest-zero)) (λ e4. columned-unless _ 10 (barrenHalf pl) (λ p. lowest-zero)))))
+      columned-then _ _ (columned-each 8 _ 2 (a .cards) (λ p. lowest-zero)) (λ e3.
+      columned-then _ _ (columned-each 9 _ 1 (fieldsOf (joined (a .cards))) (λ p. lowest-zero)) (λ e4. columned-unless _ 10 (barrenHalf (assembled zone a)) (λ p. lowest-zero)))))
 
   pub columned-plan : (zone : ℕ) → Columned (planOf zone deck)
   unfolding planOf
   columned-plan zone =
       columned-bind (askedOf deck) _ columned-asked (λ a e1.
-      columned-then (combined (assembled zone a) (a .cards)) _ (columned-combined (assembled zone a) (a .cards)) (λ e2. tt))
+      columned-then (combined zone a) _ (columned-combined zone a) (λ e2. tt))
 
   -- ---- a lent table, and a run: 11 to 15
 

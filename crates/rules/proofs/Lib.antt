@@ -1,6 +1,7 @@
 pub mod Cases
 pub mod ShortBlockCases
 pub mod TwinCases
+pub mod KeyCases
 pub mod Tests
 pub mod AllLaws
 pub mod AnswerLaws
@@ -41,6 +42,8 @@ pub mod SourceWords
 pub mod ShowsLaws
 pub mod FieldChecks
 pub mod FieldTests
+pub mod KeyLaws
+pub mod Through
 pub mod KeepingSteps
 pub mod KeepingLaws
 pub mod BlocksOutcome

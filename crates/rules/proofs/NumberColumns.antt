@@ -16,10 +16,10 @@ use Rattle.rules.specs.Places.{All, noMore, also, Some, this, that, Both
 use Rattle.rules.specs.Reader.{isDigit, digits, decimal}
 use Rattle.rules.specs.Deck.{beforeFS}
 use Rattle.rules.specs.Halves.{Kind}
-use Rattle.rules.specs.Grammar.{Format, Size, Parameter, inputIs, outputIs, firstIs, Item, field, cv}
+use Rattle.rules.specs.Grammar.{Format, Size, Input, Start, Parameter, inputIs, outputIs, firstIs, Item, field, cv}
 use Rattle.rules.specs.Words.{numberColumns, Limit, limit, withinLimits, outsideColumn}
-use Rattle.rules.specs.Texts.{Digit, NumberText, ListText, RestText, SizeText, ParameterText, UText, KindText, ItemText, FsText}
-use Rattle.rules.specs.Asked.{Utility, utilityLimits, fieldLimits, fieldsOf, sizeNumbers, parameterNumbers, kindNumbers, itemNumbers, fieldColumn}
+use Rattle.rules.specs.Texts.{Digit, NumberText, ListText, RestText, SizeText, InputText, ParameterText, UText, StartText, KindText, ItemText, FsText}
+use Rattle.rules.specs.Asked.{Utility, utilityLimits, fieldLimits, fieldsOf, sizeNumbers, inputNumbers, parameterNumbers, kindNumbers, itemNumbers, fieldColumn}
 use Rattle.rules.specs.Rows.{IsR, Complete}
 use Rattle.rules.specs.ColumnRows.{Outside, this-number, later-number, NumberOn, number-here, number-later, Lowest}
 use Rattle.rules.proofs.Tests.{and-both, all-every}
@@ -112,6 +112,12 @@ runs-size f y (SizeText.single {x = a} n) =
     let e : (ascii "(" ++ a ++ ascii ")") ++ y ≡ 40 ∷ (a ++ 41 ∷ y) = simp append-assoc in
     ap (runValues false) e ∙ runs-number n (close y)
 
+runs-input : {x : List ℕ} {i : Input} (f : Format) (y : List ℕ) → InputText x i → runValues false (x ++ y) ≡ values (inputNumbers f i) ++ runValues false y
+runs-input f y (InputText.no-key t) = runs-size f y t
+runs-input f y (InputText.with-key {x = a} {y = b} {k = k} n m) =
+    let e : (ascii "(K=" ++ a ++ ascii ",D=" ++ b ++ ascii ")") ++ y ≡ 40 ∷ 75 ∷ 61 ∷ (a ++ 44 ∷ 68 ∷ 61 ∷ (b ++ 41 ∷ y)) = simp append-assoc in
+    ap (runValues false) e ∙ runs-number n (comma (68 ∷ 61 ∷ (b ++ 41 ∷ y))) ∙ ap (λ (l : List ℕ). k ∷ l) (runs-number m (close y))
+
 runs-parameter : {x : List ℕ} {p : Parameter} (f : Format) {y : List ℕ} → ParameterText x p → Ends y → runValues false (x ++ y) ≡ values (parameterNumbers f p) ++ runValues false y
 runs-parameter f {y} ParameterText.TC e = refl
 runs-parameter f {y} ParameterText.TF e = refl
@@ -120,7 +126,7 @@ runs-parameter f {y} ParameterText.TRF e = refl
 runs-parameter f {y} ParameterText.FF e = refl
 runs-parameter f {y} ParameterText.FV e = refl
 runs-parameter f {y} ParameterText.FU e = refl
-runs-parameter f {y} (ParameterText.A= t) e = runs-size f y t
+runs-parameter f {y} (ParameterText.A= t) e = runs-input f y t
 runs-parameter f {y} (ParameterText.B= t) e = runs-size f y t
 runs-parameter f {y} ParameterText.IR e = refl
 runs-parameter f {y} ParameterText.IN e = refl
@@ -139,15 +145,21 @@ runs-kind {y = y} (KindText.unpacks {x = a} {y = b} {n = n} n′ m′) w =
     let e : (ascii "(U," ++ a ++ ascii "," ++ b ++ ascii ")") ++ y ≡ 40 ∷ 85 ∷ 44 ∷ (a ++ 44 ∷ (b ++ 41 ∷ y)) = simp append-assoc in
     ap (runValues false) e ∙ runs-number n′ (comma (b ++ 41 ∷ y)) ∙ ap (λ (l : List ℕ). n ∷ l) (runs-number m′ (close y))
 
+runs-start : {x : List ℕ} {s : Start} {y : List ℕ} → StartText x s → Ends y → runValues false (x ++ y) ≡ s .r ∷ runValues false y
+runs-start (StartText.of-data n) e = runs-number n e
+runs-start {y = y} (StartText.of-key {x = a} n) w =
+    let e : (ascii "(K," ++ a ++ ascii ")") ++ y ≡ 40 ∷ 75 ∷ 44 ∷ (a ++ 41 ∷ y) = simp append-assoc in
+    ap (runValues false) e ∙ runs-number n (close y)
+
 runs-item : {x : List ℕ} {i : Item} {y : List ℕ} → ItemText x i → Ends y → runValues false (x ++ y) ≡ values (itemNumbers i) ++ runValues false y
-runs-item {y = y} (ItemText.aField {x = a} {y = b} {z = c} {r = r} {t = v} {k = k} n t m) w =
+runs-item {y = y} (ItemText.aField {x = a} {y = b} {z = c} {s = s} {t = v} {k = k} n t m) w =
     let e : (a ++ ascii "," ++ b ++ ascii "," ++ c) ++ y ≡ a ++ 44 ∷ (b ++ 44 ∷ (c ++ y)) = simp append-assoc in
     let last : Limit = limit 1 4096 v in
     let r2 : runValues false (b ++ 44 ∷ (c ++ y)) ≡ values (kindNumbers k) ++ runValues false (c ++ y) = runs-kind t (comma (c ++ y)) in
     let q : values (kindNumbers k) ++ (v ∷ runValues false y) ≡ values (kindNumbers k ++ (last ∷ [])) ++ runValues false y
     = sym (append-assoc (values (kindNumbers k)) (v ∷ []) (runValues false y)) ∙ ap (λ (l : List ℕ). l ++ runValues false y) (sym (values-append (kindNumbers k) (last ∷ []))) in
-    ap (runValues false) e ∙ runs-number n (comma (b ++ 44 ∷ (c ++ y)))
-    ∙ ap (λ (l : List ℕ). r ∷ l) (r2 ∙ ap (λ (l : List ℕ). values (kindNumbers k) ++ l) (runs-number m w) ∙ q)
+    ap (runValues false) e ∙ runs-start n (comma (b ++ 44 ∷ (c ++ y)))
+    ∙ ap (λ (l : List ℕ). s .r ∷ l) (r2 ∙ ap (λ (l : List ℕ). values (kindNumbers k) ++ l) (runs-number m w) ∙ q)
 runs-item {y = y} ItemText.CV e = refl
 
 -- lists of them

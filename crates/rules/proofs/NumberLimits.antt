@@ -7,7 +7,7 @@ use mathlib.Core.List.{List, [], _∷_, map}
 use Prim.Native.Nat.{ℕ}
 use Rattle.rules.specs.Base.{every, joined}
 use Rattle.rules.specs.Places.{noMore, Some, this, that}
-use Rattle.rules.specs.Grammar.{Format, ff, fu, Size, two, one, Parameter, modeIs, formatIs, inputIs, outputIs, rewindIn, rewindOut, firstIs, Item, field, cv}
+use Rattle.rules.specs.Grammar.{Format, ff, fu, Size, two, one, Input, plain, keyed, Parameter, modeIs, formatIs, inputIs, outputIs, rewindIn, rewindOut, firstIs, Item, field, cv}
 use Rattle.rules.specs.Words.{withinLimits}
 use Rattle.rules.specs.Asked.{Utility, utilityLimits, fieldLimits, parameterNumbers, itemNumbers}
 use Rattle.rules.specs.Rows.{Twice, Complete}
@@ -26,7 +26,7 @@ all-numbers f (u ∷ us) h = all-append (h u (this refl)) (all-numbers f us (λ 
 
 module _ (us : List Parameter) (u : Utility) (single : Twice us → ⊥) (full : Complete us u) where
   -- A, B and R stand once
-  the-input : (s : Size) → Some (λ y. y ≡ inputIs s) us → u .input ≡ s
+  the-input : (s : Input) → Some (λ y. y ≡ inputIs s) us → u .input ≡ s
   the-input s i =
       let v : Utility = record { mode = u .mode; format = u .format; input = s; output = u .output; first = u .first } in
       ap (λ (z : Utility). z .input)
@@ -73,8 +73,9 @@ module _ (us : List Parameter) (u : Utility) (single : Twice us → ⊥) (full :
 pub numbers-fu : (p : Parameter) → parameterNumbers fu p ≡ parameterNumbers ff p
 numbers-fu (modeIs m) = refl
 numbers-fu (formatIs f) = refl
-numbers-fu (inputIs (two n m)) = refl
-numbers-fu (inputIs (one g)) = refl
+numbers-fu (inputIs (plain (two n m))) = refl
+numbers-fu (inputIs (plain (one g))) = refl
+numbers-fu (inputIs (keyed k d)) = refl
 numbers-fu (outputIs (two n m)) = refl
 numbers-fu (outputIs (one g)) = refl
 numbers-fu rewindIn = refl

@@ -3,25 +3,29 @@
 use mathlib.Core.Path.{_≡_, refl, ap, sym, _∙_, subst}
 use mathlib.Core.Logic.{_↔_}
 use mathlib.Core.List.{List, [], _∷_, _++_, map}
-use Prim.Native.Nat.{ℕ, _≤_, _<_}
+use Prim.Native.Nat.{ℕ, _+_, _-_, _≤_, _<_}
 use native.Mathlib.Omega.{arith}
 use lib.ListN.{length, take, drop, length-append, length-drop, length-map}
 use lib.Seq.{take-at, drop-at}
 use borrow.Author.Tests.{leb-true}
 use Rattle.rules.specs.Answer.{Refusal, Answer, fine, refuse, refusedAt, refusalOf, placeOf, columnOf}
 use Rattle.rules.specs.Places.{All, Both, none-left, both, Byte}
-use Rattle.rules.specs.Halves.{Kind, copy, pack, unpack, inputSize, outputSize, Field}
-use Rattle.rules.specs.Plan.{Plan, planOf, planAnswer}
+use Rattle.rules.specs.Halves.{Kind, copy, pack, unpack, inputSize, outputSize}
+use Rattle.rules.specs.Base.{joined}
+use Rattle.rules.specs.Grammar.{Parameter, Part, inData, inKey, CardField, Item}
+use Rattle.rules.specs.Asked.{Asked, fieldsOf, askedOf}
+use Rattle.rules.specs.Plan.{Plan, combined, assembled, planOf, planAnswer}
 use Rattle.rules.specs.Run.{Ran, runOf, ranOf, outputBlocks}
 use Rattle.rules.specs.Reel.{blocksOf}
-use Rattle.rules.specs.Rows.{Row, Done, GivenBy}
+use Rattle.rules.specs.Rows.{Says, Row, Done, GivenBy}
 use Rattle.rules.specs.ColumnRows.{Column, Lowest, Answered}
 use Rattle.rules.specs.RunRows.{RowInto, RowRun}
-use Rattle.rules.specs.Lent.{zoneF, plan, planInto, Entry, kindNumber, entryOf, tableAfter, run, runAnswer, outputAfter}
-use Rattle.rules.specs.Said.{PlanSays, KindIs, EntryIs, TableSays, Wrote, RunSays}
+use Rattle.rules.specs.Lent.{zoneF, plan, planInto, Entry, kindNumber, partNumber, entryOf, cardFields, tableAfter, run, runAnswer, outputAfter}
+use Rattle.rules.specs.Said.{PlanSays, KindIs, PartIs, EntryIs, TableSays, Wrote, RunSays}
 use Rattle.rules.proofs.AnswerLaws.{fine-same, refuse-same, not-fine, bind-fine, then-fine, unless-fine}
 use Rattle.rules.proofs.AcceptedLaws.{accepted, zone-of}
-use Rattle.rules.proofs.PlanTable.{plan-asks, asks-once, plan-made, into-made}
+use Rattle.rules.proofs.AskedTable.{says-same, asked-says}
+use Rattle.rules.proofs.PlanTable.{plan-asks, plan-made, into-made}
 use Rattle.rules.proofs.ColumnTable.{plan-columns, into-columns, run-columns}
 use Rattle.rules.proofs.ReelLaws.{reel-of, all-blocks}
 use Rattle.rules.proofs.BlocksOutcome.{holds-of}
@@ -98,23 +102,48 @@ kind-is (copy s) = (refl, refl, refl)
 kind-is (pack n m) = (refl, refl, refl)
 kind-is (unpack n m) = (refl, refl, refl)
 
-entries-are : (fs : List Field) → Both EntryIs fs (map entryOf fs)
+part-is : (q : Part) → PartIs q (partNumber q)
+part-is inData = refl
+part-is inKey = refl
+
+entries-are : (fs : List CardField) → Both EntryIs fs (map entryOf fs)
 entries-are [] = none-left
-entries-are (f ∷ fs) = both (record { kind = kind-is (f .kind); r = refl; t = refl }) (entries-are fs)
+entries-are (f ∷ fs) = both (record { kind = kind-is (f .field .kind); part = part-is (f .part); r = refl; t = refl }) (entries-are fs)
+
+-- the fields on the cards of a deck that has a plan: as many as the plan has, and those that the deck says
+module _ (deck : List ℕ) (p : Plan) (e : planOf zoneF deck ≡ fine p) where
+  asked-for : (a : Asked) × (askedOf deck ≡ fine a) × (assembled zoneF a ≡ p)
+  unfolding planOf
+  asked-for =
+      let s1 = bind-fine (askedOf deck) _ p e in
+      let s2 = then-fine (combined zoneF (s1 .0)) _ p (s1 .2) in
+      (s1 .0, s1 .1, fine-same _ p (s2 .1))
+
+  pub card-fields : length (cardFields (askedOf deck)) ≡ length (p .fields)
+  unfolding assembled
+  card-fields =
+      let a = asked-for in
+      ap (λ (x : Answer Asked). length (cardFields x)) (a .1) ∙ sym (length-map (fieldsOf (joined (a .0 .cards))) _) ∙ ap (λ (q : Plan). length (q .fields)) (a .2)
+
+  said-fields : (us : List Parameter) (cards : List (List Item)) → Says deck us cards → cardFields (askedOf deck) ≡ fieldsOf (joined cards)
+  said-fields us cards s =
+      let a = asked-for in
+      let w = asked-says zoneF deck Done (a .0) (a .1) in
+      ap cardFields (a .1) ∙ ap (λ (cs : List (List Item)). fieldsOf (joined cs)) (says-same deck (w .0) us (a .0 .cards) cards (w .1) s .1)
 
 table-says-of : (deck : List ℕ) (before : List Entry) (x : Answer Plan) → ((p : Plan) → x ≡ fine p → (planOf zoneF deck ≡ fine p) × (length (p .fields) ≤ length before))
-    → (refusalOf x ≡ 0 → (p : Plan) × (x ≡ fine p)) → PlanSays (RowInto zoneF deck (length before)) deck (planAnswer x) → TableSays deck before (planAnswer x) (tableAfter before x)
+    → (refusalOf x ≡ 0 → (p : Plan) × (x ≡ fine p)) → PlanSays (RowInto zoneF deck (length before)) deck (planAnswer x) → TableSays deck before (planAnswer x) (tableAfter before deck x)
 table-says-of deck before (fine p) is h says =
     let w = is p refl in
-    let new = map entryOf (p .fields) in
-    let many : length new ≡ length (p .fields) = length-map (p .fields) entryOf in
+    let new = map entryOf (cardFields (askedOf deck)) in
+    let many : length new ≡ length (p .fields) = length-map (cardFields (askedOf deck)) entryOf ∙ card-fields deck p (w .0) in
     record {
       plan = says;
       size = omega (arith, length-append new (drop (length (p .fields)) before), many, length-drop (length (p .fields)) before, w .1);
       refused = λ n. absurd (n refl);
-      stored = λ z q a.
-          subst (λ (y : Plan). Both EntryIs (y .fields) (take (length (p .fields)) (new ++ drop (length (p .fields)) before))) (sym (asks-once zoneF deck Done p q (w .0) a))
-          (subst (Both EntryIs (p .fields)) (sym (take-at new (drop (length (p .fields)) before) (length (p .fields)) many)) (entries-are (p .fields)));
+      stored = λ z us cards s.
+          subst (λ (fs : List CardField). Both EntryIs fs (take (length (p .fields)) (new ++ drop (length (p .fields)) before))) (said-fields deck p (w .0) us cards s)
+          (subst (Both EntryIs (cardFields (askedOf deck))) (sym (take-at new (drop (length (p .fields)) before) (length (p .fields)) many)) (entries-are (cardFields (askedOf deck))));
       others = λ z. drop-at new (drop (length (p .fields)) before) (length (p .fields)) many;
     }
 table-says-of deck before (refuse r) is h says =
@@ -122,11 +151,11 @@ table-says-of deck before (refuse r) is h says =
       plan = says;
       size = refl;
       refused = λ n. refl;
-      stored = λ z q a. let w = h z in absurd (not-fine r (w .0) (w .1));
+      stored = λ z us cards s. let w = h z in absurd (not-fine r (w .0) (w .1));
       others = λ z. refl;
     }
 
-pub table-says : (deck : List ℕ) (before : List Entry) → TableSays deck before (planAnswer (planInto (length before) deck)) (tableAfter before (planInto (length before) deck))
+pub table-says : (deck : List ℕ) (before : List Entry) → TableSays deck before (planAnswer (planInto (length before) deck)) (tableAfter before deck (planInto (length before) deck))
 table-says deck before =
     let says = plan-says-of deck (RowInto zoneF deck (length before)) (planInto (length before) deck) (into-columns (length before) deck) (into-made (length before) deck) (λ p r. r) (λ p e. into-plan (length before) deck p e .0) in
     let a = answered (RowInto zoneF deck (length before)) deck (planInto (length before) deck) (into-columns (length before) deck) (into-made (length before) deck) (λ p r. r) in

@@ -11,6 +11,7 @@ pub mod Asked
 pub mod Permitted
 pub mod Keeping
 pub mod Plan
+pub mod Keys
 pub mod Blocks
 pub mod Output
 pub mod Run

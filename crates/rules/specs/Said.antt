@@ -6,9 +6,11 @@ use Prim.Native.Nat.{ℕ}
 use lib.ListN.{length, take, drop}
 use Rattle.rules.specs.Base.{joined}
 use Rattle.rules.specs.Places.{Both}
-use Rattle.rules.specs.Halves.{Kind, copy, pack, unpack, Field}
+use Rattle.rules.specs.Halves.{Kind, copy, pack, unpack}
+use Rattle.rules.specs.Grammar.{Parameter, Part, inData, inKey, CardField, Item}
+use Rattle.rules.specs.Asked.{fieldsOf}
 use Rattle.rules.specs.Plan.{Plan, PlanAnswer}
-use Rattle.rules.specs.Rows.{Asks, Row}
+use Rattle.rules.specs.Rows.{Says, Asks, Row}
 use Rattle.rules.specs.ColumnRows.{Answered}
 use Rattle.rules.specs.InWords.{BlocksOut}
 use Rattle.rules.specs.RunRows.{Gives, outReel, RowRun, RowInto}
@@ -33,11 +35,17 @@ KindIs (copy s) kind input output = (kind ≡ 0) × (input ≡ s) × (output ≡
 KindIs (pack n m) kind input output = (kind ≡ 1) × (input ≡ n) × (output ≡ m)
 KindIs (unpack n m) kind input output = (kind ≡ 2) × (input ≡ n) × (output ≡ m)
 
--- an entry holds a field
-pub record EntryIs (f : Field) (e : Entry) : Type 0 where
-  pub kind : KindIs (f .kind) (e .kind) (e .input) (e .output)
-  pub r : e .r ≡ f .r
-  pub t : e .t ≡ f .t
+-- its part: data or key
+abbrev pub PartIs : Part → ℕ → Type 0
+PartIs inData part = part ≡ 0
+PartIs inKey part = part ≡ 1
+
+-- an entry holds a field as it stands on its card
+pub record EntryIs (f : CardField) (e : Entry) : Type 0 where
+  pub kind : KindIs (f .field .kind) (e .kind) (e .input) (e .output)
+  pub part : PartIs (f .part) (e .part)
+  pub r : e .r ≡ f .field .r
+  pub t : e .t ≡ f .field .t
 
 pub record TableSays (deck : List ℕ) (before : List Entry) (n : PlanAnswer) (after : List Entry) : Type 0 where
   pub plan : PlanSays (RowInto zoneF deck (length before)) deck n
@@ -45,7 +53,7 @@ pub record TableSays (deck : List ℕ) (before : List Entry) (n : PlanAnswer) (a
   -- a refusal changes no entry
   pub refused : (n .refusal ≡ 0 → ⊥) → after ≡ before
   -- each entry up to the field count holds its field, others stay
-  pub stored : n .refusal ≡ 0 → (p : Plan) → Asks zoneF deck p → Both EntryIs (p .fields) (take (n .fields) after)
+  pub stored : n .refusal ≡ 0 → (us : List Parameter) (cards : List (List Item)) → Says deck us cards → Both EntryIs (fieldsOf (joined cards)) (take (n .fields) after)
   pub others : n .refusal ≡ 0 → drop (n .fields) after ≡ drop (n .fields) before
 
 -- ---- a run

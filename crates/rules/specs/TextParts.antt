@@ -4,7 +4,7 @@ use mathlib.Core.List.{List, [], _∷_}
 use Prim.Native.Nat.{ℕ}
 use Rattle.rules.specs.Reader.{Read, stopped, Reader, pure, _>>=_, _>>_, _or_, after, text, number}
 use Rattle.rules.specs.Halves.{Kind}
-use Rattle.rules.specs.Grammar.{Size, two, one, Item, field, kindReader}
+use Rattle.rules.specs.Grammar.{Size, two, one, Input, keyed, Item, Start, fieldWith, kindReader}
 
 -- ---- lines
 
@@ -26,10 +26,22 @@ numberThen m = do n ← number; after (m ∷ []); pure n
 unfoldable pub sizeBehind : ℕ → Reader Size
 sizeBehind n = (do text ","; m ← number; text ")"; pure (two n m)) or (do text ")"; pure (one n))
 
+-- `D=l)` behind `(K=l,`
+unfoldable pub dataBehind : ℕ → Reader Input
+dataBehind k = do after (68 ∷ 61 ∷ []); d ← numberThen 41; pure (keyed k d)
+
+-- `=l,D=l)` behind `(K`
+unfoldable pub keyedBehind : Reader Input
+keyedBehind = do after (61 ∷ []); k ← numberThen 44; dataBehind k
+
+-- `K,r),` behind `(`
+unfoldable pub keyThen : Reader ℕ
+keyThen = do after (75 ∷ 44 ∷ []); r ← numberThen 41; after (44 ∷ []); pure r
+
 -- `,n,m)` behind the letter
 unfoldable pub sizesBehind : (ℕ → ℕ → Kind) → Reader Kind
 sizesBehind say = do after (44 ∷ []); n ← numberThen 44; m ← numberThen 41; pure (say n m)
 
--- what is behind `r,`
-unfoldable pub fieldBehind : ℕ → Reader Item
-fieldBehind r = do k ← kindReader; after (44 ∷ []); t ← number; pure (field (record { r = r; kind = k; t = t }))
+-- what is behind `r,` or `(K,r),`
+unfoldable pub fieldBehind : Start → Reader Item
+fieldBehind s = do k ← kindReader; after (44 ∷ []); t ← number; pure (fieldWith s k t)
