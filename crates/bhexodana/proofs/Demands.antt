@@ -71,10 +71,10 @@ pub into-demands : (deck : List ℕ) (before : List Entry) (r : Planned) (after 
 into-demands deck before r after w =
     let many : length (map entryMeans before) ≡ length before = length-map before entryMeans in
     let x : ℕ → Answer Plan = λ k. planInto k deck in
-    let table : map entryMeans after ≡ tableAfter (map entryMeans before) (x (length before)) = ap (map entryMeans) (w .table) ∙ entries-hold (tableAfter (map entryMeans before) (x (length before))) in
+    let table : map entryMeans after ≡ tableAfter (map entryMeans before) deck (x (length before)) = ap (map entryMeans) (w .table) ∙ entries-hold (tableAfter (map entryMeans before) deck (x (length before))) in
     subst (λ (z : Planned). TableSays deck (map entryMeans before) (numbersOf z) (map entryMeans after)) (sym (w .answer))
     (subst (TableSays deck (map entryMeans before) (planAnswer (x (length before)))) (sym table)
-    (subst (λ (k : ℕ). TableSays deck (map entryMeans before) (planAnswer (x k)) (tableAfter (map entryMeans before) (x k))) many (table-says deck (map entryMeans before))))
+    (subst (λ (k : ℕ). TableSays deck (map entryMeans before) (planAnswer (x k)) (tableAfter (map entryMeans before) deck (x k))) many (table-says deck (map entryMeans before))))
 
 -- of bhx_run: refusal, place and column by the table; refused, the other three are 0 and no lent byte changes; else the reel of the output blocks that the deck asks for
 -- stands at the front of the output, its length, records and blocks are told, and the bytes past it stay. What is lent as a reel are bytes

@@ -9,7 +9,7 @@ use Rattle.terms.specs.declared.Entry.{Entry}
 use Rattle.terms.proofs.Entries.{entries-back}
 use Rattle.plans.specs.Promise.{filledFor}
 use Rattle.plans.specs.declared.Filled.{Filled}
-use Rattle.plans.proofs.FilledLaws.{table-after, store-fits}
+use Rattle.plans.proofs.FilledLaws.{table-after, into-own, store-fits}
 use Rattle.bhexodana.specs.Promise.{PlannedInto, fillingOf}
 use Rattle.bhexodana.specs.declared.Filling.{Filling}
 use Rattle.bhexodana.specs.declared.Planned.{Planned}
@@ -23,7 +23,7 @@ fillingFrom p =
       store = p .store;
     }
 
-pub filling-is : (deck : List ℕ) (room : ℕ) (p : Filled) → p ≡ filledFor (planInto room deck)
+pub filling-is : (deck : List ℕ) (room : ℕ) (p : Filled) → p ≡ filledFor deck (planInto room deck)
     → (fillingFrom p ≡ fillingOf deck room) × (p .store ≤ 64) × (p .store ≤ room)
 unfolding fillingOf
 filling-is deck room p e =
@@ -37,4 +37,4 @@ pub planned-into : (deck : List ℕ) (before : List Entry) (r : Planned) (after 
     → PlannedInto deck before r after
 unfolding fillingOf
 planned-into deck before r after e f =
-    record { answer = e; table = sym (entries-back after) ∙ ap (map entryFor) (ap (map entryMeans) f ∙ table-after (planInto (length before) deck) before) }
+    record { answer = e; table = sym (entries-back after) ∙ ap (map entryFor) (ap (map entryMeans) f ∙ table-after deck (planInto (length before) deck) (λ p e. into-own (length before) deck p e) before) }

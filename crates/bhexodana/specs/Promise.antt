@@ -49,7 +49,7 @@ PlanOf deck r = r ≡ plannedOf (planAnswer (plan deck))
 -- bhx_plan_into: the answer, and the lent table afterwards
 pub record PlannedInto (deck : List ℕ) (before : List Entry) (r : Planned) (after : List Entry) : Type 0 where
   pub answer : r ≡ plannedOf (planAnswer (planInto (length before) deck))
-  pub table : after ≡ map entryFor (tableAfter (map entryMeans before) (planInto (length before) deck))
+  pub table : after ≡ map entryFor (tableAfter (map entryMeans before) deck (planInto (length before) deck))
 
 -- bhx_run: the answer, and the lent output afterwards
 pub record RanInto (deck reel before : List ℕ) (r : Ran) (after : List ℕ) : Type 0 where
@@ -68,6 +68,6 @@ unfoldable pub fillingOf : List ℕ → ℕ → Filling
 fillingOf deck room =
     record {
       answer = plannedOf (planAnswer (planInto room deck));
-      entries = tableOf (stored (planInto room deck));
-      store = length (stored (planInto room deck));
+      entries = tableOf (stored deck (planInto room deck));
+      store = length (stored deck (planInto room deck));
     }

@@ -12,7 +12,7 @@ use borrow.Author.Tests.{eq-eqb, ne-eqb, le-leb}
 use Rattle.rules.specs.Base.{joined}
 use Rattle.rules.specs.Places.{Both, none-left, both}
 use Rattle.rules.specs.Deck.{beforeFS}
-use Rattle.rules.specs.Grammar.{Item, field, cv}
+use Rattle.rules.specs.Grammar.{Part, inData, inKey, Item, field, cv}
 use Rattle.rules.specs.Texts.{ItemText, FsText}
 use Rattle.rules.specs.Words.{Worded, fsWords, valuesOf, againColumn, numberColumns, outsideColumn, firstOf, outsideIn, outsideAmong}
 use Rattle.rules.specs.Asked.{cvs, sameCV, cvColumn, itemNumbers, fieldColumn}
@@ -21,7 +21,7 @@ use Rattle.rules.proofs.WordedLaws.{fs-worded}
 use Rattle.rules.proofs.NumberColumns.{item-count}
 use Rattle.rules.proofs.WordColumns.{first-some, outside-free, outside-parts}
 use Rattle.cards.specs.declared.Noted.{Noted}
-use Rattle.cards.specs.Selected.{counted, fieldNoted, cvNoted, Taken, withItem, withWords, noSelection, withCard, withCards}
+use Rattle.cards.specs.Selected.{counted, keyNoted, fieldNoted, cvNoted, Taken, withItem, withWords, noSelection, withCard, withCards}
 
 -- ---- what an item leaves
 
@@ -40,15 +40,21 @@ counted-leaves n card = go (ltb (n .count) 64) refl
     go true e = rw e (refl, refl, refl)
     go false e = rw e (refl, refl, refl)
 
+-- so does the part of a field
+named-leaves : (n : Noted) (card : ℕ) (part : Part)
+    → (keyNoted (counted n card) card part .cv ≡ n .cv) × (second (keyNoted (counted n card) card part) ≡ second n) × (outside (keyNoted (counted n card) card part) ≡ outside n)
+named-leaves n card inData = counted-leaves n card
+named-leaves n card inKey = counted-leaves n card
+
 -- a field leaves what is noted of CV
-field-leaves : (n : Noted) (card out : ℕ) → (fieldNoted n card out .cv ≡ n .cv) × (second (fieldNoted n card out) ≡ second n)
+field-leaves : (n : Noted) (card : ℕ) (part : Part) (out : ℕ) → (fieldNoted n card part out .cv ≡ n .cv) × (second (fieldNoted n card part out) ≡ second n)
 unfolding fieldNoted
-field-leaves n card out = go (eqb out 0) refl (eqb (n .beyond) 0) refl
+field-leaves n card part out = go (eqb out 0) refl (eqb (n .beyond) 0) refl
   where
-    go : (t : Bool) → eqb out 0 ≡ t → (u : Bool) → eqb (n .beyond) 0 ≡ u → (fieldNoted n card out .cv ≡ n .cv) × (second (fieldNoted n card out) ≡ second n)
-    go true e u f = rw e (counted-leaves n card .0, counted-leaves n card .1)
-    go false e true f = rw (e, f) (counted-leaves n card .0, counted-leaves n card .1)
-    go false e false f = rw (e, f) (counted-leaves n card .0, counted-leaves n card .1)
+    go : (t : Bool) → eqb out 0 ≡ t → (u : Bool) → eqb (n .beyond) 0 ≡ u → (fieldNoted n card part out .cv ≡ n .cv) × (second (fieldNoted n card part out) ≡ second n)
+    go true e u f = rw e (named-leaves n card part .0, named-leaves n card part .1)
+    go false e true f = rw (e, f) (named-leaves n card part .0, named-leaves n card part .1)
+    go false e false f = rw (e, f) (named-leaves n card part .0, named-leaves n card part .1)
 
 -- CV leaves what is noted of numbers
 cv-leaves : (n : Noted) (card column : ℕ) → outside (cvNoted n card column) ≡ outside n
@@ -78,7 +84,7 @@ module _ (get : Noted → ℕ × ℕ) (keeps : (card column out : ℕ) (i : Item
 
 second-keeps : (card column out : ℕ) (i : Item) (t : Taken) → (second (t .0) .0 ≡ 0 → ⊥) → second (withItem card column out i t .0) ≡ second (t .0)
 unfolding withItem cvNoted
-second-keeps card column out (field f) t n = field-leaves (t .0) card out .1
+second-keeps card column out (field f) t n = field-leaves (t .0) card (f .part) out .1
 second-keeps card column out cv t n = go (eqb (t .0 .cv) 0) refl
   where
     go : (u : Bool) → eqb (t .0 .cv) 0 ≡ u → second (cvNoted (t .0) card column) ≡ second (t .0)
@@ -90,9 +96,9 @@ unfolding withItem fieldNoted
 outside-keeps card column out cv t n = cv-leaves (t .0) card column
 outside-keeps card column out (field f) t n = go (eqb out 0) refl
   where
-    go : (u : Bool) → eqb out 0 ≡ u → outside (fieldNoted (t .0) card out) ≡ outside (t .0)
-    go true e = rw e (counted-leaves (t .0) card .2)
-    go false e = rw (e, ne-eqb (t .0 .beyond) 0 n) (counted-leaves (t .0) card .2)
+    go : (u : Bool) → eqb out 0 ≡ u → outside (fieldNoted (t .0) card (f .part) out) ≡ outside (t .0)
+    go true e = rw e (named-leaves (t .0) card (f .part) .2)
+    go false e = rw (e, ne-eqb (t .0 .beyond) 0 n) (named-leaves (t .0) card (f .part) .2)
 
 -- ---- what is noted first, item by item and card by card
 
@@ -208,7 +214,7 @@ cv-item card column l m w t k s = go (w .value)
         → ((cond (sameCV i (replicate k cv)) column 0 ≡ 0) × Single (withItem card column out i t .0) (cvs (i ∷ []) + k))
         ⊎ ((1 ≤ cond (sameCV i (replicate k cv)) column 0) × (second (withItem card column out i t .0) ≡ (card, cond (sameCV i (replicate k cv)) column 0)))
     go (field f) =
-        let h = field-leaves (t .0) card out in
+        let h = field-leaves (t .0) card (f .part) out in
         let z : 0 + k ≡ k = omega arith in
         inl (refl, record { none = ap (λ (x : ℕ × ℕ). x .0) (h .1) ∙ s .none; seen = ap (λ (x : ℕ). eqb x 0) (h .0) ∙ s .seen ∙ ap (λ (x : ℕ). eqb x 0) (sym z) })
     go cv = by k (s .seen) (cvs-many k)
@@ -272,7 +278,7 @@ outside-item card column l m w t u s = go (w .value) refl (outsideIn itemNumbers
     go cv e out o =
         let z : out ≡ 0 = sym o ∙ ap (λ (x : Item). outsideIn itemNumbers column (record { value = x; text = w .text })) e ∙ outside-free (numberColumns false column (w .text)) in
         inl (z, ap (λ (x : ℕ × ℕ). x .0) (cv-leaves (t .0) card column) ∙ s)
-    go (field f) e zero o = inl (refl, ap (λ (x : ℕ × ℕ). x .0) (counted-leaves (t .0) card .2) ∙ s)
+    go (field f) e zero o = inl (refl, ap (λ (x : ℕ × ℕ). x .0) (named-leaves (t .0) card (f .part) .2) ∙ s)
     go (field f) e (suc out) o = inr (omega arith, rw (ne-eqb (suc out) 0 (λ z. omega arith), eq-eqb (t .0 .beyond) 0 s) refl)
 
 outside-seek : (column : ℕ) (ws : List (Worded Item))
@@ -292,13 +298,13 @@ outside-at i (o ∷ os) (is ∷ cs) (both t b) p =
 
 -- ---- all cards
 
-module _ (os : List (List ℕ)) where
+module _ (key : ℕ) (os : List (List ℕ)) where
   abbrev end : Noted
-  end = withCards 2 (map fsWords os) noSelection .0
+  end = withCards 2 (map fsWords os) (noSelection key) .0
 
   pub cv-column : (end .«second_cv» ≡ 0 → ⊥) → end .«second_column» ≡ cvColumn [] 2 os (end .«second_cv»)
   unfolding noSelection
-  cv-column n = go (noted-cards second second-keeps findCV stepCV Single (λ n s c. c .none) cv-item 2 (omega arith) os noSelection 0 (record { none = refl; seen = refl }))
+  cv-column n = go (noted-cards second second-keeps findCV stepCV Single (λ n s c. c .none) cv-item 2 (omega arith) os (noSelection key) 0 (record { none = refl; seen = refl }))
     where
       go : (end .«second_cv» ≡ 0)
           ⊎ ((2 ≤ end .«second_cv») × (end .«second_column» ≡ columnAt second second-keeps findCV stepCV Single (λ n s c. c .none) cv-item 0 2 os (end .«second_cv»)))
@@ -308,7 +314,7 @@ module _ (os : List (List ℕ)) where
 
   pub number-column : (cs : List (List Item)) → Both FsText os cs → (end .beyond ≡ 0 → ⊥) → end .«beyond_column» ≡ fieldColumn 2 os cs (end .beyond)
   unfolding noSelection
-  number-column cs b n = go (noted-cards outside outside-keeps findOutside (λ u w. u) Inner (λ n s c. c) outside-item 2 (omega arith) os noSelection tt refl)
+  number-column cs b n = go (noted-cards outside outside-keeps findOutside (λ u w. u) Inner (λ n s c. c) outside-item 2 (omega arith) os (noSelection key) tt refl)
     where
       go : (end .beyond ≡ 0)
           ⊎ ((2 ≤ end .beyond) × (end .«beyond_column» ≡ columnAt outside outside-keeps findOutside (λ u w. u) Inner (λ n s c. c) outside-item tt 2 os (end .beyond)))

@@ -105,16 +105,16 @@ module _ (card : ℕ) (t : Taken) (r : FsCards) (row o : List ℕ) (os : List (L
       rw p (h, c ∙ (let z : suc beforeFS + k ≡ beforeFS + suc (length o - length (drop k o)) = omega arith in z))
 
 -- what is right of the FS cards from here on is right of all of them
-pub record Selecting (deck : List ℕ) (start : ℕ) (t : Taken) (card at : ℕ) : Type 0 where
+pub record Selecting (deck : List ℕ) (start key : ℕ) (t : Taken) (card at : ℕ) : Type 0 where
   pub low : card ≤ 2 + at
-  pub on : (r : FsCards) (row : List ℕ) → FsSaid card t (fsFirst (cardsIn (drop at deck))) r row → FsSaid 2 noSelection (fsFirst (cardsIn (drop start deck))) r row
+  pub on : (r : FsCards) (row : List ℕ) → FsSaid card t (fsFirst (cardsIn (drop at deck))) r row → FsSaid 2 (noSelection key) (fsFirst (cardsIn (drop start deck))) r row
 
-pub selecting-start : (deck : List ℕ) (start : ℕ) → Selecting deck start noSelection 2 start
-selecting-start deck start = record { low = omega arith; on = λ r row h. h }
+pub selecting-start : (deck : List ℕ) (start key : ℕ) → Selecting deck start key (noSelection key) 2 start
+selecting-start deck start key = record { low = omega arith; on = λ r row h. h }
 
-module _ (deck : List ℕ) (from : ℕ) (t : Taken) (card at : ℕ) (g : Selecting deck from t card at) where
+module _ (deck : List ℕ) (from key : ℕ) (t : Taken) (card at : ℕ) (g : Selecting deck from key t card at) where
   abbrev pub Whole : FsCards → List ℕ → Type 0
-  Whole r row = FsSaid 2 noSelection (fsFirst (cardsIn (drop from deck))) r row
+  Whole r row = FsSaid 2 (noSelection key) (fsFirst (cardsIn (drop from deck))) r row
 
   -- no FS card is left
   abbrev all : FsCards
@@ -151,7 +151,7 @@ module _ (deck : List ℕ) (from : ℕ) (t : Taken) (card at : ℕ) (g : Selecti
           go (stopped left) e (k, l, d, u) = said-stop card t r row operand (fsFirst (cardsIn (drop next deck))) k l (e ∙ ap stopped d) refl u
 
       -- it could: the next card comes
-      pub selecting-more : read-as .unread ≡ 0 → Selecting deck from (read-as .noted, row) (suc card) next
+      pub selecting-more : read-as .unread ≡ 0 → Selecting deck from key (read-as .noted, row) (suc card) next
       unfolding withCard
       selecting-more z =
           let on : at < next = h .on in

@@ -31,7 +31,7 @@ use Rattle.cards.specs.Deck.{cardsIn, fsFirst, OperandAt, Operandless, C
 use Rattle.cards.specs.Promise.{Accepts, DeckSays, InOrder, cardOfField}
 use Rattle.cards.proofs.CardAt as card-type
 use Rattle.cards.proofs.NotedLaws.{allFields, manyFields}
-use Rattle.cards.proofs.RowLaws.{words-many}
+use Rattle.cards.proofs.RowLaws.{words-key, words-many}
 use Rattle.cards.proofs.DeckLaws.{no-more}
 use Rattle.cards.proofs.OrderedLaws.{asked-order, all-cards, first-known, asked-read}
 use Rattle.cards.proofs.PromiseLaws.{accepted, refused-as}
@@ -78,6 +78,19 @@ counts card t o is left e l r row says = go (listOf "/" (worded item) o) refl sa
         let p : read (valuesOf ws) more ≡ read is left = sym (sym (list-plain "/" item o) ∙ ap plainRead q) ∙ e in
         let v : valuesOf ws ≡ is = cc in
         ap (λ n. n .count) m ∙ words-many card (suc beforeFS) ws t l ∙ ap (λ (c : List Item). min 64 (t .0 .count + manyFields c)) v
+    go (stopped more) q s =
+        let p : stopped more ≡ read is left = sym (sym (list-plain "/" item o) ∙ ap plainRead q) ∙ e in
+        let z : _≡_ {A = ℕ} 0 1 = cc in
+        absurd (omega arith)
+
+-- and the key stays
+holds-key : (card : ℕ) (t : Taken) (o : List ℕ) (is : List Item) (left : List ℕ) → fsOperand o ≡ read is left → (r : ListRead) (row : List ℕ)
+    → ListSays card (suc beforeFS) (suc beforeFS) t o (listOf "/" (worded item) o) r row → r .noted .key ≡ t .0 .key
+unfolding fsOperand
+holds-key card t o is left e r row says = go (listOf "/" (worded item) o) refl says
+  where
+    go : (x : Read (List (Worded Item))) → listOf "/" (worded item) o ≡ x → ListSays card (suc beforeFS) (suc beforeFS) t o x r row → r .noted .key ≡ t .0 .key
+    go (read ws more) q (u, m, w) = ap (λ n. n .key) m ∙ words-key card (suc beforeFS) ws t
     go (stopped more) q s =
         let p : stopped more ≡ read is left = sym (sym (list-plain "/" item o) ∙ ap plainRead q) ∙ e in
         let z : _≡_ {A = ℕ} 0 1 = cc in
@@ -147,6 +160,9 @@ module _ (deck : List ℕ) (from field : ℕ) (t : Taken) (card at : ℕ) (g : S
 
     count-is : r .noted .count ≡ count + manyFields (here .items)
     count-is = omega (arith, all-few, counts card t (slice start end deck) (here .items) (here .left) (here .reads) (omega (arith, all-few)) r row says)
+
+    pub seeking-key : r .noted .key ≡ t .0 .key
+    seeking-key = holds-key card t (slice start end deck) (here .items) (here .left) (here .reads) r row says
 
     -- the field stands on it
     pub seeking-found : field < r .noted .count → Held card

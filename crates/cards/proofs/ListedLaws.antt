@@ -10,7 +10,8 @@ use lib.Seq.{drop-cons, drop-drop, length-take-le}
 use borrow.Author.Tests.{eq-eqb}
 use Rattle.rules.specs.Places.{All, noMore, also}
 use Rattle.rules.specs.Reader.{Read, read, stopped, pure, onward, listOf, restOf}
-use Rattle.rules.specs.Grammar.{Item, field, cv, item}
+use Rattle.rules.specs.Grammar.{CardField, Item, field, cv, item}
+use Rattle.rules.specs.Rows.{FieldWithin}
 use Rattle.rules.specs.Texts.{ListText, RestText, ItemText, FsText}
 use Rattle.rules.specs.Words.{Worded, worded, fsWords, numberColumns, outsideColumn, outsideIn}
 use Rattle.rules.specs.Asked.{itemNumbers}
@@ -25,8 +26,10 @@ use Rattle.rules.proofs.NumberColumns.{item-count}
 use Rattle.rules.proofs.NumberLimits.{item-exactly}
 use Rattle.terms.specs.declared.Kind.{Kind}
 use Rattle.terms.specs.declared.Kind.the-variants.{Copy, Pack, Unpack}
+use Rattle.terms.specs.declared.Part.{Part}
 use Rattle.terms.specs.declared.Field.{Field}
-use Rattle.terms.specs.Meaning.{kindOf, fieldOf}
+use Rattle.terms.specs.Meaning.{kindOf, fieldOf, partOf, cardField, laid}
+use Rattle.terms.proofs.Laid.{laid-within}
 use Rattle.rows.specs.Flat.{Short}
 use Rattle.rows.proofs.RowLaws.{short-one}
 use Rattle.readers.specs.declared.Places.{Places}
@@ -37,7 +40,7 @@ use Rattle.cards.specs.declared.Noted.{Noted}
 use Rattle.cards.specs.declared.ListRead.{ListRead}
 use Rattle.cards.specs.Limits.{shifted}
 use Rattle.cards.specs.Selected.{fieldNoted, cvNoted, keptRow, Taken, withItem, withWords, ListSays}
-use Rattle.cards.proofs.RowLaws.{Fair}
+use Rattle.cards.proofs.RowLaws.{Fair, words-key}
 
 abbrev takes : Within 1 (worded item)
 takes = within-worded item within-item
@@ -109,63 +112,72 @@ module _ (card column : ℕ) (t : Taken) (s : List ℕ) where
       (sym (ap (restOf "/" (worded item)) d ∙ rest-other "/" (worded item) takes 47 refl (getD s 0 0) (drop 1 s) e ∙ ap stopped (sym d)))
       (0, omega arith, refl, omega arith)
 
+-- ---- a field of the row
+
+laid-short : (key : ℕ) (f : CardField) → key ≤ 4096 → FieldWithin (f .field) → Short (laid key f)
+unfolding laid
+laid-short key f h w =
+    let own = short-one (f .field) w in
+    let place = laid-within key f h w in
+    record { r = omega (arith, place .high); input = own .input; output = own .output; t = own .t }
+
 -- ---- the numbers of a field
 
-module _ (s : List ℕ) (f : Field) (p : Places) (n : ℕ) (e : ItemSays s (IsField f p n)) where
+module _ (s : List ℕ) (part : Part) (f : Field) (p : Places) (n : ℕ) (e : ItemSays s (IsField part f p n)) where
   abbrev theWord : Worded Item
-  theWord = record { value = field (fieldOf f); text = take n s }
+  theWord = record { value = field (cardField part f); text = take n s }
 
   columns-are : (column : ℕ) → numberColumns false column (take n s) ≡ shifted column (fieldPlaces (f .kind) p)
   columns-are column =
       let z : column + 0 ≡ column = omega arith in
-      ap (λ (c : ℕ). numberColumns false c (take n s)) (sym z) ∙ columns-shift false column 0 (take n s) ∙ ap (shifted column) (item-places s f p n e)
+      ap (λ (c : ℕ). numberColumns false c (take n s)) (sym z) ∙ columns-shift false column 0 (take n s) ∙ ap (shifted column) (item-places s part f p n e)
 
   -- the column of the first outside its limits, as code finds it
-  pub outside-is : (column : ℕ) → outsideColumn (shifted column (fieldPlaces (f .kind) p)) (itemNumbers (field (fieldOf f))) ≡ outsideIn itemNumbers column theWord
-  outside-is column = ap (λ (cs : List ℕ). outsideColumn cs (itemNumbers (field (fieldOf f)))) (sym (columns-are column))
+  pub outside-is : (column : ℕ) → outsideColumn (shifted column (fieldPlaces (f .kind) p)) (itemNumbers (field (cardField part f))) ≡ outsideIn itemNumbers column theWord
+  outside-is column = ap (λ (cs : List ℕ). outsideColumn cs (itemNumbers (field (cardField part f)))) (sym (columns-are column))
 
   -- each begins inside the field
-  pub places-low : (p .input < n) × (p .output < n) × (p .t < n)
+  pub places-low : (p .r < n) × (p .input < n) × (p .output < n) × (p .t < n)
   places-low =
       let l : length (take n s) ≡ n = length-take-le n s (e .0 .0) in
-      go (f .kind) refl (subst (All (λ k. k < length (take n s))) (item-places s f p n e) (places-inside (take n s))) l
+      go (f .kind) refl (subst (All (λ k. k < length (take n s))) (item-places s part f p n e) (places-inside (take n s))) l
     where
       cells : p ≡ placesIn (numberColumns false 0 (take n s))
       cells = e .2
 
-      go : (k : Kind) → f .kind ≡ k → All (λ k. k < length (take n s)) (fieldPlaces (f .kind) p) → length (take n s) ≡ n → (p .input < n) × (p .output < n) × (p .t < n)
+      go : (k : Kind) → f .kind ≡ k → All (λ k. k < length (take n s)) (fieldPlaces (f .kind) p) → length (take n s) ≡ n → (p .r < n) × (p .input < n) × (p .output < n) × (p .t < n)
       go Copy q a l =
-          let same : p ≡ placesIn (fieldPlaces Copy p) = cells ∙ ap placesIn (item-places s f p n e ∙ ap (λ (k : Kind). fieldPlaces k p) q) in
+          let same : p ≡ placesIn (fieldPlaces Copy p) = cells ∙ ap placesIn (item-places s part f p n e ∙ ap (λ (k : Kind). fieldPlaces k p) q) in
           let o : p .output ≡ p .input = ap (λ (x : Places). x .output) same in
           three (subst (λ (k : Kind). All (λ k. k < length (take n s)) (fieldPlaces k p)) q a) o l
         where
-          three : All (λ k. k < length (take n s)) (fieldPlaces Copy p) → p .output ≡ p .input → length (take n s) ≡ n → (p .input < n) × (p .output < n) × (p .t < n)
-          three (also a (also b (also c d))) o l = (omega arith, omega arith, omega arith)
+          three : All (λ k. k < length (take n s)) (fieldPlaces Copy p) → p .output ≡ p .input → length (take n s) ≡ n → (p .r < n) × (p .input < n) × (p .output < n) × (p .t < n)
+          three (also a (also b (also c d))) o l = (omega arith, omega arith, omega arith, omega arith)
       go Pack q a l = four (subst (λ (k : Kind). All (λ k. k < length (take n s)) (fieldPlaces k p)) q a) l
         where
-          four : All (λ k. k < length (take n s)) (fieldPlaces Pack p) → length (take n s) ≡ n → (p .input < n) × (p .output < n) × (p .t < n)
-          four (also a (also b (also c (also d e)))) l = (omega arith, omega arith, omega arith)
+          four : All (λ k. k < length (take n s)) (fieldPlaces Pack p) → length (take n s) ≡ n → (p .r < n) × (p .input < n) × (p .output < n) × (p .t < n)
+          four (also a (also b (also c (also d e)))) l = (omega arith, omega arith, omega arith, omega arith)
       go Unpack q a l = four (subst (λ (k : Kind). All (λ k. k < length (take n s)) (fieldPlaces k p)) q a) l
         where
-          four : All (λ k. k < length (take n s)) (fieldPlaces Unpack p) → length (take n s) ≡ n → (p .input < n) × (p .output < n) × (p .t < n)
-          four (also a (also b (also c (also d e)))) l = (omega arith, omega arith, omega arith)
+          four : All (λ k. k < length (take n s)) (fieldPlaces Unpack p) → length (take n s) ≡ n → (p .r < n) × (p .input < n) × (p .output < n) × (p .t < n)
+          four (also a (also b (also c (also d e)))) l = (omega arith, omega arith, omega arith, omega arith)
 
   -- as many as have limits
-  many : (column : ℕ) → length (numberColumns false column (take n s)) ≡ length (itemNumbers (field (fieldOf f)))
-  unfolding fieldOf
+  many : (column : ℕ) → length (numberColumns false column (take n s)) ≡ length (itemNumbers (field (cardField part f)))
+  unfolding fieldOf cardField
   many column = ap length (columns-are column) ∙ go (f .kind)
     where
-      go : (k : Kind) → length (shifted column (fieldPlaces k p)) ≡ length (itemNumbers (field (record { r = f .r; kind = kindOf k (f .input) (f .output); t = f .t })))
+      go : (k : Kind) → length (shifted column (fieldPlaces k p)) ≡ length (itemNumbers (field (record { part = partOf part; field = record { r = f .r; kind = kindOf k (f .input) (f .output); t = f .t } })))
       go Copy = refl
       go Pack = refl
       go Unpack = refl
 
-  -- where none is outside its limits, 16 bits hold them
-  pub kept-short : (column : ℕ) → 1 ≤ column → outsideIn itemNumbers column theWord ≡ 0 → Short (fieldOf f)
-  kept-short column l z =
-      short-one (fieldOf f)
-      (field-within (fieldOf f) .0
-      (sym (outside-none (numberColumns false column (take n s)) (itemNumbers (field (fieldOf f))) (many column) (columns-low false column (take n s) l) ∙ item-exactly (field (fieldOf f)))
+  -- where none is outside its limits, 16 bits hold them, behind a key within its limits
+  pub kept-short : (key column : ℕ) → key ≤ 4096 → 1 ≤ column → outsideIn itemNumbers column theWord ≡ 0 → Short (laid key (cardField part f))
+  kept-short key column h l z =
+      laid-short key (cardField part f) h
+      (field-within (cardField part f) .0
+      (sym (outside-none (numberColumns false column (take n s)) (itemNumbers (field (cardField part f))) (many column) (columns-low false column (take n s) l) ∙ item-exactly (field (cardField part f)))
       ∙ eq-eqb (outsideIn itemNumbers column theWord) 0 z))
 
 -- ---- the parts of an FS operand
@@ -188,20 +200,21 @@ words-fair o is t = parts-all (fs-worded o is t .0)
 
 module _ (card column : ℕ) (t : Taken) (s : List ℕ) where
   -- a field: its first number outside its limits, the row, and what is noted
-  pub listed-field : (f : Field) (p : Places) (n : ℕ) → ItemSays s (IsField f p n)
-      → (out : ℕ) → out ≡ outsideColumn (shifted column (fieldPlaces (f .kind) p)) (itemNumbers (field (fieldOf f)))
-      → (row : List ℕ) → row ≡ keptRow (t .0 .count) out (fieldOf f) (t .1)
-      → (m : Noted) → m ≡ fieldNoted (t .0) card out
-      → (part : List ℕ) → part ≡ drop n s
-      → (r : ListRead) (end : List ℕ) → ListSays card (1 + (column + n)) (column + n) (m, row) part (restOf "/" (worded item) part) r end
+  pub listed-field : (part : Part) (f : Field) (p : Places) (n : ℕ) → ItemSays s (IsField part f p n)
+      → (out : ℕ) → out ≡ outsideColumn (shifted column (fieldPlaces (f .kind) p)) (itemNumbers (field (cardField part f)))
+      → (own : Field) → fieldOf own ≡ laid (t .0 .key) (cardField part f)
+      → (row : List ℕ) → row ≡ keptRow (t .0 .count) out (fieldOf own) (t .1)
+      → (m : Noted) → m ≡ fieldNoted (t .0) card (partOf part) out
+      → (rest : List ℕ) → rest ≡ drop n s
+      → (r : ListRead) (end : List ℕ) → ListSays card (1 + (column + n)) (column + n) (m, row) rest (restOf "/" (worded item) rest) r end
       → ListSays card column column t s (listOf "/" (worded item) s) r end
-  unfolding withItem
-  listed-field f p n e out o row k m w part d r end h =
-      let q : out ≡ outsideIn itemNumbers column (theWord s f p n e) = o ∙ outside-is s f p n e column in
-      listed-item card column t s (field (fieldOf f)) n (e .0) r end
-      (subst (λ (x : List ℕ). ListSays card (1 + (column + n)) (column + n) (withItem card column (outsideIn itemNumbers column (theWord s f p n e)) (field (fieldOf f)) t) x (restOf "/" (worded item) x) r end) d
-      (subst (λ (x : Taken). ListSays card (1 + (column + n)) (column + n) x part (restOf "/" (worded item) part) r end)
-      (λ i. ((w ∙ ap (fieldNoted (t .0) card) q) i, (k ∙ ap (λ (z : ℕ). keptRow (t .0 .count) z (fieldOf f) (t .1)) q) i)) h))
+  unfolding withItem cardField
+  listed-field part f p n e out o own v row k m w rest d r end h =
+      let q : out ≡ outsideIn itemNumbers column (theWord s part f p n e) = o ∙ outside-is s part f p n e column in
+      listed-item card column t s (field (cardField part f)) n (e .0) r end
+      (subst (λ (x : List ℕ). ListSays card (1 + (column + n)) (column + n) (withItem card column (outsideIn itemNumbers column (theWord s part f p n e)) (field (cardField part f)) t) x (restOf "/" (worded item) x) r end) d
+      (subst (λ (x : Taken). ListSays card (1 + (column + n)) (column + n) x rest (restOf "/" (worded item) rest) r end)
+      (λ i. ((w ∙ ap (fieldNoted (t .0) card (partOf part)) q) i, (k ∙ (λ j. keptRow (t .0 .count) (q j) (v j) (t .1))) i)) h))
 
   pub listed-cv : (n : ℕ) → ItemSays s (IsCV n) → (m : Noted) → m ≡ cvNoted (t .0) card column → (part : List ℕ) → part ≡ drop n s
       → (r : ListRead) (end : List ℕ) → ListSays card (1 + (column + n)) (column + n) (m, t .1) part (restOf "/" (worded item) part) r end
@@ -211,3 +224,14 @@ module _ (card column : ℕ) (t : Taken) (s : List ℕ) where
       listed-item card column t s cv n e r end
       (subst (λ (x : List ℕ). ListSays card (1 + (column + n)) (column + n) (cvNoted (t .0) card column, t .1) x (restOf "/" (worded item) x) r end) d
       (subst (λ (x : Noted). ListSays card (1 + (column + n)) (column + n) (x, t .1) part (restOf "/" (worded item) part) r end) w h))
+
+-- ---- a card
+
+-- the key is what it was, where the card could be read
+pub key-kept : (card : ℕ) (t : Taken) (o : List ℕ) (r : ListRead) (row : List ℕ) → ListSays card 7 7 t o (listOf "/" (worded item) o) r row → r .unread ≡ 0
+    → r .noted .key ≡ t .0 .key
+key-kept card t o r row h z = go (listOf "/" (worded item) o) h
+  where
+    go : (x : Read (List (Worded Item))) → ListSays card 7 7 t o x r row → r .noted .key ≡ t .0 .key
+    go (read ws left) (u, m, w) = ap (λ (n : Noted). n .key) m ∙ words-key card 7 ws t
+    go (stopped left) (k, l, d, u) = absurd (omega arith)

@@ -10,20 +10,20 @@ use lib.ListN.{length, length-append}
 use borrow.Author.Tests.{ltb-true, ltb-false, eqb-true, eqb-false}
 use Rattle.rules.specs.Base.{joined, every}
 use Rattle.rules.specs.Answer.{each}
-use Rattle.rules.specs.Grammar.{Item, field, cv}
-use Rattle.rules.specs.Halves.{Field as RuleField}
+use Rattle.rules.specs.Grammar.{Part, inData, inKey, CardField, Item, field, cv}
 use Rattle.rules.specs.Asked.{fieldsOf, cvs, upTo, fieldLimits}
+use Rattle.rules.specs.Plan.{isKey, keyFields}
 use Rattle.rules.specs.Rows.{total}
 use Rattle.rules.proofs.AcceptedLaws.{fields-append, cvs-append}
 use Rattle.rules.proofs.CardSteps.{noted, total-last, total-fields, total-cvs, upTo-empty, noted-equal, noted-within, noted-over, each-empty, noted-same, noted-fails, joined-last, every-append}
-use Rattle.terms.specs.Meaning.{cvCard}
+use Rattle.terms.specs.Meaning.{cvCard, keyCard}
 use Rattle.terms.proofs.PlanOf.{cv-said}
 use Rattle.cards.specs.declared.Noted.{Noted}
-use Rattle.cards.specs.Selected.{nothingNoted, counted, beyondNoted, fieldNoted, secondNoted, cvNoted}
-use Rattle.cards.proofs.ListSteps.{no-field, cv-empty, cv-field, cv-cv}
+use Rattle.cards.specs.Selected.{nothingNoted, counted, keyNoted, beyondNoted, fieldNoted, secondNoted, cvNoted}
+use Rattle.cards.proofs.ListSteps.{no-field, keys-append, first-empty, first-same, first-more}
 
 -- all fields of the cards
-abbrev pub allFields : List (List Item) → List RuleField
+abbrev pub allFields : List (List Item) → List CardField
 allFields cs = fieldsOf (joined cs)
 
 -- how many fields stand on a card, and whether their numbers are within their limits
@@ -33,18 +33,23 @@ manyFields c = length (fieldsOf c)
 abbrev pub limited : List Item → Bool
 limited c = every fieldLimits (fieldsOf c)
 
+-- how many fields on a card are taken from the key
+abbrev pub keysOn : List Item → ℕ
+keysOn c = keyFields (fieldsOf c)
+
 -- what is noted of these cards
 pub record Tells (n : Noted) (cs : List (List Item)) : Type 0 where
   pub count : n .count ≡ min 64 (length (allFields cs))
   pub over : noted 6 (n .«sixty_fifth») ≡ upTo 6 64 manyFields 0 2 cs
   pub cv : n .cv ≡ cvCard 2 cs
+  pub keyed : n .keyed ≡ keyCard 2 cs
   pub twice : noted 4 (n .«second_cv») ≡ upTo 4 1 cvs 0 2 cs
   pub beyond : noted 7 (n .beyond) ≡ each 7 limited 2 cs
 
 -- no card yet
-pub tells-none : Tells nothingNoted []
+pub tells-none : (key : ℕ) → Tells (nothingNoted key) []
 unfolding each
-tells-none = record { count = refl; over = refl; cv = refl; twice = refl; beyond = refl }
+tells-none key = record { count = refl; over = refl; cv = refl; keyed = refl; twice = refl; beyond = refl }
 
 -- ---- a card more
 
@@ -56,7 +61,8 @@ tells-card n cs h =
     record {
       count = h .count ∙ sym (ap (λ (l : List Item). min 64 (length (fieldsOf l))) (no-items cs));
       over = h .over ∙ sym (upTo-empty 6 64 manyFields cs refl);
-      cv = h .cv ∙ sym (cv-empty cs);
+      cv = h .cv ∙ sym (first-empty cvs cs refl);
+      keyed = h .keyed ∙ sym (first-empty keysOn cs refl);
       twice = h .twice ∙ sym (upTo-empty 4 1 cvs cs refl);
       beyond = h .beyond ∙ sym (each-empty 7 limited cs refl);
     }
@@ -74,7 +80,7 @@ module _ (cs : List (List Item)) (c : List Item) where
   joined-more i =
       joined-last cs (c ++ (i ∷ [])) ∙ sym (append-assoc (joined cs) c (i ∷ [])) ∙ sym (ap (λ (l : List Item). l ++ (i ∷ [])) (joined-last cs c))
 
-  pub more-fields : (f : RuleField) → allFields (with-more (field f)) ≡ allFields with-last ++ (f ∷ [])
+  pub more-fields : (f : CardField) → allFields (with-more (field f)) ≡ allFields with-last ++ (f ∷ [])
   more-fields f = ap fieldsOf (joined-more (field f)) ∙ fields-append (joined with-last) (field f ∷ [])
 
   pub same-fields : allFields (with-more cv) ≡ allFields with-last
@@ -83,7 +89,7 @@ module _ (cs : List (List Item)) (c : List Item) where
   abbrev pub card : ℕ
   card = 2 + length cs
 
-  module _ (n : Noted) (h : Tells n with-last) (f : RuleField) where
+  module _ (n : Noted) (h : Tells n with-last) (f : CardField) where
     many : length (allFields (with-more (field f))) ≡ length (allFields with-last) + 1
     many = ap length (more-fields f) ∙ length-append (allFields with-last) (f ∷ [])
 
@@ -92,6 +98,7 @@ module _ (cs : List (List Item)) (c : List Item) where
 
     -- what the field's numbers do not touch
     record Counted (x : Noted) : Type 0 where
+      keyed : x .keyed ≡ n .keyed
       count : x .count ≡ min 64 (length (allFields (with-more (field f))))
       over : noted 6 (x .«sixty_fifth») ≡ upTo 6 64 manyFields 0 2 (with-more (field f))
       cv : x .cv ≡ n .cv
@@ -112,6 +119,7 @@ module _ (cs : List (List Item)) (c : List Item) where
               count = omega (arith, many, h .count);
               over = noted-within 6 64 manyFields (n .«sixty_fifth») cs c (c ++ (field f ∷ [])) (h .over) (omega (arith, one-more)) (omega (arith, total-more, h .count));
               cv = refl;
+              keyed = refl;
               twice = refl;
               beyond = refl;
             })
@@ -121,9 +129,48 @@ module _ (cs : List (List Item)) (c : List Item) where
               count = omega (arith, many, h .count);
               over = noted-over 6 64 manyFields (n .«sixty_fifth») cs c (c ++ (field f ∷ [])) (h .over) (omega (arith, total-more, h .count));
               cv = refl;
+              keyed = refl;
               twice = refl;
               beyond = refl;
             })
+
+    -- the first field that is taken from the key
+    keys-more : keysOn (c ++ (field f ∷ [])) ≡ keysOn c + keyFields (f ∷ [])
+    keys-more = ap keyFields (fields-append c (field f ∷ [])) ∙ keys-append (fieldsOf c) (f ∷ [])
+
+    record Named (x : Noted) : Type 0 where
+      count : x .count ≡ min 64 (length (allFields (with-more (field f))))
+      over : noted 6 (x .«sixty_fifth») ≡ upTo 6 64 manyFields 0 2 (with-more (field f))
+      cv : x .cv ≡ n .cv
+      keyed : x .keyed ≡ keyCard 2 (with-more (field f))
+      twice : x .«second_cv» ≡ n .«second_cv»
+      beyond : x .beyond ≡ n .beyond
+
+    tells-named : (x : Noted) → Counted x → Named (keyNoted x card (f .part))
+    tells-named x p = go (f .part) refl
+      where
+        go : (q : Part) → f .part ≡ q → Named (keyNoted x card q)
+        go inData e =
+            let none : keyFields (f ∷ []) ≡ 0 = ap (λ (k : Part). cond (isKey k) 1 0 + 0) e in
+            record {
+              count = p .count;
+              over = p .over;
+              cv = p .cv;
+              keyed = p .keyed ∙ h .keyed ∙ sym (first-same keysOn cs c (c ++ (field f ∷ [])) (omega (arith, keys-more, none)));
+              twice = p .twice;
+              beyond = p .beyond;
+            }
+        go inKey e =
+            let one : keyFields (f ∷ []) ≡ 1 = ap (λ (k : Part). cond (isKey k) 1 0 + 0) e in
+            record {
+              count = p .count;
+              over = p .over;
+              cv = p .cv;
+              keyed =
+                  ap (λ (k : ℕ). cond (eqb k 0) card k) (p .keyed ∙ h .keyed) ∙ sym (first-more keysOn cs c (c ++ (field f ∷ [])) (omega (arith, keys-more, one)));
+              twice = p .twice;
+              beyond = p .beyond;
+            }
 
     limited-more : limited (c ++ (field f ∷ [])) ≡ (limited c && fieldLimits f)
     limited-more =
@@ -135,27 +182,28 @@ module _ (cs : List (List Item)) (c : List Item) where
     cvs-same = omega (arith, cvs-append c (field f ∷ []))
 
     -- the field's numbers are within their limits exactly if no column is given
-    pub tells-field : (outside : ℕ) → eqb outside 0 ≡ fieldLimits f → Tells (fieldNoted n card outside) (with-more (field f))
+    pub tells-field : (outside : ℕ) → eqb outside 0 ≡ fieldLimits f → Tells (fieldNoted n card (f .part) outside) (with-more (field f))
     unfolding fieldNoted
-    tells-field outside fair = go tells-counted (eqb outside 0) refl
+    tells-field outside fair = go (tells-named (counted n card) tells-counted) (eqb outside 0) refl
       where
-        twice-same : (x : Noted) → Counted x → noted 4 (x .«second_cv») ≡ upTo 4 1 cvs 0 2 (with-more (field f))
+        twice-same : (x : Noted) → Named x → noted 4 (x .«second_cv») ≡ upTo 4 1 cvs 0 2 (with-more (field f))
         twice-same x p = ap (noted 4) (p .twice) ∙ noted-equal 4 1 cvs (n .«second_cv») cs c (c ++ (field f ∷ [])) (h .twice) cvs-same
 
-        cv-same : (x : Noted) → Counted x → x .cv ≡ cvCard 2 (with-more (field f))
-        cv-same x p = p .cv ∙ h .cv ∙ sym (cv-field cs c f)
+        cv-same : (x : Noted) → Named x → x .cv ≡ cvCard 2 (with-more (field f))
+        cv-same x p = p .cv ∙ h .cv ∙ sym (first-same cvs cs c (c ++ (field f ∷ [])) cvs-same)
 
         fails : eqb outside 0 ≡ false → noted 7 (cond (eqb (n .beyond) 0) card (n .beyond)) ≡ each 7 limited 2 (with-more (field f))
         fails e =
             noted-fails 7 limited (n .beyond) cs c (c ++ (field f ∷ [])) (h .beyond)
             (limited-more ∙ ap (λ (t : Bool). limited c && t) (sym fair ∙ e) ∙ and-false (limited c))
 
-        go : Counted (counted n card) → (t : Bool) → eqb outside 0 ≡ t → Tells (fieldNoted n card outside) (with-more (field f))
+        go : Named (keyNoted (counted n card) card (f .part)) → (t : Bool) → eqb outside 0 ≡ t → Tells (fieldNoted n card (f .part) outside) (with-more (field f))
         go p true e =
             rw e (record {
               count = p .count;
               over = p .over;
               cv = cv-same _ p;
+              keyed = p .keyed;
               twice = twice-same _ p;
               beyond =
                   ap (noted 7) (p .beyond)
@@ -163,13 +211,14 @@ module _ (cs : List (List Item)) (c : List Item) where
             })
         go p false e = rw e (by (eqb (n .beyond) 0) refl)
           where
-            by : (t : Bool) → eqb (n .beyond) 0 ≡ t → Tells (cond (eqb (n .beyond) 0) (beyondNoted (counted n card) card outside) (counted n card)) (with-more (field f))
-            by true t = rw t (record { count = p .count; over = p .over; cv = cv-same _ p; twice = twice-same _ p; beyond = ap (λ (b : Bool). noted 7 (cond b card (n .beyond))) (sym t) ∙ fails e })
+            by : (t : Bool) → eqb (n .beyond) 0 ≡ t → Tells (cond (eqb (n .beyond) 0) (beyondNoted (keyNoted (counted n card) card (f .part)) card outside) (keyNoted (counted n card) card (f .part))) (with-more (field f))
+            by true t = rw t (record { count = p .count; over = p .over; cv = cv-same _ p; keyed = p .keyed; twice = twice-same _ p; beyond = ap (λ (b : Bool). noted 7 (cond b card (n .beyond))) (sym t) ∙ fails e })
             by false t =
                 rw t (record {
                   count = p .count;
                   over = p .over;
                   cv = cv-same _ p;
+                  keyed = p .keyed;
                   twice = twice-same _ p;
                   beyond = ap (noted 7) (p .beyond) ∙ ap (λ (b : Bool). noted 7 (cond b card (n .beyond))) (sym t) ∙ fails e;
                 })
@@ -185,20 +234,23 @@ module _ (cs : List (List Item)) (c : List Item) where
     cv-known = ap (λ (k : ℕ). eqb k 0) (h .cv) ∙ cv-said 2 (omega arith) with-last
 
     more-cv : cvCard 2 (with-more cv) ≡ cond (eqb (n .cv) 0) card (n .cv)
-    more-cv = cv-cv cs c ∙ sym (ap (λ (k : ℕ). cond (eqb k 0) card k) (h .cv))
+    more-cv = first-more cvs cs c (c ++ (cv ∷ [])) (omega (arith, cvs-append c (cv ∷ []))) ∙ sym (ap (λ (k : ℕ). cond (eqb k 0) card k) (h .cv))
 
     pub tells-cv : (column : ℕ) → Tells (cvNoted n card column) (with-more cv)
     unfolding cvNoted
     tells-cv column = go (eqb (n .cv) 0) refl
       where
         count : n .count ≡ min 64 (length (allFields (with-more cv)))
-        count = h .count ∙ sym (ap (λ (l : List RuleField). min 64 (length l)) same-fields)
+        count = h .count ∙ sym (ap (λ (l : List CardField). min 64 (length l)) same-fields)
 
         over : noted 6 (n .«sixty_fifth») ≡ upTo 6 64 manyFields 0 2 (with-more cv)
         over = noted-equal 6 64 manyFields (n .«sixty_fifth») cs c (c ++ (cv ∷ [])) (h .over) (ap length (no-field c))
 
         beyond : noted 7 (n .beyond) ≡ each 7 limited 2 (with-more cv)
         beyond = noted-same 7 limited (n .beyond) cs c (c ++ (cv ∷ [])) (h .beyond) (ap (every fieldLimits) (no-field c))
+
+        keyed : n .keyed ≡ keyCard 2 (with-more cv)
+        keyed = h .keyed ∙ sym (first-same keysOn cs c (c ++ (cv ∷ [])) (ap keyFields (no-field c)))
 
         go : (t : Bool) → eqb (n .cv) 0 ≡ t → Tells (cvNoted n card column) (with-more cv)
         go true e =
@@ -207,6 +259,7 @@ module _ (cs : List (List Item)) (c : List Item) where
               count = count;
               over = over;
               cv = sym (more-cv ∙ ap (λ (t : Bool). cond t card (n .cv)) e);
+              keyed = keyed;
               twice = noted-within 4 1 cvs (n .«second_cv») cs c (c ++ (cv ∷ [])) (h .twice) (omega (arith, cvs-append c (cv ∷ []))) (omega (arith, cv-total));
               beyond = beyond;
             })
@@ -225,6 +278,6 @@ module _ (cs : List (List Item)) (c : List Item) where
 
             by : (t : Bool) → eqb (n .«second_cv») 0 ≡ t → Tells (cond (eqb (n .«second_cv») 0) (secondNoted n card column) n) (with-more cv)
             by true t =
-                rw t (record { count = count; over = over; cv = same-cv; twice = ap (λ (b : Bool). noted 4 (cond b card (n .«second_cv»))) (sym t) ∙ second; beyond = beyond })
+                rw t (record { count = count; over = over; cv = same-cv; keyed = keyed; twice = ap (λ (b : Bool). noted 4 (cond b card (n .«second_cv»))) (sym t) ∙ second; beyond = beyond })
             by false t =
-                rw t (record { count = count; over = over; cv = same-cv; twice = ap (λ (b : Bool). noted 4 (cond b card (n .«second_cv»))) (sym t) ∙ second; beyond = beyond })
+                rw t (record { count = count; over = over; cv = same-cv; keyed = keyed; twice = ap (λ (b : Bool). noted 4 (cond b card (n .«second_cv»))) (sym t) ∙ second; beyond = beyond })

@@ -6,6 +6,11 @@ use mathlib.Core.List.{List, [], _∷_, _++_, map}
 use mathlib.Core.Option.{some}
 use Prim.Native.Nat.{ℕ, suc, _+_, _-_, _≤_}
 use native.Mathlib.Omega.{arith}
+use mathlib.Core.Bool.{Bool, true, false, cond}
+use lib.Dec.{leb}
+use borrow.Author.Tests.{leb-true}
+use Rattle.terms.specs.declared.Input.{Input}
+use Rattle.terms.specs.declared.Input.the-variants.{Plain, Keyed}
 use denote.Enum.Declared.{tagOf}
 use lib.ListN.{length, drop}
 use lib.Seq.{slice}
@@ -34,7 +39,7 @@ use Rattle.cards.specs.declared.FsCards.{FsCards}
 use Rattle.cards.specs.Selected.{Taken, noSelection, withCards}
 use Rattle.cards.specs.Parameters.{UListed}
 use Rattle.cards.specs.Deck.{cardsIn, fsFirst, OperandAt, Operandless, CardAtSays, FsRead, FsSaid}
-use Rattle.cards.specs.Verdict.{judgedAs}
+use Rattle.cards.specs.Verdict.{keyOf, judgedAs}
 use Rattle.cards.specs.Promise.{refusedDeck, Reads, DeckReads, InOrder}
 use Rattle.cards.proofs.CardAt as card-type
 use Rattle.cards.proofs.RowLaws.{Fair, Holds, holds-cards}
@@ -185,9 +190,12 @@ module _ (deck : List ℕ) (fs : ℕ) (order : InOrder deck fs) where
               let q : askedOf deck ≡ refusedAt 3 1 (r .unread) = asked-by ∙ rw g refl in
               subst (λ (a : Answer RuleAsked). Reads a (refusedDeck 3 1 (r .unread)) row) (sym q) refl
 
-      module _ (n : r .unread ≡ 0) (f : FsCards) (row : List ℕ) (k : FsSaid 2 noSelection (fsFirst (cardsIn (drop next deck))) f row) where
-        fs-said : FsSaid 2 noSelection (operands .fs) f row
-        fs-said = subst (λ (os : List (List ℕ)). FsSaid 2 noSelection os f row) fs-are k
+      module _ (n : r .unread ≡ 0) (f : FsCards) (row : List ℕ) (k : FsSaid 2 (noSelection (keyOf (r .state .input))) (fsFirst (cardsIn (drop next deck))) f row) where
+        abbrev key : ℕ
+        key = keyOf (r .state .input)
+
+        fs-said : FsSaid 2 (noSelection key) (operands .fs) f row
+        fs-said = subst (λ (os : List (List ℕ)). FsSaid 2 (noSelection key) os f row) fs-are k
 
         -- the parameters could be read
         read-of : (ws : List (Worded Parameter)) (left : List ℕ) → words (operands .u) ≡ read ws left
@@ -200,7 +208,7 @@ module _ (deck : List ℕ) (fs : ℕ) (order : InOrder deck fs) where
         unread-fs z = go (words (operands .u)) refl listed (itemsFrom 2 (operands .fs)) refl fs-said
           where
             go : (x : Read (List (Worded Parameter))) → words (operands .u) ≡ x → UListed (suc (operands .before)) (operands .u) x r
-                → (y : Answer (List (List Item))) → itemsFrom 2 (operands .fs) ≡ y → FsRead 2 noSelection (operands .fs) y f row → DeckReads deck (refusedDeck 3 (f .unread) (f .column)) row
+                → (y : Answer (List (List Item))) → itemsFrom 2 (operands .fs) ≡ y → FsRead 2 (noSelection key) (operands .fs) y f row → DeckReads deck (refusedDeck 3 (f .unread) (f .column)) row
             go (stopped left) e (k, m, d, u) y q w = absurd (omega arith)
             go (read ws left) e l (fine cs) q w = absurd (z (w .0))
             go (read ws left) e l (refuse x) q w =
@@ -214,7 +222,7 @@ module _ (deck : List ℕ) (fs : ℕ) (order : InOrder deck fs) where
         all-read z = go (words (operands .u)) refl listed (itemsFrom 2 (operands .fs)) refl fs-said
           where
             go : (x : Read (List (Worded Parameter))) → words (operands .u) ≡ x → UListed (suc (operands .before)) (operands .u) x r
-                → (y : Answer (List (List Item))) → itemsFrom 2 (operands .fs) ≡ y → FsRead 2 noSelection (operands .fs) y f row → DeckReads deck (judgedAs (r .state) (r .outside) (f .noted) fs) row
+                → (y : Answer (List (List Item))) → itemsFrom 2 (operands .fs) ≡ y → FsRead 2 (noSelection key) (operands .fs) y f row → DeckReads deck (judgedAs (r .state) (r .outside) (f .noted) fs) row
             go (stopped left) e (k, m, d, u) y q w = absurd (omega arith)
             go (read ws left) e l (refuse x) q w = absurd (omega (arith, items-refused (operands .fs) x q .1, w .0, z))
             go (read ws left) e l (fine cs) q w =
@@ -225,4 +233,13 @@ module _ (deck : List ℕ) (fs : ℕ) (order : InOrder deck fs) where
                 let a : askedOf deck ≡ judging operands (record { parameters = valuesOf ws; items = cs }) = asked-by ∙ rw (read-of ws left e, q) refl in
                 subst (λ (x : Answer RuleAsked). Reads x (judgedAs (r .state) (r .outside) (f .noted) fs) row) (sym a)
                 (judged-said operands (r .state) (r .outside) ws t (ap partsOf e) (l .1) (l .2) (f .noted, row) (w .1) cs b
-                (subst (λ (x : Taken). Holds x cs) (sym (w .1)) (subst (Holds (withCards 2 (map fsWords (operands .fs)) noSelection)) (v .1) (holds-cards (map fsWords (operands .fs)) (v .0)))) fs m)
+                (subst (λ (x : Taken). Holds key x cs) (sym (w .1)) (subst (Holds key (withCards 2 (map fsWords (operands .fs)) (noSelection key))) (v .1) (holds-cards key (map fsWords (operands .fs)) (v .0)))) fs m)
+
+-- a key that is kept is within its limits
+pub key-most : (i : Input) → keyOf i ≤ 4096
+key-most (Plain s) = omega arith
+key-most (Keyed k d) = go (leb k 4096) refl
+  where
+    go : (t : Bool) → leb k 4096 ≡ t → cond (leb k 4096) k 0 ≤ 4096
+    go true e = rw e (leb-true k 4096 e)
+    go false e = rw e (omega arith)

@@ -21,7 +21,7 @@ use Rattle.rules.proofs.ParameterSteps.{letters-last, among-last, distinct-last
 use Rattle.rules.proofs.ListLaws.{ahead, ahead-none, ahead-more, ahead-last, ahead-other, ahead-stop}
 use Rattle.rules.proofs.WordedLaws.{within-worded}
 use Rattle.rules.proofs.WordColumns.{word-taken, worded-stops, columns-shift, first-zero, width, width-last, values-last, outside-last, again-last}
-use Rattle.terms.specs.Meaning.{modeOf, formatOf, sizeOf}
+use Rattle.terms.specs.Meaning.{modeOf, formatOf, sizeOf, inputOf}
 use Rattle.readers.specs.declared.UParameter.{UParameter}
 use Rattle.readers.specs.declared.UParameter.the-variants.{ModeIs, FormatIs, InputIs, OutputIs, RewindIn, RewindOut, FirstIs}
 use Rattle.readers.specs.declared.ParameterRead.the-variants.{IsParameter, NoParameter}
@@ -74,7 +74,7 @@ marked x k =
     record {
       mode = option (eqb 0 k || hasSeen x 0) (modeOf (x .mode));
       format = option (eqb 1 k || hasSeen x 1) (formatOf (x .format));
-      input = option (eqb 2 k || hasSeen x 2) (sizeOf (x .input));
+      input = option (eqb 2 k || hasSeen x 2) (inputOf (x .input));
       output = option (eqb 3 k || hasSeen x 3) (sizeOf (x .output));
       first = x .first;
     }
@@ -85,7 +85,7 @@ given-marked x k room l =
     λ i. record {
       mode = option (seen-or x k 0 room l i) (modeOf (x .mode));
       format = option (seen-or x k 1 room l i) (formatOf (x .format));
-      input = option (seen-or x k 2 room l i) (sizeOf (x .input));
+      input = option (seen-or x k 2 room l i) (inputOf (x .input));
       output = option (seen-or x k 3 room l i) (sizeOf (x .output));
       first = x .first;
     }

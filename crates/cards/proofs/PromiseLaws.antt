@@ -5,7 +5,7 @@ use mathlib.Core.List.{List}
 use Prim.Native.Nat.{ℕ, zero, suc, _≤_}
 use native.Mathlib.Omega.{arith}
 use Rattle.rules.specs.Answer.{Refusal, Answer, fine, refuse, refusedAt}
-use Rattle.rules.specs.Grammar.{modeIs, formatIs, inputIs}
+use Rattle.rules.specs.Grammar.{Size as RuleSize, two, Input as RuleInput, plain, keyed, modeIs, formatIs, outputIs}
 use Rattle.rules.specs.Asked.{Asked as RuleAsked, askedOf}
 use Rattle.rules.specs.Rows.{Done, PlanRows}
 use Rattle.rules.proofs.Given.{Upto}
@@ -15,7 +15,7 @@ use Rattle.terms.specs.declared.Format.{Format}
 use Rattle.terms.specs.declared.Size.{Size}
 use Rattle.terms.specs.declared.Asked.{Asked}
 use Rattle.terms.specs.Meaning.{modeOf, formatOf, sizeOf, utilityOf}
-use Rattle.readers.specs.declared.UParameter.the-variants.{ModeIs, FormatIs, InputIs}
+use Rattle.readers.specs.declared.UParameter.the-variants.{ModeIs, FormatIs, OutputIs}
 use Rattle.readers.proofs.OnlyOne.{parameter-once}
 use Rattle.cards.specs.declared.DeckRead.{DeckRead}
 use Rattle.cards.specs.Promise.{nothingAsked, refusedDeck, Accepts, Reads, DeckReads, DeckSays, cardOfField}
@@ -29,7 +29,12 @@ format-once : (f g : Format) → formatOf f ≡ formatOf g → f ≡ g
 format-once f g e = let q : FormatIs f ≡ FormatIs g = parameter-once (FormatIs f) (FormatIs g) (ap (λ x. formatIs x) e) in cc
 
 size-once : (z y : Size) → sizeOf z ≡ sizeOf y → z ≡ y
-size-once z y e = let q : InputIs z ≡ InputIs y = parameter-once (InputIs z) (InputIs y) (ap (λ x. inputIs x) e) in cc
+size-once z y e = let q : OutputIs z ≡ OutputIs y = parameter-once (OutputIs z) (OutputIs y) (ap (λ x. outputIs x) e) in cc
+
+-- the size that A is without keys
+abbrev sizeIn : RuleInput → RuleSize
+sizeIn (plain s) = s
+sizeIn (keyed k d) = two k d
 
 module _ (r q : DeckRead) (one-row other-row : List ℕ) (a : RuleAsked) (x : Accepts r one-row a) (y : Accepts q other-row a) where
   abbrev one : Asked
@@ -47,12 +52,14 @@ module _ (r q : DeckRead) (one-row other-row : List ℕ) (a : RuleAsked) (x : Ac
       let u = utilities in
       let m : one .mode ≡ other .mode = mode-once (one .mode) (other .mode) (λ i. u i .mode) in
       let f : one .format ≡ other .format = format-once (one .format) (other .format) (λ i. u i .format) in
-      let n : one .input ≡ other .input = size-once (one .input) (other .input) (λ i. u i .input) in
+      let n : one .input ≡ other .input = size-once (one .input) (other .input) (λ i. sizeIn (u i .input)) in
       let o : one .output ≡ other .output = size-once (one .output) (other .output) (λ i. u i .output) in
       let c : one .count ≡ other .count = x .means .count ∙ sym (y .means .count) in
       let s : one .fs ≡ other .fs = x .means .fs ∙ sym (y .means .fs) in
       let v : one .cv ≡ other .cv = x .means .cv ∙ sym (y .means .cv) in
-      λ i. record { mode = m i; format = f i; input = n i; output = o i; first = u i .first; count = c i; fs = s i; cv = v i }
+      let k : one .key ≡ other .key = x .means .key ∙ sym (y .means .key) in
+      let w : one .keyed ≡ other .keyed = x .means .keyed ∙ sym (y .means .keyed) in
+      λ i. record { mode = m i; format = f i; input = n i; output = o i; first = u i .first; key = k i; count = c i; fs = s i; cv = v i; keyed = w i }
 
   accepts-once : (r ≡ q) × (one-row ≡ other-row)
   accepts-once =

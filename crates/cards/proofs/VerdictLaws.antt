@@ -7,19 +7,22 @@ use Prim.Native.Nat.{ℕ, zero, suc, _+_, _≤_}
 use native.Mathlib.Omega.{arith}
 use lib.Dec.{eqb}
 use lib.ListN.{length}
-use borrow.Author.Tests.{ne-eqb}
+use borrow.Author.Tests.{ne-eqb, le-leb}
 use Rattle.rules.specs.Base.{every, joined}
 use Rattle.rules.specs.Places.{Both}
 use Rattle.rules.specs.Answer.{Answer, fine, refused, refusedAt, located, _>>=_, _>>_, unless, each}
 use Rattle.rules.specs.Order.{Operands}
-use Rattle.rules.specs.Grammar.{Format, ff, fv, fu, Parameter, Item}
+use Rattle.rules.specs.Grammar.{Format, ff, fv, fu, plain, Parameter, Item}
 use Rattle.rules.specs.Texts.{ParameterText, UText, FsText}
 use Rattle.rules.specs.Words.{Worded, uWords, fsWords, valuesOf, againColumn, numberColumns, Limit, outsideColumn, firstOf, outsideAmong}
 use Rattle.rules.specs.Asked.{Cards, letter, distinct, sameLetter, cvs, upTo, cvColumn, once, given, Utility, complete, fieldLimits, utilityLimits, parameterNumbers, fieldColumn, limits, Asked as RuleAsked}
-use Rattle.rules.specs.Rows.{Twice}
+use Rattle.rules.specs.Plan.{joinedSize, keyLength}
+use Rattle.rules.specs.Keys.{throughUtility}
+use Rattle.rules.specs.Rows.{InputWithin, UtilityWithin, Twice}
 use Rattle.rules.specs.ColumnRows.{UParts}
 use Rattle.rules.proofs.Tests.{all-every}
-use Rattle.rules.proofs.AnswerLaws.{bind-fine, then-fine, each-fine, located-fine}
+use Rattle.rules.proofs.AnswerLaws.{fine-same, bind-fine, then-fine, unless-fine, each-fine, located-fine}
+use Rattle.rules.proofs.LimitLaws.{utility-within}
 use Rattle.rules.proofs.AcceptedLaws.{all-fields}
 use Rattle.rules.proofs.CardSteps.{noted, total-fields, upTo-fine}
 use Rattle.rules.proofs.ParameterOutcome.{of-twice, complete-fine}
@@ -27,14 +30,17 @@ use Rattle.rules.proofs.WordedLaws.{u-worded}
 use Rattle.rules.proofs.NumberColumns.{parameter-count, u-count}
 use Rattle.rules.proofs.NumberLimits.{utility-exactly, numbers-fu}
 use Rattle.rules.proofs.WordColumns.{columns-low, outside-none, outside-parts}
-use Rattle.terms.specs.Meaning.{formatOf, utilityOf, Means}
+use Rattle.terms.specs.declared.Input.{Input}
+use Rattle.terms.specs.declared.Input.the-variants.{Plain, Keyed}
+use Rattle.terms.specs.Meaning.{modeOf, formatOf, sizeOf, inputOf, laid, laidFields, utilityOf, Means}
+use Rattle.rows.specs.Kept.{rowOf}
 use Rattle.cards.specs.declared.Parameters.{Parameters}
 use Rattle.cards.specs.declared.Outside.{Outside}
 use Rattle.cards.specs.declared.Noted.{Noted}
 use Rattle.cards.specs.declared.Verdict.{Verdict}
 use Rattle.cards.specs.Selected.{Taken, noSelection, withCards}
 use Rattle.cards.specs.Parameters.{hasSeen, givenOf, Notes, NotesOutside}
-use Rattle.cards.specs.Verdict.{isComplete, utilityIn, uOutside, verdict, orNoted, orColumn, limitsOf, verdictOf, askedFor, judgedAs}
+use Rattle.cards.specs.Verdict.{isComplete, utilityIn, uOutside, verdict, orNoted, orColumn, limitsOf, verdictOf, joinedOf, keyOf, askedFor, judgedAs}
 use Rattle.cards.specs.Promise.{Accepts, Reads}
 use Rattle.cards.proofs.NotedLaws.{allFields, manyFields, limited}
 use Rattle.cards.proofs.RowLaws.{Holds}
@@ -105,9 +111,19 @@ outside-same f g h c [] = refl
 outside-same f g h c (w ∷ ws) =
     λ i. firstOf (outsideColumn (numberColumns false c (w .text)) (h (w .value) i)) (outside-same f g h (c + suc (length (w .text))) ws i)
 
+-- ---- key and data joined, within their limits
+
+joined-is : (f : Format) (i : Input) → InputWithin f (inputOf i) → sizeOf (joinedOf i) ≡ joinedSize (inputOf i)
+joined-is f (Plain s) w = refl
+joined-is f (Keyed k d) w = rw (le-leb k 4096 (w .0 .1), le-leb d 4096 (w .1 .1))
+
+key-told : (f : Format) (i : Input) → InputWithin f (inputOf i) → keyOf i ≡ keyLength (inputOf i)
+key-told f (Plain s) w = refl
+key-told f (Keyed k d) w = rw (le-leb k 4096 (w .0 .1))
+
 module _ (os : Operands) (p : Parameters) (o : Outside) (ws : List (Worded Parameter)) (t : UText (os .u) (valuesOf ws)) (same : uWords (os .u) ≡ ws)
-    (n : Notes (suc (os .before)) p ws) (nums : NotesOutside (suc (os .before)) o ws) (s : Taken) (is : s ≡ withCards 2 (map fsWords (os .fs)) noSelection)
-    (cs : List (List Item)) (b : Both FsText (os .fs) cs) (h : Holds s cs) where
+    (n : Notes (suc (os .before)) p ws) (nums : NotesOutside (suc (os .before)) o ws) (s : Taken) (is : s ≡ withCards 2 (map fsWords (os .fs)) (noSelection (keyOf (p .input))))
+    (cs : List (List Item)) (b : Both FsText (os .fs) cs) (h : Holds (keyOf (p .input)) s cs) where
   abbrev ps : List Parameter
   ps = valuesOf ws
 
@@ -136,14 +152,14 @@ module _ (os : Operands) (p : Parameters) (o : Outside) (ws : List (Worded Param
   second-is =
       ap (located (cvColumn [] 2 (os .fs))) (sym (h .tells .twice))
       ∙ card-noted (cvColumn [] 2 (os .fs)) 4 (k .«second_cv») (k .«second_column»)
-      (subst (λ (x : Taken). (x .0 .«second_cv» ≡ 0 → ⊥) → x .0 .«second_column» ≡ cvColumn [] 2 (os .fs) (x .0 .«second_cv»)) (sym is) (cv-column (os .fs)))
+      (subst (λ (x : Taken). (x .0 .«second_cv» ≡ 0 → ⊥) → x .0 .«second_column» ≡ cvColumn [] 2 (os .fs) (x .0 .«second_cv»)) (sym is) (cv-column (keyOf (p .input)) (os .fs)))
 
   -- refusal 7
   beyond-is : located (fieldColumn 2 (os .fs) cs) (each 7 limited 2 cs) ≡ cardNoted 7 (k .beyond) (k .«beyond_column»)
   beyond-is =
       ap (located (fieldColumn 2 (os .fs) cs)) (sym (h .tells .beyond))
       ∙ card-noted (fieldColumn 2 (os .fs) cs) 7 (k .beyond) (k .«beyond_column»)
-      (subst (λ (x : Taken). (x .0 .beyond ≡ 0 → ⊥) → x .0 .«beyond_column» ≡ fieldColumn 2 (os .fs) cs (x .0 .beyond)) (sym is) (number-column (os .fs) cs b))
+      (subst (λ (x : Taken). (x .0 .beyond ≡ 0 → ⊥) → x .0 .«beyond_column» ≡ fieldColumn 2 (os .fs) cs (x .0 .beyond)) (sym is) (number-column (keyOf (p .input)) (os .fs) cs b))
 
   parts : UParts (os .u) ws
   parts = subst (UParts (os .u)) same (u-worded (os .u) ps t .0)
@@ -190,19 +206,44 @@ module _ (os : Operands) (p : Parameters) (o : Outside) (ws : List (Worded Param
 
   -- ---- what is asked for, where nothing is refused
 
-  module _ (fs : ℕ) (many : fs ≡ length cs) (few : length (allFields cs) ≤ 64) (right : every fieldLimits (allFields cs) ≡ true) where
+  module _ (fs : ℕ) (many : fs ≡ length cs) (few : length (allFields cs) ≤ 64) (right : every fieldLimits (allFields cs) ≡ true) (fair : UtilityWithin (utilityIn p)) where
     count-is : k .count ≡ length (allFields cs)
     count-is = omega (arith, h .tells .count)
 
+    size-is : sizeOf (joinedOf (p .input)) ≡ joinedSize (inputOf (p .input))
+    unfolding utilityIn
+    size-is = joined-is (formatOf (p .format)) (p .input) (fair .input)
+
+    key-is : keyOf (p .input) ≡ keyLength (inputOf (p .input))
+    unfolding utilityIn
+    key-is = key-told (formatOf (p .format)) (p .input) (fair .input)
+
     means-asked : Means (askedFor p k fs) theAsked
-    unfolding askedFor utilityOf utilityIn
-    means-asked = record { utility = refl; count = count-is; few = omega (arith, count-is); fs = many; cv = h .tells .cv }
+    unfolding askedFor utilityOf utilityIn throughUtility
+    means-asked =
+        record {
+          utility = λ i. record { mode = modeOf (p .mode); format = formatOf (p .format); input = plain (size-is i); output = sizeOf (p .output); first = p .first };
+          key = h .same ∙ key-is;
+          count = count-is;
+          few = omega (arith, count-is);
+          fs = many;
+          cv = h .tells .cv;
+          keyed = h .tells .keyed;
+        }
 
     accepts : Accepts (record { refusal = 0; place = 0; column = 0; asked = askedFor p k fs }) (s .1) theAsked
-    accepts = record { refusal = refl; place = refl; column = refl; means = means-asked; fields = h .row right few }
+    unfolding laidFields utilityIn
+    accepts =
+        record {
+          refusal = refl;
+          place = refl;
+          column = refl;
+          means = means-asked;
+          fields = h .row right few ∙ ap (λ (key : ℕ). rowOf (map (laid key) (allFields cs))) key-is;
+        }
 
   -- where nothing is refused there are at most 64 fields, with all numbers within their limits
-  fair-fields : judging os theCards ≡ fine theAsked → (length (allFields cs) ≤ 64) × (every fieldLimits (allFields cs) ≡ true)
+  fair-fields : judging os theCards ≡ fine theAsked → (length (allFields cs) ≤ 64) × (every fieldLimits (allFields cs) ≡ true) × UtilityWithin (utilityIn p)
   unfolding limits
   fair-fields e =
       let s1 = then-fine _ _ theAsked e in
@@ -210,7 +251,11 @@ module _ (os : Operands) (p : Parameters) (o : Outside) (ws : List (Worded Param
       let s3 = then-fine _ _ theAsked (s2 .2) in
       let s4 = then-fine _ _ tt (s3 .0) in
       let s5 = then-fine _ _ tt (s4 .1) in
-      (omega (arith, upTo-fine 6 64 manyFields 0 2 cs (omega arith) (s4 .0), total-fields cs), all-every fieldLimits (all-fields fieldLimits cs (each-fine 7 _ 2 cs (located-fine _ _ tt (s5 .1)))))
+      let own : s2 .0 ≡ utilityIn p = ap (λ (a : RuleAsked). a .utility) (fine-same _ theAsked (s3 .1)) in (
+        omega (arith, upTo-fine 6 64 manyFields 0 2 cs (omega arith) (s4 .0), total-fields cs),
+        all-every fieldLimits (all-fields fieldLimits cs (each-fine 7 _ 2 cs (located-fine _ _ tt (s5 .1)))),
+        subst UtilityWithin own (utility-within (s2 .0) .0 (unless-fine _ 7 1 (located-fine _ _ tt (s5 .0)))),
+      )
 
   pub judged-said : (fs : ℕ) → fs ≡ length cs → Reads (judging os theCards) (judgedAs p o k fs) (s .1)
   unfolding judgedAs
@@ -220,7 +265,7 @@ module _ (os : Operands) (p : Parameters) (o : Outside) (ws : List (Worded Param
       go true e =
           let j : judging os theCards ≡ fine theAsked = judging-is ∙ ap (λ (t : Bool). cond t (fine theAsked) (refusedAt (verdictOf p o k .number) (verdictOf p o k .place) (verdictOf p o k .column))) e in
           let g = fair-fields j in
-          subst (λ (x : Answer RuleAsked). Reads x (judgedAs p o k fs) (s .1)) (sym j) (rw e (accepts fs m (g .0) (g .1)))
+          subst (λ (x : Answer RuleAsked). Reads x (judgedAs p o k fs) (s .1)) (sym j) (rw e (accepts fs m (g .0) (g .1) (g .2)))
       go false e =
           let j : judging os theCards ≡ refusedAt (verdictOf p o k .number) (verdictOf p o k .place) (verdictOf p o k .column)
           = judging-is ∙ ap (λ (t : Bool). cond t (fine theAsked) (refusedAt (verdictOf p o k .number) (verdictOf p o k .place) (verdictOf p o k .column))) e in

@@ -5,6 +5,8 @@ use Prim.Native.Nat.{ℕ, _+_, _≤_, _<_}
 use lib.ListN.{length, drop}
 use Rattle.terms.specs.declared.Size.{Size}
 use Rattle.terms.specs.declared.Size.the-variants.{Two, One}
+use Rattle.terms.specs.declared.Input.{Input}
+use Rattle.terms.specs.declared.Input.the-variants.{Plain, Keyed}
 use Rattle.terms.specs.declared.Kind.{Kind}
 use Rattle.terms.specs.declared.Kind.the-variants.{Copy, Pack, Unpack}
 
@@ -16,10 +18,14 @@ Reaches column far = column + far < 10000000000000000000
 abbrev pub shifted : ℕ → List ℕ → List ℕ
 shifted column ps = map (λ k. column + k) ps
 
--- the places of the numbers of A or B: behind the letter, = and (
+-- the places of the numbers of A or B: behind the letter, = and (, and of a keyed A behind K= too
 abbrev pub sizePlaces : Size → ℕ → List ℕ
 sizePlaces (Two n m) second = 3 ∷ second ∷ []
 sizePlaces (One g) second = 3 ∷ []
+
+abbrev pub inputPlaces : Input → ℕ → List ℕ
+inputPlaces (Plain z) second = sizePlaces z second
+inputPlaces (Keyed k d) second = 5 ∷ second ∷ []
 
 -- the most that a field's sizes may be
 abbrev pub mostOf : Kind → ℕ

@@ -10,10 +10,11 @@ use Rattle.rules.specs.Reader.{Read, read, stopped}
 use Rattle.rules.specs.Grammar.{Parameter, Format as RuleFormat, ff, fv}
 use Rattle.rules.specs.Words.{Worded, valuesOf, againColumn, outsideColumn, firstOf, outsideAmong}
 use Rattle.rules.specs.Asked.{letter, among, distinct, sameLetter, parameterNumbers, Given, given}
-use Rattle.terms.specs.Meaning.{modeOf, formatOf, sizeOf}
+use Rattle.terms.specs.Meaning.{modeOf, formatOf, sizeOf, inputOf}
 use Rattle.terms.specs.declared.Mode.the-variants.{TC}
 use Rattle.terms.specs.declared.Format.the-variants.{FF}
 use Rattle.terms.specs.declared.Size.the-variants.{One}
+use Rattle.terms.specs.declared.Input.the-variants.{Plain}
 use Rattle.readers.specs.declared.UParameter.{UParameter}
 use Rattle.readers.specs.declared.UParameter.the-variants.{ModeIs, FormatIs, InputIs, OutputIs, RewindIn, RewindOut, FirstIs}
 use Rattle.readers.specs.Meaning.{parameterOf, parameterPlaces}
@@ -23,7 +24,7 @@ use Rattle.cards.specs.declared.URead.{URead}
 use Rattle.cards.specs.Limits.{shifted, StopsAt}
 
 unfoldable pub noParameter : Parameters
-noParameter = record { mode = TC; format = FF; input = One 0; output = One 0; first = 1; seen = replicate 7 false; twice = 0 }
+noParameter = record { mode = TC; format = FF; input = Plain (One 0); output = One 0; first = 1; seen = replicate 7 false; twice = 0 }
 
 -- the part that a parameter gives; the letters of I and O say nothing
 unfoldable pub withPart : Parameters → UParameter → Parameters
@@ -86,7 +87,7 @@ givenOf st =
     record {
       mode = option (hasSeen st 0) (modeOf (st .mode));
       format = option (hasSeen st 1) (formatOf (st .format));
-      input = option (hasSeen st 2) (sizeOf (st .input));
+      input = option (hasSeen st 2) (inputOf (st .input));
       output = option (hasSeen st 3) (sizeOf (st .output));
       first = st .first;
     }

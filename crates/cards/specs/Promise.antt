@@ -3,15 +3,14 @@ use mathlib.Core.Path.{_≡_}
 use mathlib.Core.List.{List, []}
 use Prim.Native.Nat.{ℕ, _+_}
 use lib.ListN.{getD}
-use Rattle.rules.specs.Base.{joined}
 use Rattle.rules.specs.Answer.{Answer, fine, refuse}
 use Rattle.rules.specs.Order.{operandsOf}
-use Rattle.rules.specs.Asked.{fieldsOf, Asked as RuleAsked, askedOf}
+use Rattle.rules.specs.Asked.{Asked as RuleAsked, askedOf}
 use Rattle.terms.specs.declared.Mode.the-variants.{TC}
 use Rattle.terms.specs.declared.Format.the-variants.{FF}
 use Rattle.terms.specs.declared.Size.the-variants.{One}
 use Rattle.terms.specs.declared.Asked.{Asked}
-use Rattle.terms.specs.Meaning.{fieldCards, Means}
+use Rattle.terms.specs.Meaning.{laidFields, fieldCards, Means}
 use Rattle.rows.specs.Kept.{rowOf}
 use Rattle.lines.specs.Scanning.{cardCount}
 use Rattle.cards.specs.declared.DeckRead.{DeckRead}
@@ -24,9 +23,11 @@ nothingAsked =
       input = One 0;
       output = One 0;
       first = 0;
+      key = 0;
       count = 0;
       fs = 0;
       cv = 0;
+      keyed = 0;
     }
 
 unfoldable pub refusedDeck : ℕ → ℕ → ℕ → DeckRead
@@ -38,7 +39,7 @@ pub record Accepts (r : DeckRead) (row : List ℕ) (a : RuleAsked) : Type 0 wher
   pub place : r .place ≡ 0
   pub column : r .column ≡ 0
   pub means : Means (r .asked) a
-  pub fields : row ≡ rowOf (fieldsOf (joined (a .cards)))
+  pub fields : row ≡ rowOf (laidFields a)
 
 -- or its refusal
 abbrev pub Reads : Answer RuleAsked → DeckRead → List ℕ → Type 0

@@ -2,17 +2,17 @@
 use mathlib.Core.Path.{_≡_}
 use mathlib.Core.Bool.{cond}
 use mathlib.Core.List.{List, [], _∷_}
-use Prim.Native.Nat.{ℕ, suc, _+_, _*_}
+use Prim.Native.Nat.{ℕ, suc, _+_, _*_, _≤_, _<_}
 use lib.Dec.{ltb, eqb}
 use lib.ListN.{length}
 use Rattle.rules.specs.Halves.{Field as RuleField, over}
 use Rattle.rules.specs.Reader.{Read, read, stopped}
 use Rattle.rules.specs.Deck.{beforeFS}
-use Rattle.rules.specs.Grammar.{Item, field, cv}
+use Rattle.rules.specs.Grammar.{Part, inData, inKey, Item, field, cv}
 use Rattle.rules.specs.Words.{Worded, firstOf, outsideIn}
 use Rattle.rules.specs.Asked.{itemNumbers}
 use Rattle.terms.specs.declared.Field.{Field}
-use Rattle.terms.specs.Meaning.{fieldOf}
+use Rattle.terms.specs.Meaning.{fieldOf, laid}
 use Rattle.rows.specs.Flat.{flatOf, Short}
 use Rattle.rows.specs.Kept.{rowOf}
 use Rattle.cards.specs.declared.Noted.{Noted}
@@ -21,39 +21,51 @@ use Rattle.cards.specs.Limits.{StopsAt}
 
 -- ---- what is noted
 
-abbrev pub nothingNoted : Noted
-nothingNoted = record { count = 0; «sixty_fifth» = 0; cv = 0; «second_cv» = 0; «second_column» = 0; beyond = 0; «beyond_column» = 0 }
+abbrev pub nothingNoted : ℕ → Noted
+nothingNoted key = record { key = key; count = 0; «sixty_fifth» = 0; cv = 0; keyed = 0; «second_cv» = 0; «second_column» = 0; beyond = 0; «beyond_column» = 0 }
 
 -- a field more is counted; of the 65th its card is noted
 unfoldable pub counted : Noted → ℕ → Noted
 counted n card =
     cond (ltb (n .count) 64)
-    (record { count = n .count + 1; «sixty_fifth» = n .«sixty_fifth»; cv = n .cv; «second_cv» = n .«second_cv»; «second_column» = n .«second_column»; beyond = n .beyond; «beyond_column» = n .«beyond_column» })
-    (record { count = n .count; «sixty_fifth» = firstOf (n .«sixty_fifth») card; cv = n .cv; «second_cv» = n .«second_cv»; «second_column» = n .«second_column»; beyond = n .beyond; «beyond_column» = n .«beyond_column» })
+    (record { key = n .key; count = n .count + 1; «sixty_fifth» = n .«sixty_fifth»; cv = n .cv; keyed = n .keyed; «second_cv» = n .«second_cv»; «second_column» = n .«second_column»; beyond = n .beyond; «beyond_column» = n .«beyond_column» })
+    (record { key = n .key; count = n .count; «sixty_fifth» = firstOf (n .«sixty_fifth») card; cv = n .cv; keyed = n .keyed; «second_cv» = n .«second_cv»; «second_column» = n .«second_column»; beyond = n .beyond; «beyond_column» = n .«beyond_column» })
+
+-- of the first field that is taken from the key the card is noted
+abbrev pub keyNoted : Noted → ℕ → Part → Noted
+keyNoted n card inData = n
+keyNoted n card inKey =
+    record { key = n .key; count = n .count; «sixty_fifth» = n .«sixty_fifth»; cv = n .cv; keyed = firstOf (n .keyed) card; «second_cv» = n .«second_cv»; «second_column» = n .«second_column»; beyond = n .beyond; «beyond_column» = n .«beyond_column» }
 
 -- of the first field with a number outside its limits the card and the number's column are noted
 abbrev pub beyondNoted : Noted → ℕ → ℕ → Noted
 beyondNoted n card column =
-    record { count = n .count; «sixty_fifth» = n .«sixty_fifth»; cv = n .cv; «second_cv» = n .«second_cv»; «second_column» = n .«second_column»; beyond = card; «beyond_column» = column }
+    record { key = n .key; count = n .count; «sixty_fifth» = n .«sixty_fifth»; cv = n .cv; keyed = n .keyed; «second_cv» = n .«second_cv»; «second_column» = n .«second_column»; beyond = card; «beyond_column» = column }
 
-unfoldable pub fieldNoted : Noted → ℕ → ℕ → Noted
-fieldNoted n card outside =
-    let next = counted n card in
+unfoldable pub fieldNoted : Noted → ℕ → Part → ℕ → Noted
+fieldNoted n card part outside =
+    let next = keyNoted (counted n card) card part in
     cond (eqb outside 0) next (cond (eqb (n .beyond) 0) (beyondNoted next card outside) next)
 
 -- the card of CV, and the card and column of the second CV, are noted
 abbrev pub firstNoted : Noted → ℕ → Noted
 firstNoted n card =
-    record { count = n .count; «sixty_fifth» = n .«sixty_fifth»; cv = card; «second_cv» = n .«second_cv»; «second_column» = n .«second_column»; beyond = n .beyond; «beyond_column» = n .«beyond_column» }
+    record { key = n .key; count = n .count; «sixty_fifth» = n .«sixty_fifth»; cv = card; keyed = n .keyed; «second_cv» = n .«second_cv»; «second_column» = n .«second_column»; beyond = n .beyond; «beyond_column» = n .«beyond_column» }
 
 abbrev pub secondNoted : Noted → ℕ → ℕ → Noted
 secondNoted n card column =
-    record { count = n .count; «sixty_fifth» = n .«sixty_fifth»; cv = n .cv; «second_cv» = card; «second_column» = column; beyond = n .beyond; «beyond_column» = n .«beyond_column» }
+    record { key = n .key; count = n .count; «sixty_fifth» = n .«sixty_fifth»; cv = n .cv; keyed = n .keyed; «second_cv» = card; «second_column» = column; beyond = n .beyond; «beyond_column» = n .«beyond_column» }
 
 unfoldable pub cvNoted : Noted → ℕ → ℕ → Noted
 cvNoted n card column = cond (eqb (n .cv) 0) (firstNoted n card) (cond (eqb (n .«second_cv») 0) (secondNoted n card column) n)
 
 -- ---- the row
+
+-- numbers that were read, and a key within its limits
+pub record Layable (r size key : ℕ) : Type 0 where
+  pub small : r < 100000
+  pub short : size < 100000
+  pub within : key ≤ 4096
 
 -- 16 bits hold the numbers of a field that are within their limits
 abbrev pub Keepable : Field → ℕ → Type 0
@@ -71,7 +83,7 @@ Taken = Noted × List ℕ
 
 -- an item that begins at this column
 unfoldable pub withItem : ℕ → ℕ → ℕ → Item → Taken → Taken
-withItem card column outside (field f) t = (fieldNoted (t .0) card outside, keptRow (t .0 .count) outside f (t .1))
+withItem card column outside (field f) t = (fieldNoted (t .0) card (f .part) outside, keptRow (t .0 .count) outside (laid (t .0 .key) f) (t .1))
 withItem card column outside cv t = (cvNoted (t .0) card column, t .1)
 
 abbrev pub withWords : ℕ → ℕ → List (Worded Item) → Taken → Taken
@@ -86,9 +98,9 @@ ListSays card b column t s (stopped left) r row = StopsAt column s left (r .unre
 
 -- ---- the cards
 
--- no card yet
-unfoldable pub noSelection : Taken
-noSelection = (nothingNoted, rowOf [])
+-- no card yet, behind a key of so many bytes
+unfoldable pub noSelection : ℕ → Taken
+noSelection key = (nothingNoted key, rowOf [])
 
 unfoldable pub withCard : ℕ → List (Worded Item) → Taken → Taken
 withCard card ws t = withWords card (suc beforeFS) ws t

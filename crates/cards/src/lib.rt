@@ -9,13 +9,15 @@ use readers::UParameter;
 use terms::Asked;
 use terms::Field;
 use terms::Format;
+use terms::Input;
 use terms::Kind;
 use terms::Mode;
+use terms::Part;
 use terms::Size;
 ghost use mathlib.Core.Path.{_≡_};
 ghost use mathlib.Core.Bool.{cond};
 ghost use mathlib.Core.List.{List, []};
-ghost use Prim.Native.Nat.{_+_, _*_, _≤_};
+ghost use Prim.Native.Nat.{_+_, _-_, _*_, _≤_};
 ghost use lib.ListN.{length, drop, getD};
 ghost use Rattle.rules.specs.Base.{within};
 ghost use Rattle.rules.specs.Places.{All};
@@ -23,18 +25,18 @@ ghost use Rattle.rules.specs.Answer.{fine};
 ghost use Rattle.rules.specs.Reader.{listOf, restOf};
 ghost use Rattle.rules.specs.Grammar.{Item, parameter as ruleParameter, item, field as fieldItem};
 ghost use Rattle.rules.specs.Words.{worded, outsideColumn, firstOf};
-ghost use Rattle.rules.specs.Asked.{letter, least, sizeNumbers, parameterNumbers, itemNumbers, itemsFrom, askedOf};
-ghost use Rattle.terms.specs.Meaning.{formatOf, sizeOf, fieldOf, fieldCards};
+ghost use Rattle.rules.specs.Asked.{letter, least, sizeNumbers, inputNumbers, parameterNumbers, itemNumbers, itemsFrom, askedOf};
+ghost use Rattle.terms.specs.Meaning.{formatOf, sizeOf, inputOf, fieldOf, partOf, cardField, laidAt, laid as laidField, fieldCards};
 ghost use Rattle.rows.specs.Kept.{rowOf};
 ghost use Rattle.readers.specs.declared.UParameter.the-variants.{ModeIs, FormatIs, InputIs, OutputIs};
 ghost use Rattle.readers.specs.Meaning.{OneSize, parameterOf, parameterPlaces, fieldPlaces};
 ghost use Rattle.lines.specs.declared.LineRead.the-variants.{Line};
 ghost use Rattle.lines.specs.Meaning.{IsCard, LineSays};
-ghost use Rattle.cards.specs.Limits.{Reaches, sizePlaces, mostOf, shifted};
-ghost use Rattle.cards.specs.Selected.{nothingNoted, counted, fieldNoted, cvNoted, Keepable, keptRow, ListSays, noSelection};
+ghost use Rattle.cards.specs.Limits.{Reaches, sizePlaces, inputPlaces, mostOf, shifted};
+ghost use Rattle.cards.specs.Selected.{nothingNoted, counted, keyNoted, fieldNoted, cvNoted, Layable, Keepable, keptRow, ListSays, noSelection};
 ghost use Rattle.cards.specs.Parameters.{noParameter, withPart, withParameter, noneOutside, withNumbers, uRead, UListed};
 ghost use Rattle.cards.specs.Deck.{cardsIn, fsFirst, CardAtSays, FsSaid, FsFine};
-ghost use Rattle.cards.specs.Verdict.{isComplete, uOutside, limitsOf, verdictOf, askedFor, judgedAs};
+ghost use Rattle.cards.specs.Verdict.{isComplete, uOutside, limitsOf, verdictOf, together, joinedOf, keyOf, askedFor, judgedAs};
 ghost use Rattle.cards.specs.Promise.{refusedDeck, nothingAsked, InOrder, DeckReads, DeckSays, cardOfField};
 
 const COMMA: u8 = b',';
@@ -85,13 +87,13 @@ fn most(kind: Kind) -> usize
 }
 
 // The column of the first number of a field that is outside its limits, or 0. The field begins at this column.
-fn field_outside(field: Field, places: Places, column: usize) -> usize
-    requires { ⌜ OneSize (field .kind) (field .input) (field .output) × (1 ≤ column) × Reaches column (places .input) × Reaches column (places .output) × Reaches column (places .t) ⌝ }
-    ensures { λ r. ⌜ r ≡ outsideColumn (shifted column (fieldPlaces (field .kind) places)) (itemNumbers (fieldItem (fieldOf field))) ⌝ }
+fn field_outside(part: Part, field: Field, places: Places, column: usize) -> usize
+    requires { ⌜ OneSize (field .kind) (field .input) (field .output) × (1 ≤ column) × Reaches column (places .r) × Reaches column (places .input) × Reaches column (places .output) × Reaches column (places .t) ⌝ }
+    ensures { λ r. ⌜ r ≡ outsideColumn (shifted column (fieldPlaces (field .kind) places)) (itemNumbers (fieldItem (cardField part field))) ⌝ }
 {
     let kind = field.kind;
     let most = most(kind);
-    let r = number_outside(1, 4096, field.r, column);
+    let r = number_outside(1, 4096, field.r, column + places.r);
     let input = number_outside(1, most, field.input, column + places.input);
     let output = number_outside(1, most, field.output, column + places.output);
     let t = number_outside(1, 4096, field.t, column + places.t);
@@ -123,15 +125,39 @@ fn size_outside(format: Format, size: Size, second: usize, column: usize) -> usi
     }
 }
 
+// What a key of so many bytes leaves of 4,096.
+fn left(key: usize) -> usize
+    ensures { λ r. ⌜ r ≡ 4096 - key ⌝ }
+{
+    if key < 4096 {
+        return 4096 - key;
+    }
+    0
+}
+
+// The same of what A says.
+fn input_outside(format: Format, input: Input, second: usize, column: usize) -> usize
+    requires { ⌜ Reaches column 5 × Reaches column second ⌝ }
+    ensures { λ r. ⌜ r ≡ outsideColumn (shifted column (inputPlaces input second)) (inputNumbers (formatOf format) (inputOf input)) ⌝ }
+{
+    match input {
+        Input::Plain(size) => size_outside(format, size, second, column),
+        Input::Keyed { key, data } => {
+            let first = number_outside(1, 4096, key, column + 5);
+            first_of(first, number_outside(1, left(key), data, column + second))
+        }
+    }
+}
+
 // The column of the first number of a parameter that is outside its limits, or 0, where F is this.
 fn parameter_outside(format: Format, parameter: UParameter, second: usize, column: usize) -> usize
-    requires { ⌜ Reaches column 3 × Reaches column second ⌝ }
+    requires { ⌜ Reaches column 5 × Reaches column second ⌝ }
     ensures { λ r. ⌜ r ≡ outsideColumn (shifted column (parameterPlaces parameter second)) (parameterNumbers (formatOf format) (parameterOf parameter)) ⌝ }
 {
     match parameter {
         UParameter::ModeIs(_) => 0,
         UParameter::FormatIs(_) => 0,
-        UParameter::InputIs(size) => size_outside(format, size, second, column),
+        UParameter::InputIs(input) => input_outside(format, input, second, column),
         UParameter::OutputIs(size) => size_outside(format, size, second, column),
         UParameter::RewindIn => 0,
         UParameter::RewindOut => 0,
@@ -141,25 +167,29 @@ fn parameter_outside(format: Format, parameter: UParameter, second: usize, colum
 
 // ---- FS cards
 
-// What is noted of the FS cards so far: how many fields are kept; the cards of the 65th field and of CV; the card and column of the second CV and of
-// the first number outside its limits. 0 is none.
+// What is noted of the FS cards so far: how long the key is; how many fields are kept; the cards of the 65th field, of CV and of the first field that is taken
+// from the key; the card and column of the second CV and of the first number outside its limits. 0 is none.
 struct Noted {
+    key: usize,
     count: usize,
     sixty_fifth: usize,
     cv: usize,
+    keyed: usize,
     second_cv: usize,
     second_column: usize,
     beyond: usize,
     beyond_column: usize,
 }
 
-fn nothing_noted() -> Noted
-    ensures { λ r. ⌜ r ≡ nothingNoted ⌝ }
+fn nothing_noted(key: usize) -> Noted
+    ensures { λ r. ⌜ r ≡ nothingNoted key ⌝ }
 {
     Noted {
+        key,
         count: 0,
         sixty_fifth: 0,
         cv: 0,
+        keyed: 0,
         second_cv: 0,
         second_column: 0,
         beyond: 0,
@@ -181,11 +211,25 @@ fn counted(noted: Noted, card: usize) -> Noted
     next
 }
 
-// One field more, whose first number outside its limits stands in this column.
-fn field_noted(noted: Noted, card: usize, outside: usize) -> Noted
-    ensures { λ r. ⌜ r ≡ fieldNoted noted card outside ⌝ }
+// The card of the first field that is taken from the key.
+fn key_noted(noted: Noted, card: usize, part: Part) -> Noted
+    ensures { λ r. ⌜ r ≡ keyNoted noted card (partOf part) ⌝ }
 {
-    let mut next = counted(noted, card);
+    let mut next = noted;
+    match part {
+        Part::Data => noted,
+        Part::Key => {
+            next.keyed = first_of(noted.keyed, card);
+            next
+        }
+    }
+}
+
+// One field more, of this part, whose first number outside its limits stands in this column.
+fn field_noted(noted: Noted, card: usize, part: Part, outside: usize) -> Noted
+    ensures { λ r. ⌜ r ≡ fieldNoted noted card (partOf part) outside ⌝ }
+{
+    let mut next = key_noted(counted(noted, card), card, part);
     if outside == 0 {
         return next;
     }
@@ -212,6 +256,33 @@ fn cv_noted(noted: Noted, card: usize, column: usize) -> Noted
     next
 }
 
+// Where a field that reads so many bytes from position r of its part on stands in the row, behind a key of so many bytes: it counts through key and data. One
+// that is taken from the key and runs past it stands past every record.
+fn laid_at(part: Part, r: usize, size: usize, key: usize) -> usize
+    requires { ⌜ Layable r size key ⌝ }
+    ensures { λ x. ⌜ x ≡ laidAt key (partOf part) r size ⌝ }
+{
+    match part {
+        Part::Data => key + r,
+        Part::Key => {
+            if r + size <= key + 1 {
+                return r;
+            }
+            8192
+        }
+    }
+}
+
+// The field as it stands there.
+fn laid(part: Part, field: Field, key: usize) -> Field
+    requires { ⌜ Layable (field .r) (field .input) key ⌝ }
+    ensures { λ x. ⌜ fieldOf x ≡ laidField key (cardField part field) ⌝ }
+{
+    let mut next = field;
+    next.r = laid_at(part, field.r, field.input, key);
+    next
+}
+
 // A field goes into the row behind those before it, while there is room. One with a number outside its limits does not: its deck is refused.
 fn keep(row: &mut [u16; 320], count: usize, field: Field, outside: usize)
     requires { ⌜ (length (now row) ≡ 320) × Keepable field outside ⌝ }
@@ -232,19 +303,21 @@ struct ListRead {
 
 // A list is an item and its rest.
 fn list(operand: &[u8], card: usize, column: usize, noted: Noted, row: &mut [u16; 320]) -> ListRead
-    requires { ⌜ (length (now row) ≡ 320) × (1 ≤ column) × Reaches column (length (now operand)) ⌝ }
+    requires { ⌜ (length (now row) ≡ 320) × (1 ≤ column) × Reaches column (length (now operand)) × (noted .key ≤ 4096) ⌝ }
     ensures { λ r. ⌜ (length (now (row .exit)) ≡ 320) × ListSays card column column (noted, now (row .entry)) (now (operand .entry)) (listOf "/" (worded item) (now (operand .entry))) r (now (row .exit)) ⌝ }
 {
     let next = readers::item(operand);
     match next {
         ItemRead::IsField {
+            part,
             field,
             places,
             used,
         } => {
-            let outside = field_outside(field, places, column);
-            keep(row, noted.count, field, outside);
-            let after = field_noted(noted, card, outside);
+            let outside = field_outside(part, field, places, column);
+            let own = laid(part, field, noted.key);
+            keep(row, noted.count, own, outside);
+            let after = field_noted(noted, card, part, outside);
             rest(&operand[used..], card, column + used, after, row)
         }
         ItemRead::IsCV { used } => {
@@ -260,7 +333,7 @@ fn list(operand: &[u8], card: usize, column: usize, noted: Noted, row: &mut [u16
 
 // A rest is nothing, or a slash and a list.
 fn rest(operand: &[u8], card: usize, column: usize, noted: Noted, row: &mut [u16; 320]) -> ListRead
-    requires { ⌜ (length (now row) ≡ 320) × (1 ≤ column) × Reaches column (length (now operand)) ⌝ }
+    requires { ⌜ (length (now row) ≡ 320) × (1 ≤ column) × Reaches column (length (now operand)) × (noted .key ≤ 4096) ⌝ }
     ensures { λ r. ⌜ (length (now (row .exit)) ≡ 320) × ListSays card (1 + column) column (noted, now (row .entry)) (now (operand .entry)) (restOf "/" (worded item) (now (operand .entry))) r (now (row .exit)) ⌝ }
 {
     if operand.len() == 0 {
@@ -282,7 +355,7 @@ fn rest(operand: &[u8], card: usize, column: usize, noted: Noted, row: &mut [u16
 struct Parameters {
     mode: Mode,
     format: Format,
-    input: Size,
+    input: Input,
     output: Size,
     first: usize,
     seen: [bool; 7],
@@ -296,7 +369,7 @@ fn no_parameter() -> Parameters
     Parameters {
         mode: Mode::TC,
         format: Format::FF,
-        input: Size::One { g: 0 },
+        input: Input::Plain(Size::One { g: 0 }),
         output: Size::One { g: 0 },
         first: 1,
         seen: [false; 7],
@@ -358,7 +431,7 @@ fn with_format(state: Parameters, format: Format) -> Parameters
 }
 
 // A is given.
-fn with_input(state: Parameters, input: Size) -> Parameters
+fn with_input(state: Parameters, input: Input) -> Parameters
     ensures { λ r. ⌜ r ≡ withPart state (InputIs input) ⌝ }
 {
     let mode = state.mode;
@@ -446,7 +519,7 @@ fn none_outside() -> Outside
 
 // The numbers of one parameter more.
 fn with_numbers(before: Outside, parameter: UParameter, second: usize, column: usize) -> Outside
-    requires { ⌜ Reaches column 3 × Reaches column second ⌝ }
+    requires { ⌜ Reaches column 5 × Reaches column second ⌝ }
     ensures { λ r. ⌜ r ≡ withNumbers before parameter second column ⌝ }
 {
     Outside {
@@ -480,7 +553,7 @@ fn u_read(state: Parameters, outside: Outside, unread: usize) -> URead
 
 // One or more parameters in any order with commas between. The operand begins at this column.
 fn u_card(operand: &[u8], column: usize) -> URead
-    requires { ⌜ (1 ≤ column) × Reaches column (length (now operand) + 3) ⌝ }
+    requires { ⌜ (1 ≤ column) × Reaches column (length (now operand) + 5) ⌝ }
     ensures { λ r. ⌜ UListed column (now (operand .entry)) (listOf "," (worded ruleParameter) (now (operand .entry))) r ⌝ }
 {
     let mut state = no_parameter();
@@ -571,13 +644,14 @@ struct FsCards {
     column: usize,
 }
 
-// The FS cards from the line that begins at `from` on. The first of them is card 2, and an operand begins at column 7. Their fields go into the row.
-fn fs_cards(deck: &[u8], from: usize, row: &mut [u16; 320]) -> FsCards
+// The FS cards from the line that begins at `from` on, behind a key of so many bytes. The first of them is card 2, and an operand begins at column 7. Their fields
+// go into the row.
+fn fs_cards(deck: &[u8], from: usize, key: usize, row: &mut [u16; 320]) -> FsCards
     requires { ⌜ All IsCard (cardsIn (drop from (now deck))) ⌝ }
-    requires { ⌜ now row ≡ rowOf [] ⌝ }
-    ensures { λ r. ⌜ (length (now (row .exit)) ≡ 320) × FsSaid 2 noSelection (fsFirst (cardsIn (drop from (now (deck .entry))))) r (now (row .exit)) ⌝ }
+    requires { ⌜ (now row ≡ rowOf []) × (key ≤ 4096) ⌝ }
+    ensures { λ r. ⌜ (length (now (row .exit)) ≡ 320) × FsSaid 2 (noSelection key) (fsFirst (cardsIn (drop from (now (deck .entry))))) r (now (row .exit)) ⌝ }
 {
-    let mut noted = nothing_noted();
+    let mut noted = nothing_noted(key);
     let mut card: usize = 2;
     let mut at = from;
     loop {
@@ -717,6 +791,46 @@ pub struct DeckRead {
     pub asked: Asked,
 }
 
+// The bytes of key and data together; 0 where one of them is outside its limits, which is refused.
+fn together(key: usize, own: usize) -> usize
+    ensures { λ r. ⌜ r ≡ together key own ⌝ }
+{
+    if key <= 4096 {
+        if own <= 4096 {
+            return key + own;
+        }
+    }
+    0
+}
+
+// What A is where key and data are joined.
+fn joined(input: Input) -> Size
+    ensures { λ r. ⌜ r ≡ joinedOf input ⌝ }
+{
+    match input {
+        Input::Plain(size) => size,
+        Input::Keyed { key, data } => {
+            let n = together(key, data);
+            Size::Two { n, m: n }
+        }
+    }
+}
+
+// How long the key is; 0 where there is none, or one outside its limits, which is refused.
+fn key_length(input: Input) -> usize
+    ensures { λ r. ⌜ r ≡ keyOf input ⌝ }
+{
+    match input {
+        Input::Plain(_) => 0,
+        Input::Keyed { key, data: _ } => {
+            if key <= 4096 {
+                return key;
+            }
+            0
+        }
+    }
+}
+
 // What the cards ask for, where they are not refused.
 fn asked_for(parameters: Parameters, noted: Noted, fs: usize) -> Asked
     ensures { λ r. ⌜ r ≡ askedFor parameters noted fs ⌝ }
@@ -728,12 +842,14 @@ fn asked_for(parameters: Parameters, noted: Noted, fs: usize) -> Asked
     Asked {
         mode,
         format,
-        input,
+        input: joined(input),
         output,
         first: parameters.first,
+        key: noted.key,
         count: noted.count,
         fs,
         cv: noted.cv,
+        keyed: noted.keyed,
     }
 }
 
@@ -747,9 +863,11 @@ pub fn nothing_asked() -> Asked
         input: Size::One { g: 0 },
         output: Size::One { g: 0 },
         first: 0,
+        key: 0,
         count: 0,
         fs: 0,
         cv: 0,
+        keyed: 0,
     }
 }
 
@@ -799,12 +917,13 @@ fn read_ordered(deck: &[u8], fs: usize, row: &mut [u16; 320]) -> DeckRead
     if u.unread != 0 {
         return refused(3, 1, u.unread);
     }
-    let selected = fs_cards(deck, next, row);
+    let parameters = u.state;
+    let input = parameters.input;
+    let selected = fs_cards(deck, next, key_length(input), row);
     let unread = selected.unread;
     if unread != 0 {
         return refused(3, unread, selected.column);
     }
-    let parameters = u.state;
     let outside = u.outside;
     let noted = selected.noted;
     judged(parameters, outside, noted, fs)
@@ -844,7 +963,7 @@ fn card_over(deck: &[u8], from: usize, field: usize) -> usize
     ensures { λ r. ⌜ ((cs : List (List Item)) → itemsFrom 2 (fsFirst (cardsIn (drop from (now (deck .entry))))) ≡ fine cs → r ≡ getD (fieldCards 2 cs) field 0) ⌝ }
 {
     let mut row = [0u16; 320];
-    let mut noted = nothing_noted();
+    let mut noted = nothing_noted(0);
     let mut card = 2;
     let mut at = from;
     loop {

@@ -1,25 +1,30 @@
 -- What `combine` answers is what the rules refuse with 8 or 9: the lines of place 1 are theirs where as many numbers stand as are wanted, and fail
 -- in both where not; CV and the fields are sought in the same order.
 use mathlib.Core.Path.{_≡_, refl, ap, sym, _∙_, subst}
-use mathlib.Core.Bool.{Bool, true, false, cond, not, _&&_, _||_, and-true, and-false, and-assoc}
-use mathlib.Core.List.{List, [], _∷_, append-nil}
+use mathlib.Core.Logic.{_⊎_, inl, inr}
+use mathlib.Core.Bool.{Bool, true, false, cond, not, _&&_, _||_, and-true, and-false, and-assoc, and-comm}
+use mathlib.Core.List.{List, [], _∷_, map, append-nil}
 use Prim.Native.Nat.{ℕ, suc, _/_, _≤_, _<_}
 use native.Mathlib.Omega.{arith}
 use lib.Dec.{eqb}
 use lib.ListN.{length, getD}
-use borrow.Author.Tests.{eq-eqb, ne-eqb}
+use borrow.Author.Tests.{eq-eqb, ne-eqb, le-leb, lt-leb}
 use Rattle.rules.specs.Base.{_⇒_, every, isEmpty, joined}
-use Rattle.rules.specs.Places.{All}
-use Rattle.rules.specs.Answer.{Answer, fine, refused, refusalOf, placeOf, _>>_, unless, each}
-use Rattle.rules.specs.Grammar.{Mode, tc, tf, tr, trf, Format, ff, fv, fu, Size, two, one, Item}
+use Rattle.rules.specs.Places.{All, noMore, also}
+use Rattle.rules.specs.Answer.{Answer, fine, refuse, refused, refusalOf, placeOf, _>>_, unless, each}
+use Rattle.rules.specs.Grammar.{Mode, tc, tf, tr, trf, Format, ff, fv, fu, Size, two, one, Input, plain, keyed, CardField, Item}
 use Rattle.rules.specs.Halves.{Kind as RuleKind, copy, pack, unpack, inputSize, outputSize, Field as RuleField}
-use Rattle.rules.specs.Asked.{Asked as RuleAsked, fieldsOf, cvs}
-use Rattle.rules.specs.Plan.{isTC, isTF, isTR, isFF, isFV, isFU, selects, numbers, wanted, recordLength, blockLength, whole, equal, roomy, combinations, sound, inside, inputHalves, barrenHalf, combined, assembled, Plan}
-use Rattle.rules.proofs.AllLaws.{all-at}
-use Rattle.rules.proofs.AnswerLaws.{fine-then, fine-unless, then-assoc}
-use Rattle.rules.specs.Rows.{Within, SizeWithin, UtilityWithin, KindWithin, FieldWithin}
-use Rattle.terms.specs.Meaning.{modeOf, formatOf, sizeOf, fieldOf, noField, utilityOf, cvCard, Means, planIn}
-use Rattle.terms.proofs.PlanOf.{plan-means}
+use Rattle.rules.specs.Asked.{Utility, Asked as RuleAsked, fieldsOf, cvs}
+use Rattle.rules.specs.Keys.{throughUtility}
+use Rattle.rules.specs.Plan.{isTC, isTF, isTR, isFF, isFV, isFU, selects, numbers, wanted, recordLength, blockLength, whole, equal, roomy, combinations, sound, joinedSize, keyLength, through, isKeyed, keyFits, keyFields, cardFits, inside, insidePart, inputHalves, barrenHalf, combined, assembled, Plan}
+use Rattle.rules.proofs.AllLaws.{all-at, all-imply}
+use Rattle.rules.proofs.BlockSizes.{all-map}
+use Rattle.rules.proofs.KeyLaws.{joined-within, Named}
+use Rattle.rules.proofs.AcceptedLaws.{key-fits}
+use Rattle.rules.proofs.AnswerLaws.{fine-then, then-fine, fine-unless, each-fine, then-assoc}
+use Rattle.rules.specs.Rows.{Within, SizeWithin, InputWithin, UtilityWithin, KindWithin, FieldWithin}
+use Rattle.terms.specs.Meaning.{modeOf, formatOf, sizeOf, fieldOf, laid, laidFields, noField, utilityOf, firstCard, keyCard, Means}
+use Rattle.terms.proofs.Laid.{inside-laid, laid-through, laid-within}
 use Rattle.terms.specs.declared.Mode.{Mode as DeclaredMode}
 use Rattle.terms.specs.declared.Format.{Format as DeclaredFormat}
 use Rattle.terms.specs.declared.Size.{Size as DeclaredSize}
@@ -28,8 +33,8 @@ use Rattle.rows.specs.Flat.{flatOf, fieldAt}
 use Rattle.rows.specs.Kept.{fieldFor}
 use Rattle.rows.proofs.KeptLaws.{one-size}
 use Rattle.rows.proofs.FlatLaws.{length-flat, field-kept}
-use Rattle.combinations.specs.Lines.{countLine, lengthsEqual, formatLines, allLines}
-use Rattle.combinations.specs.Promise.{firstOutside, combinedOf, answerOf, FieldFair, FieldsFair, AskedFair}
+use Rattle.combinations.specs.Lines.{countLine, lengthsEqual, formatLines, allLines, keyLine, lowerOf}
+use Rattle.combinations.specs.Promise.{firstOutside, rightLines, cvFault, keyFault, cardFault, combinedOf, answerOf, FieldFair, FieldsFair, AskedFair}
 use Rattle.combinations.specs.declared.Combined.{Combined}
 use Rattle.combinations.specs.declared.Combined.the-variants.{Sound, Broken, Outside}
 use Rattle.combinations.proofs.LineLaws.{counted}
@@ -124,19 +129,68 @@ no-card : (cards : List (List Item)) → isEmpty cards ≡ eqb (length cards) 0
 no-card [] = refl
 no-card (c ∷ cards) = sym (ne-eqb (length (c ∷ cards)) 0 (λ e. omega arith))
 
--- the first card that says CV is refused, except in FV
-cv-same : (variable : Bool) (i : ℕ) → 1 ≤ i → (cards : List (List Item))
-    → each 8 (λ c. variable || eqb (cvs c) 0) i cards ≡ unless (variable || eqb (cvCard i cards) 0) 8 (cvCard i cards)
-unfolding each unless
-cv-same true i l [] = refl
-cv-same true i l (c ∷ cards) = cv-same true (suc i) (omega arith) cards
-cv-same false i l [] = refl
-cv-same false i l (c ∷ cards) = go (cv-same false (suc i) (omega arith) cards) (eqb (cvs c) 0) refl
+-- the first card with some of what is counted stands no lower than where the count begins
+first-after : (q : List Item → ℕ) (i : ℕ) (cards : List (List Item)) → (firstCard q i cards ≡ 0) ⊎ (i ≤ firstCard q i cards)
+first-after q i [] = inl refl
+first-after q i (c ∷ cards) = go (first-after q (suc i) cards) (eqb (q c) 0) refl
   where
-    go : each 8 (λ c. eqb (cvs c) 0) (suc i) cards ≡ unless (eqb (cvCard (suc i) cards) 0) 8 (cvCard (suc i) cards)
-        → (t : Bool) → eqb (cvs c) 0 ≡ t → each 8 (λ c. eqb (cvs c) 0) i (c ∷ cards) ≡ unless (eqb (cvCard i (c ∷ cards)) 0) 8 (cvCard i (c ∷ cards))
-    go ih true t = rw t ih
-    go ih false t = rw (t, ne-eqb i 0 (λ e. omega arith))
+    go : (firstCard q (suc i) cards ≡ 0) ⊎ (suc i ≤ firstCard q (suc i) cards) → (t : Bool) → eqb (q c) 0 ≡ t
+        → (firstCard q i (c ∷ cards) ≡ 0) ⊎ (i ≤ firstCard q i (c ∷ cards))
+    go (inl z) true t = inl (rw t z)
+    go (inr l) true t = inr (rw t (omega arith))
+    go ih false t = inr (rw t (omega arith))
+
+-- a card before all others is the lower one, on either side
+lower-first : (i x : ℕ) → 1 ≤ i → (x ≡ 0) ⊎ (i ≤ x) → lowerOf i x ≡ i
+lower-first i x l (inl z) = rw (ne-eqb i 0 (λ e. omega arith), z)
+lower-first i x l (inr h) = rw (ne-eqb i 0 (λ e. omega arith), ne-eqb x 0 (λ e. omega arith), le-leb i x h)
+
+lower-second : (i x : ℕ) → 1 ≤ i → (x ≡ 0) ⊎ (i < x) → lowerOf x i ≡ i
+lower-second i x l (inl z) = rw z
+lower-second i x l (inr h) = rw (ne-eqb x 0 (λ e. omega arith), ne-eqb i 0 (λ e. omega arith), lt-leb x i h)
+
+-- the first card with CV outside FV, or with a field taken from the key without keys, is refused; a and b count them, and tests that are off find none
+module _ (a b : List Item → ℕ) where
+  abbrev faultIn : Bool → Bool → ℕ → List (List Item) → ℕ
+  faultIn p q i cards = lowerOf (cond p 0 (firstCard a i cards)) (cond q 0 (firstCard b i cards))
+
+  -- of the later cards none or a later one
+  later : (f : List Item → ℕ) (p : Bool) (i : ℕ) (cards : List (List Item)) → (cond p 0 (firstCard f (suc i) cards) ≡ 0) ⊎ (i < cond p 0 (firstCard f (suc i) cards))
+  later f true i cards = inl refl
+  later f false i cards = first-after f (suc i) cards
+
+  -- of a card and the later ones: the card itself where it is at fault
+  here : (f : List Item → ℕ) (p : Bool) (i : ℕ) (c : List Item) (cards : List (List Item)) (t : Bool) → (p || eqb (f c) 0) ≡ t
+      → cond p 0 (firstCard f i (c ∷ cards)) ≡ cond t (cond p 0 (firstCard f (suc i) cards)) i
+  here f true i c cards t e = rw (← e)
+  here f false i c cards t e = rw e
+
+  fault-same : (p q : Bool) (i : ℕ) → 1 ≤ i → (cards : List (List Item))
+      → each 8 (λ c. (p || eqb (a c) 0) && (q || eqb (b c) 0)) i cards ≡ unless (eqb (faultIn p q i cards) 0) 8 (faultIn p q i cards)
+  unfolding each unless
+  fault-same true true i l [] = refl
+  fault-same true false i l [] = refl
+  fault-same false true i l [] = refl
+  fault-same false false i l [] = refl
+  fault-same p q i l (c ∷ cards) = go (fault-same p q (suc i) (omega arith) cards) (p || eqb (a c) 0) refl (q || eqb (b c) 0) refl
+    where
+      go : each 8 (λ c. (p || eqb (a c) 0) && (q || eqb (b c) 0)) (suc i) cards ≡ unless (eqb (faultIn p q (suc i) cards) 0) 8 (faultIn p q (suc i) cards)
+          → (t : Bool) → (p || eqb (a c) 0) ≡ t → (u : Bool) → (q || eqb (b c) 0) ≡ u
+          → each 8 (λ c. (p || eqb (a c) 0) && (q || eqb (b c) 0)) i (c ∷ cards) ≡ unless (eqb (faultIn p q i (c ∷ cards)) 0) 8 (faultIn p q i (c ∷ cards))
+      go ih true t true u = rw (here a p i c cards true t, here b q i c cards true u, t, u) ih
+      go ih true t false u =
+          let e = lower-second i (cond p 0 (firstCard a (suc i) cards)) l (later a p i cards) in
+          rw (here a p i c cards true t, here b q i c cards false u, t, u, e, ne-eqb i 0 (λ z. omega arith))
+      go ih false t true u =
+          let e = lower-first i (cond q 0 (firstCard b (suc i) cards)) l (less (later b q i cards)) in
+          rw (here a p i c cards false t, here b q i c cards true u, t, e, ne-eqb i 0 (λ z. omega arith))
+        where
+          less : {x : ℕ} → (x ≡ 0) ⊎ (i < x) → (x ≡ 0) ⊎ (i ≤ x)
+          less (inl z) = inl z
+          less (inr h) = inr (omega arith)
+      go ih false t false u =
+          let e = lower-first i i l (inr (omega arith)) in
+          rw (here a p i c cards false t, here b q i c cards false u, t, e, ne-eqb i 0 (λ z. omega arith))
 
 -- the first field outside its records is refused
 outside-same : (a b i : ℕ) → 1 ≤ i → (fs : List RuleField)
@@ -151,15 +205,8 @@ outside-same a b i l (f ∷ fs) = go (outside-same a b (suc i) (omega arith) fs)
     go ih false t = rw (t, ne-eqb i 0 (λ e. omega arith))
 
 -- the tests in turn
-module _ (x : Asked) where
-  abbrev pub rightLines : Bool
-  rightLines = allLines (modeOf (x .mode)) (formatOf (x .format)) (sizeOf (x .input)) (sizeOf (x .output)) (x .first) (x .fs)
-
-  abbrev pub rightCards : Bool
-  rightCards = selects (modeOf (x .mode)) || eqb (x .fs) 0
-
-  abbrev pub rightCV : Bool
-  rightCV = isFV (formatOf (x .format)) || eqb (x .cv) 0
+abbrev pub rightCards : Asked → Bool
+rightCards x = selects (modeOf (x .mode)) || eqb (x .fs) 0
 
 -- the first that fails is the answer
 module _ (x : Asked) (fs : List RuleField) where
@@ -173,18 +220,18 @@ module _ (x : Asked) (fs : List RuleField) where
     broken-cards e = rw (lines, e)
 
     module _ (cards : rightCards x ≡ true) where
-      pub broken-cv : rightCV x ≡ false → refused 8 (x .cv) ≡ combinedOf x fs
+      pub broken-card : (card : ℕ) → card ≡ cardFault x → (card ≡ 0 → ⊥) → refused 8 card ≡ combinedOf x fs
       unfolding combinedOf unless _>>_
-      broken-cv e = rw (lines, cards, e)
+      broken-card card e n = rw (lines, cards, ← e, ne-eqb card 0 n)
 
       -- past these the fields decide
-      module _ (cv : rightCV x ≡ true) (i : ℕ) (first : i ≡ firstOutside (recordLength (sizeOf (x .input))) (recordLength (sizeOf (x .output))) 1 fs) where
+      module _ (card : cardFault x ≡ 0) (i : ℕ) (first : i ≡ firstOutside (recordLength (sizeOf (x .input))) (recordLength (sizeOf (x .output))) 1 fs) where
         by-fields : combinedOf x fs ≡ unless (eqb i 0) 9 i
         unfolding combinedOf
         by-fields =
             fine-then _ _ (fine-unless _ 8 1 lines)
             ∙ fine-then _ _ (fine-unless _ 8 2 cards)
-            ∙ fine-then _ _ (fine-unless _ 8 (x .cv) cv)
+            ∙ fine-then _ _ (fine-unless _ 8 (cardFault x) (eq-eqb (cardFault x) 0 card))
             ∙ outside-same (recordLength (sizeOf (x .input))) (recordLength (sizeOf (x .output))) 1 (omega arith) fs
             ∙ rw (← first)
 
@@ -200,28 +247,109 @@ module _ (x : Asked) (fs : List RuleField) where
 abbrev pub refusal10 : Plan → Answer Unit
 refusal10 p = unless (eqb (barrenHalf p) (inputHalves p)) 10 (barrenHalf p)
 
-in-plan : (zone : ℕ) (x : Asked) (fields : List RuleField) (cards : List (List Item)) → x .fs ≡ length cards → x .cv ≡ cvCard 2 cards
-    → combined (planIn zone x fields) cards ≡ (combinedOf x fields >> refusal10 (planIn zone x fields))
-unfolding combined sound planIn combinedOf
-in-plan zone x fields cards fs cv =
-    let t = modeOf (x .mode) in
-    let f = formatOf (x .format) in
-    let a = sizeOf (x .input) in
-    let b = sizeOf (x .output) in
-    rw (
-      no-card cards,
-      ← fs,
-      ← (lines-same t f a b (x .first) (x .fs)),
-      cv-same (isFV f) 2 (omega arith) cards,
-      ← cv,
-    ) (simp then-assoc)
+-- what follows is the same where it is asked
+then-same : {B : Type 0} (t : Answer Unit) (x y : Answer B) → (t ≡ fine tt → x ≡ y) → (t >> x) ≡ (t >> y)
+unfolding _>>_
+then-same (fine tt) x y h = h refl
+then-same (refuse r) x y h = refl
 
--- where the struct says what the deck asks for, these are what the rules ask before refusal 10
-pub combined-same : (zone : ℕ) (x : Asked) (a : RuleAsked) → Means x a
-    → combined (assembled zone a) (a .cards) ≡ (combinedOf x (fieldsOf (joined (a .cards))) >> refusal10 (assembled zone a))
-combined-same zone x a m =
-    let fields = fieldsOf (joined (a .cards)) in
-    subst (λ (p : Plan). combined p (a .cards) ≡ (combinedOf x fields >> refusal10 p)) (plan-means zone x a m) (in-plan zone x fields (a .cards) (m .fs) (m .cv))
+-- the size that A is without keys
+abbrev sizeIn : Input → Size
+sizeIn (plain s) = s
+sizeIn (keyed k d) = two k d
+
+-- keys are there exactly if the key has a length
+key-told : (f : Format) (i : Input) → InputWithin f i → isKeyed i ≡ not (eqb (keyLength i) 0)
+key-told f (plain s) w = refl
+key-told f (keyed k d) w = rw (ne-eqb k 0 (λ e. omega (arith, w .0 .0)))
+
+key-line : (t : Mode) (f : Format) (i : Input) → InputWithin f i → keyLine t f (keyLength i) ≡ keyFits t f i
+unfolding keyFits
+key-line t f (plain s) w = refl
+key-line t f (keyed k d) w = rw (ne-eqb k 0 (λ e. omega (arith, w .0 .0))) (both (selects t) (isFF f))
+  where
+    both : (x y : Bool) → cond x y false ≡ (y && x)
+    both true y = sym (and-true y)
+    both false y = sym (and-false y)
+
+off : (t : Bool) (n : ℕ) → cond t n 0 ≡ cond (not t) 0 n
+off true n = refl
+off false n = refl
+
+-- where the struct says what the deck asks for, and the row has its fields, these are what the rules ask before refusal 10
+module _ (zone : ℕ) (x : Asked) (a : RuleAsked) (m : Means x a) (u : UtilityWithin (a .utility)) (w : All (λ f. FieldWithin (f .field)) (fieldsOf (joined (a .cards)))) where
+  abbrev i : Input
+  i = a .utility .input
+
+  mode-is : modeOf (x .mode) ≡ a .utility .mode
+  unfolding utilityOf throughUtility
+  mode-is = ap (λ (v : Utility). v .mode) (m .utility)
+
+  format-is : formatOf (x .format) ≡ a .utility .format
+  unfolding utilityOf throughUtility
+  format-is = ap (λ (v : Utility). v .format) (m .utility)
+
+  input-is : sizeOf (x .input) ≡ joinedSize i
+  unfolding utilityOf throughUtility
+  input-is = ap (λ (v : Utility). sizeIn (v .input)) (m .utility)
+
+  output-is : sizeOf (x .output) ≡ a .utility .output
+  unfolding utilityOf throughUtility
+  output-is = ap (λ (v : Utility). v .output) (m .utility)
+
+  first-is : x .first ≡ a .utility .first
+  unfolding utilityOf throughUtility
+  first-is = ap (λ (v : Utility). v .first) (m .utility)
+
+  lines-are : (sound (assembled zone a) (not (isEmpty (a .cards))) && keyFits (a .utility .mode) (a .utility .format) i) ≡ rightLines x
+  unfolding sound assembled rightLines
+  lines-are =
+      rw (no-card (a .cards), ← (m .fs), mode-is, format-is, input-is, output-is, first-is, m .key, key-line (a .utility .mode) (a .utility .format) i (u .input))
+      (ap (λ (t : Bool). t && keyFits (a .utility .mode) (a .utility .format) i) (sym (lines-same (a .utility .mode) (a .utility .format) (joinedSize i) (a .utility .output) (a .utility .first) (x .fs)))
+      ∙ and-comm (allLines (a .utility .mode) (a .utility .format) (joinedSize i) (a .utility .output) (a .utility .first) (x .fs)) (keyFits (a .utility .mode) (a .utility .format) i))
+
+  cards-are : each 8 (cardFits (a .utility .format) i) 2 (a .cards) ≡ unless (eqb (cardFault x) 0) 8 (cardFault x)
+  unfolding cardFits cardFault
+  cards-are =
+      let e : lowerOf (cvFault (formatOf (x .format)) (x .cv)) (keyFault (x .key) (x .keyed)) ≡ faultIn cvs (λ c. keyFields (fieldsOf c)) (isFV (a .utility .format)) (isKeyed i) 2 (a .cards)
+      = rw (format-is, m .cv, m .keyed, m .key, off (eqb (keyLength i) 0) (keyCard 2 (a .cards)), key-told (a .utility .format) i (u .input)) in
+      fault-same cvs (λ c. keyFields (fieldsOf c)) (isFV (a .utility .format)) (isKeyed i) 2 (omega arith) (a .cards) ∙ rw (← e)
+
+  -- field by field, where no card is at fault
+  fields-are : each 8 (cardFits (a .utility .format) i) 2 (a .cards) ≡ fine tt
+      → each 9 (insidePart i (a .utility .output)) 1 (fieldsOf (joined (a .cards)))
+      ≡ each 9 (inside (recordLength (sizeOf (x .input))) (recordLength (sizeOf (x .output)))) 1 (map (laid (keyLength i)) (fieldsOf (joined (a .cards))))
+  unfolding each
+  fields-are e = rw (input-is, output-is) (go 1 w (key-fits (a .utility .format) i (a .cards) (each-fine 8 _ 2 (a .cards) e)))
+    where
+      go : (n : ℕ) {fs : List CardField} → All (λ f. FieldWithin (f .field)) fs → All (Named i) fs
+          → each 9 (insidePart i (a .utility .output)) n fs ≡ each 9 (inside (recordLength (joinedSize i)) (recordLength (a .utility .output))) n (map (laid (keyLength i)) fs)
+      go n noMore noMore = refl
+      go n (also {x = f} l ls) (also q qs) = rw (inside-laid (a .utility .format) i (a .utility .output) f (u .input) l q, go (suc n) ls qs)
+
+  pub combined-same : combined zone a ≡ (combinedOf x (laidFields a) >> refusal10 (assembled zone a))
+  unfolding combined combinedOf laidFields
+  combined-same =
+      let r = refusal10 (assembled zone a) in
+      let own = each 9 (inside (recordLength (sizeOf (x .input))) (recordLength (sizeOf (x .output)))) 1 (map (laid (keyLength i)) (fieldsOf (joined (a .cards)))) in
+      let cards : (each 8 (cardFits (a .utility .format) i) 2 (a .cards) >> (each 9 (insidePart i (a .utility .output)) 1 (fieldsOf (joined (a .cards))) >> r)) ≡ (unless (eqb (cardFault x) 0) 8 (cardFault x) >> (own >> r))
+      = then-same (each 8 (cardFits (a .utility .format) i) 2 (a .cards)) _ _ (λ e. ap (λ (t : Answer Unit). t >> r) (fields-are e)) ∙ ap (λ (t : Answer Unit). t >> (own >> r)) cards-are in
+      rw (lines-are, cards, no-card (a .cards), ← (m .fs), ← mode-is) (simp then-assoc)
+
+  -- where nothing is refused, the fields of the row are those of the plan
+  pub laid-same : combinedOf x (laidFields a) ≡ fine tt → laidFields a ≡ assembled zone a .fields
+  unfolding combinedOf laidFields assembled
+  laid-same e =
+      let s1 = then-fine _ _ tt e in
+      let s2 = then-fine _ _ tt (s1 .1) in
+      let s3 = then-fine _ _ tt (s2 .1) in
+      let fits = cards-are ∙ s3 .0 in
+      go w (key-fits (a .utility .format) i (a .cards) (each-fine 8 _ 2 (a .cards) fits)) (each-fine 9 _ 1 (fieldsOf (joined (a .cards))) (fields-are fits ∙ s3 .1))
+    where
+      go : {fs : List CardField} → All (λ f. FieldWithin (f .field)) fs → All (Named i) fs → All (λ f. insidePart i (a .utility .output) f ≡ true) fs
+          → map (laid (keyLength i)) fs ≡ map (through (keyLength i)) fs
+      go noMore noMore noMore = refl
+      go (also {x = f} l ls) (also q qs) (also t ts) = rw (laid-through (a .utility .format) i (a .utility .output) f (u .input) l q t, go ls qs ts)
 
 -- ---- what `combine` asks holds within the limits
 
@@ -239,46 +367,55 @@ sizes-within (copy s) w = omega arith
 sizes-within (pack n m) w = omega arith
 sizes-within (unpack n m) w = omega arith
 
-field-fair : (f : RuleField) → FieldWithin f → FieldFair (fieldFor f)
-unfolding fieldFor
-field-fair f w =
-    let s = sizes-within (f .kind) (w .kind) in
+field-fair : (k : ℕ) (f : CardField) → k ≤ 4096 → FieldWithin (f .field) → FieldFair (fieldFor (laid k f))
+unfolding fieldFor laid
+field-fair k f h w =
+    let s = sizes-within (f .field .kind) (w .kind) in
+    let l = laid-within k f h w in
     record {
-      r-low = w .r .0;
-      r-high = w .r .1;
+      r-low = l .low;
+      r-high = l .high;
       input-low = s .0 .0;
       input-high = s .0 .1;
       output-low = s .1 .0;
       output-high = s .1 .1;
       t-low = w .t .0;
       t-high = w .t .1;
-      one-size = one-size f;
+      one-size = one-size (laid k f);
     }
 
--- each field that is read from the numbers of fields within their limits
-fields-fair : (fs : List RuleField) → All FieldWithin fs → FieldsFair (flatOf fs)
-fields-fair fs w i l =
+-- each field that is read from a row of fields within their limits
+fields-fair : (k : ℕ) (fs : List CardField) → k ≤ 4096 → All (λ f. FieldWithin (f .field)) fs → FieldsFair (flatOf (map (laid k) fs))
+fields-fair k fs h w i l =
+    let row = map (laid k) fs in
     let none = fieldOf noField in
-    let there : i < length fs = omega (arith, length-flat fs) in
-    let read : fieldAt (flatOf fs) i ≡ fieldFor (getD fs i none) =
-    ap (λ (row : List ℕ). fieldAt row i) (sym (append-nil (flatOf fs))) ∙ field-kept none fs [] i there
+    let there : i < length row = omega (arith, length-flat row) in
+    let read : fieldAt (flatOf row) i ≡ fieldFor (getD row i none) =
+    ap (λ (xs : List ℕ). fieldAt xs i) (sym (append-nil (flatOf row))) ∙ field-kept none row [] i there
     in
-    subst FieldFair (sym read) (field-fair (getD fs i none) (all-at none fs w i there))
+    subst FieldFair (sym read) (all-at {P = λ f. FieldFair (fieldFor f)} none row (all-map (laid k) (all-imply (λ f v. field-fair k f h v) w)) i there)
 
-pub asked-fair : (x : Asked) (a : RuleAsked) (row : List ℕ) → Means x a → UtilityWithin (a .utility) → All FieldWithin (fieldsOf (joined (a .cards)))
-    → row ≡ flatOf (fieldsOf (joined (a .cards))) → AskedFair x row
-unfolding utilityOf
+key-most : (f : Format) (i : Input) → InputWithin f i → keyLength i ≤ 4096
+key-most f (plain s) w = omega arith
+key-most f (keyed k d) w = w .0 .1
+
+pub asked-fair : (x : Asked) (a : RuleAsked) (row : List ℕ) → Means x a → UtilityWithin (a .utility) → All (λ f. FieldWithin (f .field)) (fieldsOf (joined (a .cards)))
+    → row ≡ flatOf (laidFields a) → AskedFair x row
+unfolding laidFields
 asked-fair x a row m u w e =
-    let v = subst UtilityWithin (sym (m .utility)) u in
+    let f = a .utility .format in
+    let b = a .utility .output in
+    let own = joined-within f (a .utility .input) (u .input) in
     record {
       sizes =
-          record {
-            some-A = size-some (formatOf (x .format)) (sizeOf (x .input)) (v .input);
-            some-B = size-some (formatOf (x .format)) (sizeOf (x .output)) (v .output);
-            most-A = size-most (formatOf (x .format)) (sizeOf (x .input)) (v .input);
-            most-B = size-most (formatOf (x .format)) (sizeOf (x .output)) (v .output);
-          };
-      fields = subst FieldsFair (sym e) (fields-fair (fieldsOf (joined (a .cards))) w);
+          rw (input-is 0 x a m u w, output-is 0 x a m u w)
+          (record {
+            some-A = size-some f (joinedSize (a .utility .input)) own;
+            some-B = size-some f b (u .output);
+            most-A = size-most f (joinedSize (a .utility .input)) own;
+            most-B = size-most f b (u .output);
+          });
+      fields = subst FieldsFair (sym e) (fields-fair (keyLength (a .utility .input)) (fieldsOf (joined (a .cards))) (key-most f (a .utility .input) (u .input)) w);
     }
 
 -- ---- one outcome

@@ -1,10 +1,10 @@
 -- The lines of the combinations, as the code asks them: some together, and those of FF only where A and B have two numbers each.
-use mathlib.Core.Bool.{Bool, true, cond, not, _&&_}
+use mathlib.Core.Bool.{Bool, true, false, cond, not, _&&_}
 use mathlib.Core.Path.{_≡_}
 use Prim.Native.Nat.{ℕ, _+_, _/_, _%_, _≤_}
 use lib.Dec.{leb, eqb}
 use Rattle.rules.specs.Grammar.{Mode, tc, tf, tr, trf, Format, ff, fv, fu, Size}
-use Rattle.rules.specs.Plan.{isTC, isFU, selects, numbers, wanted, recordLength, blockLength}
+use Rattle.rules.specs.Plan.{isTC, isFF, isFU, selects, numbers, wanted, recordLength, blockLength}
 
 -- FU only with TC. TC only with R1
 abbrev pub copyLines : Mode → Format → ℕ → Bool
@@ -52,3 +52,11 @@ cardLine t fs = cond (selects t) (not (eqb fs 0)) true
 -- all of them
 unfoldable pub allLines : Mode → Format → Size → Size → ℕ → ℕ → Bool
 allLines t f a b first fs = copyLines t f first && (countLine t f a b && (copyEqual t a b && (cardLine t fs && formatLines t f a b)))
+
+-- keys only in FF with TF or TRF; 0 is no key
+abbrev pub keyLine : Mode → Format → ℕ → Bool
+keyLine t f key = cond (eqb key 0) true (cond (selects t) (isFF f) false)
+
+-- the lower of two cards; 0 is none
+abbrev pub lowerOf : ℕ → ℕ → ℕ
+lowerOf a b = cond (eqb a 0) b (cond (eqb b 0) a (cond (leb a b) a b))

@@ -8,11 +8,11 @@ ghost use mathlib.Core.Path.{_≡_};
 ghost use mathlib.Core.Bool.{true, _&&_, _||_};
 ghost use Prim.Native.Nat.{_+_, _≤_};
 ghost use lib.Dec.{leb, eqb};
-ghost use Rattle.rules.specs.Plan.{isTC, selects as ruleSelects, isFV, isFU, numbers as ruleNumbers, wanted as ruleWanted, recordLength, blockLength, inside};
+ghost use Rattle.rules.specs.Plan.{isTC, selects as ruleSelects, isFF, isFV, isFU, numbers as ruleNumbers, wanted as ruleWanted, recordLength, blockLength, inside};
 ghost use Rattle.terms.specs.Meaning.{modeOf, formatOf, sizeOf, fieldOf};
 ghost use Rattle.rows.specs.Kept.{fieldsIn};
-ghost use Rattle.combinations.specs.Lines.{copyLines, countLine, lengthsEqual, fixedLines, FormatFair, formatLines, copyEqual, cardLine, allLines};
-ghost use Rattle.combinations.specs.Promise.{firstOutside, answerOf, combinedOf, FieldFair, FieldsFair, AskedFair};
+ghost use Rattle.combinations.specs.Lines.{copyLines, countLine, lengthsEqual, fixedLines, FormatFair, formatLines, copyEqual, cardLine, allLines, keyLine, lowerOf};
+ghost use Rattle.combinations.specs.Promise.{firstOutside, answerOf, rightLines, cvFault, keyFault, combinedOf, FieldFair, FieldsFair, AskedFair};
 
 // ---- what the letters say
 
@@ -24,6 +24,16 @@ fn is_tc(mode: Mode) -> bool
         Mode::TF => false,
         Mode::TR => false,
         Mode::TRF => false,
+    }
+}
+
+fn is_ff(format: Format) -> bool
+    ensures { λ r. ⌜ r ≡ isFF (formatOf format) ⌝ }
+{
+    match format {
+        Format::FF => true,
+        Format::FV => false,
+        Format::FU => false,
     }
 }
 
@@ -229,6 +239,34 @@ fn sound(mode: Mode, format: Format, a: Size, b: Size, first: usize, fs: usize) 
     by_format(mode, format, a, b)
 }
 
+// Keys only in FF with TF or TRF; 0 is no key.
+fn keys_allowed(mode: Mode, format: Format, key: usize) -> bool
+    ensures { λ r. ⌜ r ≡ keyLine (modeOf mode) (formatOf format) key ⌝ }
+{
+    if key == 0 {
+        return true;
+    }
+    if !selects(mode) {
+        return false;
+    }
+    is_ff(format)
+}
+
+// All that the U card is asked.
+fn right(asked: Asked) -> bool
+    requires { ⌜ FormatFair (sizeOf (asked .input)) (sizeOf (asked .output)) ⌝ }
+    ensures { λ r. ⌜ r ≡ rightLines asked ⌝ }
+{
+    let mode = asked.mode;
+    let format = asked.format;
+    if !keys_allowed(mode, format, asked.key) {
+        return false;
+    }
+    let input = asked.input;
+    let output = asked.output;
+    sound(mode, format, input, output, asked.first, asked.fs)
+}
+
 // TC and TR allow no FS card.
 fn cards_allowed(mode: Mode, fs: usize) -> bool
     ensures { λ r. ⌜ r ≡ (ruleSelects (modeOf mode) || eqb fs 0) ⌝ }
@@ -239,14 +277,40 @@ fn cards_allowed(mode: Mode, fs: usize) -> bool
     fs == 0
 }
 
-// CV only with FV.
-fn cv_allowed(format: Format, cv: usize) -> bool
-    ensures { λ r. ⌜ r ≡ (isFV (formatOf format) || eqb cv 0) ⌝ }
+// CV only with FV: its card where it is at fault, or 0.
+fn cv_fault(format: Format, cv: usize) -> usize
+    ensures { λ r. ⌜ r ≡ cvFault (formatOf format) cv ⌝ }
 {
     if is_fv(format) {
-        return true;
+        return 0;
     }
-    cv == 0
+    cv
+}
+
+// A field taken from the key only with keys: the first card of one where it is at fault, or 0.
+fn key_fault(key: usize, keyed: usize) -> usize
+    ensures { λ r. ⌜ r ≡ keyFault key keyed ⌝ }
+{
+    if key != 0 {
+        return 0;
+    }
+    keyed
+}
+
+// The lower of two cards; 0 is none.
+fn lower(a: usize, b: usize) -> usize
+    ensures { λ r. ⌜ r ≡ lowerOf a b ⌝ }
+{
+    if a == 0 {
+        return b;
+    }
+    if b == 0 {
+        return a;
+    }
+    if a <= b {
+        return a;
+    }
+    b
 }
 
 // ---- fields
@@ -286,26 +350,28 @@ pub enum Combined {
     Outside { field: usize },
 }
 
-// Place 1 before an FS card in TC or TR before CV outside FV; then the fields.
+// Place 1 before an FS card in TC or TR before CV outside FV and a field taken from the key without keys; then the fields.
 pub fn combine(asked: Asked, fields: &[u16]) -> Combined
     requires { ⌜ AskedFair asked (now fields) ⌝ }
     ensures { λ r. ⌜ answerOf r ≡ combinedOf asked (fieldsIn (now (fields .entry))) ⌝ }
 {
-    let mode = asked.mode;
-    let format = asked.format;
-    let input = asked.input;
-    let output = asked.output;
-    let fs = asked.fs;
-    let cv = asked.cv;
-    if !sound(mode, format, input, output, asked.first, fs) {
+    if !right(asked) {
         return Combined::Broken { place: 1 };
     }
-    if !cards_allowed(mode, fs) {
+    let mode = asked.mode;
+    if !cards_allowed(mode, asked.fs) {
         return Combined::Broken { place: 2 };
     }
-    if !cv_allowed(format, cv) {
-        return Combined::Broken { place: cv };
+    let format = asked.format;
+    let card = lower(
+        cv_fault(format, asked.cv),
+        key_fault(asked.key, asked.keyed),
+    );
+    if card != 0 {
+        return Combined::Broken { place: card };
     }
+    let input = asked.input;
+    let output = asked.output;
     let field = first_outside(fields, record_length(input), record_length(output));
     if field != 0 {
         return Combined::Outside { field };

@@ -1,7 +1,7 @@
 -- What `combine` found right: with no FS card in TC and TR there is no field, and every field lies inside its records, so that it can be weighed.
-use mathlib.Core.Path.{_≡_, refl, sym, subst, _∙_}
+use mathlib.Core.Path.{_≡_, refl, ap, sym, subst, _∙_}
 use mathlib.Core.Bool.{true, false, _||_}
-use mathlib.Core.List.{List, [], _∷_}
+use mathlib.Core.List.{List, [], _∷_, map}
 use Prim.Native.Nat.{ℕ, _≤_}
 use native.Mathlib.Omega.{arith}
 use lib.Dec.{eqb}
@@ -18,7 +18,7 @@ use Rattle.rules.specs.Rows.{Inside}
 use Rattle.rules.proofs.AnswerLaws.{then-fine, unless-fine, each-fine}
 use Rattle.rules.proofs.AllLaws.{all-at, all-imply}
 use Rattle.rules.proofs.LimitLaws.{inside-exactly}
-use Rattle.terms.specs.Meaning.{modeOf, sizeOf, fieldOf, noField, Means}
+use Rattle.terms.specs.Meaning.{modeOf, sizeOf, fieldOf, noField, laidFields, Means}
 use Rattle.terms.specs.declared.Field.{Field}
 use Rattle.terms.specs.declared.Asked.{Asked}
 use Rattle.rows.specs.Flat.{fieldAt}
@@ -44,10 +44,11 @@ no-card : (cards : List (List Item)) → length cards ≡ 0 → fieldsOf (joined
 no-card [] e = refl
 no-card (c ∷ cards) e = absurd (omega arith)
 
-pub no-field : (x : Asked) (a : RuleAsked) (fs : List RuleField) → Means x a → combinedOf x fs ≡ fine tt → selects (modeOf (x .mode)) ≡ false → fieldsOf (joined (a .cards)) ≡ []
+pub no-field : (x : Asked) (a : RuleAsked) (fs : List RuleField) → Means x a → combinedOf x fs ≡ fine tt → selects (modeOf (x .mode)) ≡ false → laidFields a ≡ []
+unfolding laidFields
 no-field x a fs m e s =
     let none : eqb (x .fs) 0 ≡ true = rw s at (sound-tests x fs e .0) in
-    no-card (a .cards) (sym (m .fs) ∙ eqb-true (x .fs) 0 none)
+    ap (map _) (no-card (a .cards) (sym (m .fs) ∙ eqb-true (x .fs) 0 none))
 
 -- ---- fields inside their records
 

@@ -1,29 +1,28 @@
 -- The verdicts are those of the rules, where the struct says what a deck asks for: first what `combine` answers, then what weighing
 -- answers, then the tail. And the promise allows one verdict alone.
-use mathlib.Core.Path.{_≡_, refl, ap, ap₂, sym, _∙_}
+use mathlib.Core.Path.{_≡_, refl, ap, ap₂, sym, subst, _∙_}
 use mathlib.Core.Bool.{Bool, true, false, cond, _&&_}
 use mathlib.Core.List.{List}
 use Prim.Native.Nat.{ℕ, _*_}
 use native.Mathlib.Omega.{arith}
 use lib.Dec.{eqb}
 use borrow.Author.Tests.{eqb-true, eq-eqb}
-use Rattle.rules.specs.Base.{joined}
 use Rattle.rules.specs.Halves.{Field as RuleField}
 use Rattle.rules.specs.Answer.{Answer, fine, refused, refusalOf, placeOf, _>>=_, _>>_}
-use Rattle.rules.specs.Asked.{fieldsOf, Asked as RuleAsked}
+use Rattle.rules.specs.Asked.{Asked as RuleAsked}
 use Rattle.rules.specs.Plan.{Plan, assembled, selects, recordLength, blockLength, inputHalves, lostAt, tailKept, keeps, bit}
 use Rattle.rules.specs.Lent.{zoneF}
 use Rattle.rules.proofs.AnswerLaws.{fine-same, then-fine, fine-then, fine-unless, then-assoc, then-bind}
 use Rattle.rules.proofs.PlanSteps.{no-barren, keeps-carried}
-use Rattle.terms.specs.Meaning.{modeOf, formatOf, sizeOf, Means, planIn}
+use Rattle.terms.specs.Meaning.{modeOf, formatOf, sizeOf, laidFields, planIn}
 use Rattle.terms.proofs.PlanOf.{plan-means}
 use Rattle.terms.specs.declared.Asked.{Asked}
 use Rattle.combinations.specs.Promise.{combinedOf}
-use Rattle.combinations.proofs.CombineLaws.{refusal10, combined-same}
+use Rattle.combinations.proofs.CombineLaws.{refusal10, combined-same, laid-same}
 use Rattle.keeping.specs.Promise.{weighedOf, answerOf as weighed}
 use Rattle.keeping.specs.declared.Weighed.{Weighed}
 use Rattle.keeping.proofs.PlanLaws.{weighed-is}
-use Rattle.judges.specs.Promise.{planned, judgedOf, answerOf, Judges, Asks, tailOf}
+use Rattle.judges.specs.Promise.{planned, judgedOf, answerOf, Says, Judges, Asks, tailOf}
 use Rattle.judges.specs.declared.Verdict.{Verdict}
 use Rattle.judges.specs.declared.Verdict.the-variants.{Refused, Keeping, Losing}
 use Rattle.judges.proofs.FairLaws.{no-field}
@@ -41,10 +40,10 @@ with-tail tail lost halves = go tail (eqb lost halves) refl
     go true true e = refl
     go false true e = rw (eqb-true lost halves e)
 
-module _ (x : Asked) (a : RuleAsked) (m : Means x a) where
-  -- the fields that the deck asks for
+module _ (x : Asked) (row : List ℕ) (a : RuleAsked) (h : Says x row a) where
+  -- the fields that the deck asks for, and the plan that they are
   abbrev fs : List RuleField
-  fs = fieldsOf (joined (a .cards))
+  fs = laidFields a
 
   abbrev p : Plan
   p = planIn zoneF x fs
@@ -53,25 +52,30 @@ module _ (x : Asked) (a : RuleAsked) (m : Means x a) where
   n = recordLength (sizeOf (x .input))
 
   -- refusals 8 and 9, and then refusal 10
-  answered : planned zoneF a ≡ (combinedOf x fs >> (refusal10 p >> fine p))
+  answered : planned zoneF a ≡ (combinedOf x fs >> (refusal10 (assembled zoneF a) >> fine (assembled zoneF a)))
   answered =
-      ap (λ (z : Answer Unit). z >> fine (assembled zoneF a)) (combined-same zoneF x a m)
+      ap (λ (z : Answer Unit). z >> fine (assembled zoneF a)) (combined-same zoneF x a (h .means) (h .utility) (h .fields))
       ∙ then-assoc (combinedOf x fs) (refusal10 (assembled zoneF a)) (fine (assembled zoneF a))
-      ∙ ap (λ (q : Plan). combinedOf x fs >> (refusal10 q >> fine q)) (sym (plan-means zoneF x a m))
 
   pub combined-refused : (number place : ℕ) → refused number place ≡ combinedOf x fs → refused number place ≡ judgedOf (planned zoneF a)
   unfolding _>>_ _>>=_ judgedOf
-  combined-refused number place e = sym (ap judgedOf (answered ∙ ap (λ (z : Answer Unit). z >> (refusal10 p >> fine p)) (sym e)))
+  combined-refused number place e = sym (ap judgedOf (answered ∙ ap (λ (z : Answer Unit). z >> (refusal10 (assembled zoneF a) >> fine (assembled zoneF a))) (sym e)))
 
   module _ (sound : combinedOf x fs ≡ fine tt) where
+    -- where nothing is refused, it is the plan of the rules
+    plan-is : assembled zoneF a ≡ p
+    plan-is =
+        sym (ap (planIn zoneF x) (laid-same zoneF x a (h .means) (h .utility) (h .fields) sound) ∙ plan-means zoneF x a (h .means))
+
     -- refusal 10, and then keeping
     on-plan : judgedOf (planned zoneF a) ≡ (refusal10 p >> fine (bit (keeps p), cond (keeps p) 0 (lostAt p)))
     unfolding judgedOf
-    on-plan = ap judgedOf (answered ∙ fine-then (combinedOf x fs) (refusal10 p >> fine p) sound) ∙ then-bind (refusal10 p) p _
+    on-plan =
+        ap judgedOf (answered ∙ fine-then (combinedOf x fs) _ sound ∙ ap (λ (q : Plan). refusal10 q >> fine q) plan-is) ∙ then-bind (refusal10 p) p _
 
     pub carried : selects (modeOf (x .mode)) ≡ false → fine (1, 0) ≡ judgedOf (planned zoneF a)
     unfolding planIn
-    carried s = sym (on-plan ∙ fine-then (refusal10 p) _ (fine-unless _ 10 _ (eq-eqb _ _ (no-barren p (no-field x a fs m sound s)))) ∙ rw (keeps-carried p s))
+    carried s = sym (on-plan ∙ fine-then (refusal10 p) _ (fine-unless _ 10 _ (eq-eqb _ _ (no-barren p (no-field x a fs (h .means) sound s)))) ∙ rw (keeps-carried p s))
 
     -- in TF and TRF: what weighing answers, and then the tail
     pub by-weighing : selects (modeOf (x .mode)) ≡ true → (w : Weighed) → weighed w ≡ weighedOf zoneF fs n (recordLength (sizeOf (x .output)))
@@ -80,8 +84,17 @@ module _ (x : Asked) (a : RuleAsked) (m : Means x a) where
     by-weighing s w e =
         rw (e ∙ weighed-is p) (then-bind (refusal10 p) _ _ ∙ ap (refusal10 p >>_) (with-tail (tailKept p) (lostAt p) (inputHalves p)) ∙ sym (on-plan ∙ rw s))
 
-pub plan-same : (x : Asked) (a : RuleAsked) → Means x a → (p : Plan) → planned zoneF a ≡ fine p → planIn zoneF x (fieldsOf (joined (a .cards))) ≡ p
-plan-same x a m p e = plan-means zoneF x a m ∙ fine-same (assembled zoneF a) p (then-fine _ (fine (assembled zoneF a)) p e .1)
+  -- the fields of the row are those of the plan
+  pub fields-same : (q : Plan) → planned zoneF a ≡ fine q → laidFields a ≡ q .fields
+  fields-same q e =
+      let own = then-fine _ (fine (assembled zoneF a)) q e in
+      let sound = then-fine (combinedOf x fs) (refusal10 (assembled zoneF a)) tt (sym (combined-same zoneF x a (h .means) (h .utility) (h .fields)) ∙ own .0) in
+      laid-same zoneF x a (h .means) (h .utility) (h .fields) (sound .0) ∙ ap (λ (z : Plan). z .fields) (fine-same (assembled zoneF a) q (own .1))
+
+  pub plan-same : (q : Plan) → planned zoneF a ≡ fine q → planIn zoneF x (q .fields) ≡ q
+  plan-same q e =
+      let own : assembled zoneF a ≡ q = fine-same (assembled zoneF a) q (then-fine _ (fine (assembled zoneF a)) q e .1) in
+      subst (λ (z : Plan). planIn zoneF x (z .fields) ≡ z) own (plan-means zoneF x a (h .means))
 
 -- ---- one verdict
 
@@ -99,4 +112,4 @@ answer-once (Losing half) (Losing half′) e = ap Losing (ap (λ (n : ℕ × ℕ
 
 pub only-one : (x : Asked) (row : List ℕ) → Asks x row → (r q : Verdict) → Judges x row r → Judges x row q → r ≡ q
 unfolding Judges
-only-one x row w r q j k = answer-once r q (j (w .asked) (w .means) (w .flat) ∙ sym (k (w .asked) (w .means) (w .flat)))
+only-one x row w r q j k = answer-once r q (j (w .asked) (w .says) ∙ sym (k (w .asked) (w .says)))

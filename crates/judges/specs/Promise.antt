@@ -12,7 +12,7 @@ use Rattle.rules.specs.Asked.{fieldsOf, Asked as RuleAsked}
 use Rattle.rules.specs.Plan.{Plan, assembled, combined, isFV, lostAt, keeps, bit}
 use Rattle.rules.specs.Rows.{UtilityWithin, FieldWithin}
 use Rattle.rules.specs.Lent.{zoneF}
-use Rattle.terms.specs.Meaning.{Means}
+use Rattle.terms.specs.Meaning.{Means, laidFields}
 use Rattle.terms.specs.declared.Asked.{Asked}
 use Rattle.rows.specs.Flat.{flatOf}
 use Rattle.judges.specs.declared.Verdict.{Verdict}
@@ -22,7 +22,7 @@ use Rattle.judges.specs.declared.Verdict.the-variants.{Refused, Keeping,
 
 -- what the rules answer to what a deck asks for: refusals 8 to 10, or the plan
 abbrev pub planned : ℕ → RuleAsked → Answer Plan
-planned zone a = combined (assembled zone a) (a .cards) >> fine (assembled zone a)
+planned zone a = combined zone a >> fine (assembled zone a)
 
 -- of a plan the mark of keeping and the lost place, as it answers them
 unfoldable pub judgedOf : Answer Plan → Answer (ℕ × ℕ)
@@ -34,19 +34,23 @@ answerOf (Refused number place) = refused number place
 answerOf Keeping = fine (1, 0)
 answerOf (Losing half) = fine (0, half)
 
--- the struct and the row of its fields are judged as what they mean is in the rules
+-- the struct and the row say what is asked for, its numbers within their limits
+pub record Says (x : Asked) (row : List ℕ) (a : RuleAsked) : Type 0 where
+  pub means : Means x a
+  pub utility : UtilityWithin (a .utility)
+  pub fields : All (λ f. FieldWithin (f .field)) (fieldsOf (joined (a .cards)))
+  pub flat : row ≡ flatOf (laidFields a)
+
+-- they are judged as what they say is in the rules
 unfoldable pub Judges : Asked → List ℕ → Verdict → Type 0
-Judges x row r = (a : RuleAsked) → Means x a → row ≡ flatOf (fieldsOf (joined (a .cards))) → answerOf r ≡ judgedOf (planned zoneF a)
+Judges x row r = (a : RuleAsked) → Says x row a → answerOf r ≡ judgedOf (planned zoneF a)
 
 -- ---- what it asks
 
--- the struct and the row say what some deck asks for, its numbers within their limits
+-- they say what some deck asks for
 pub record Asks (x : Asked) (row : List ℕ) : Type 0 where
   pub asked : RuleAsked
-  pub means : Means x asked
-  pub utility : UtilityWithin (asked .utility)
-  pub fields : All FieldWithin (fieldsOf (joined (asked .cards)))
-  pub flat : row ≡ flatOf (fieldsOf (joined (asked .cards)))
+  pub says : Says x row asked
 
 -- ---- the tail
 

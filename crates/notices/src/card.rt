@@ -175,18 +175,28 @@ fn size_limits(card: &[u8], part: &[u8]) {
     }
 }
 
-// Says the limits of a number of the U card: of R, of the second of two in A or B, or of another in A or B.
+// Says the limits of a number of the U card: of R, of the key or of the data, of the second of two in A or B, or of another in A or B.
 fn u_limits(card: &[u8], before: u8, part: &[u8]) {
     match before {
         b'R' => say(b"1 to 65,536"),
+        b'=' => say(b"1 to 4,096, and for key and data together at most 4,096"),
         COMMA => say(b"1 to 32,760"),
         _ => size_limits(card, part),
     }
 }
 
-// Says the limits of a number of an FS card, before which stands this: in parentheses are sizes to pack or unpack.
+// Whether what stands before a number ends with K and a comma.
+fn is_of_key(before: &[u8]) -> bool {
+    let n = before.len();
+    if n < 2 {
+        return false;
+    }
+    before[n - 2] == b'K'
+}
+
+// Says the limits of a number of an FS card, before which stands this: in parentheses are sizes to pack or unpack, or a place in the key.
 fn fs_limits(before: &[u8]) {
-    if is_open(before) {
+    if is_open(before) && !is_of_key(before) {
         say(b"1 to 16");
     } else {
         say(b"1 to 4,096");

@@ -37,7 +37,7 @@ fn asking(refusal: usize) {
     match refusal {
         6 => say(b"the 65th field stands on this card; 64 are allowed"),
         9 => say(
-            b"this field, counted through all FS cards, reaches outside its records; look at its places and sizes, and at the first numbers of A and B",
+            b"this field, counted through all FS cards, reaches outside its records; look at its places and sizes, and at the first numbers of A and B, or the lengths of key and data",
         ),
         _ => say(b"no value of this half byte would do for all fields that read it"),
     }
@@ -47,7 +47,7 @@ fn asking(refusal: usize) {
 fn combining(place: usize) {
     if place > 1 {
         say(
-            b"this card does not go with the U card: TC and TR allow no FS card, and CV stands only with FV",
+            b"this card does not go with the U card: TC and TR allow no FS card, CV stands only with FV, and (K,r) only where A gives a key",
         );
         return;
     }
@@ -56,25 +56,33 @@ fn combining(place: usize) {
         b"two numbers in A and B for FF, one for FU, for FV two with TF or TRF and else one; in FF m a multiple of n; ",
     );
     say(
-        b"in FF equal n for TR, equal m divided by n for TF; in FV n+8 at most m; TF and TRF need an FS card",
+        b"in FF equal n for TR, equal m divided by n for TF; in FV n+8 at most m; TF and TRF need an FS card; a key only in FF with TF or TRF, and with TF one record to a block of B",
     );
 }
 
+// How long the key is that the cards give, or 0.
+fn key(deck: &[u8]) -> usize {
+    let mut row = [0u16; 320];
+    let read = cards::read_deck(deck, &mut row);
+    let asked = read.asked;
+    asked.key
+}
+
 // A card and a column, a field, a half byte.
-fn where_it_is(refusal: usize, place: usize, column: usize) {
+fn where_it_is(deck: &[u8], refusal: usize, place: usize, column: usize) {
     say(b", at ");
     match refusal {
         9 => {
             say(b"field ");
             number(place);
         }
-        10 => half(place),
+        10 => half(place, key(deck)),
         _ => card::spot(place, column),
     }
 }
 
 pub(crate) fn explain(deck: &[u8], refusal: usize, place: usize, column: usize) {
-    where_it_is(refusal, place, column);
+    where_it_is(deck, refusal, place, column);
     say(b": ");
     match refusal {
         1 | 2 | 3 | 5 => reading(refusal),

@@ -33,21 +33,36 @@ pub fn line(numbers: &[usize]) {
     }
 }
 
-// Half 2i is the high half of data byte i, from 0; people count bytes from 1.
-pub fn half_of_byte(place: usize) {
+// A byte of an input record, from 1: behind a key of so many bytes people count those of the data from 1 again, as cards do.
+fn byte(n: usize, key: usize) {
+    if key == 0 {
+        number(n);
+        return;
+    }
+    if n <= key {
+        number(n);
+        say(b" of the key");
+        return;
+    }
+    number(n - key);
+    say(b" of the data");
+}
+
+// Half 2i is the high half of byte i, from 0, through the key first.
+pub fn half_of_byte(place: usize, key: usize) {
     if place % 2 == 0 {
         say(b"the high half of byte ");
     } else {
         say(b"the low half of byte ");
     }
-    number(place / 2 + 1);
+    byte(place / 2 + 1, key);
 }
 
-fn half(place: usize) {
+fn half(place: usize, key: usize) {
     say(b"half byte ");
     number(place);
     say(b", ");
-    half_of_byte(place);
+    half_of_byte(place, key);
     say(b" of the input record");
 }
 
@@ -67,7 +82,7 @@ pub fn refused(deck: &[u8], refusal: usize, place: usize, column: usize) {
 }
 
 // A half byte of the first n bytes is lost, or the tail, whose place is 2n.
-fn lost(n: usize, place: usize) {
+fn lost(n: usize, key: usize, place: usize) {
     say(b"the plan loses: ");
     if place / 2 == n {
         say(b"the tail, all data past the first ");
@@ -75,7 +90,7 @@ fn lost(n: usize, place: usize) {
         say(b" bytes, is dropped; records that differ only there become alike\n");
         return;
     }
-    half(place);
+    half(place, key);
     say(b", is not in the output; records that differ only there become alike\n");
 }
 
@@ -84,7 +99,7 @@ pub fn loss(plan: Planned) {
     if plan.keeping == 0 {
         let asked = plan.asked;
         let input = asked.input;
-        lost(combinations::record_length(input), plan.lost);
+        lost(combinations::record_length(input), asked.key, plan.lost);
         say(b"'./bhexodana twins DECK' shows two such records\n");
     }
 }

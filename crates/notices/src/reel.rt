@@ -12,7 +12,9 @@ fn bad_block(place: usize) {
     say(b", at block ");
     number(place);
     say(b" of the input: this block is not one that the U card's F and A allow: ");
-    say(b"in FF a multiple of n bytes, at most m, wherever it stands; in FU at most g; ");
+    say(
+        b"in FF a multiple of n bytes, at most m, wherever it stands, and with keys just K and D bytes; in FU at most g; ",
+    );
     say(
         b"in FV at most m or g, with its length and that of each record in 2 bytes and 2 zero bytes before, and with fields at least n bytes of data in a record",
     );

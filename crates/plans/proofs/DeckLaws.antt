@@ -3,21 +3,21 @@ use mathlib.Core.Path.{_≡_, refl, ap, sym, subst, _∙_}
 use mathlib.Core.List.{List, []}
 use Prim.Native.Nat.{ℕ}
 use lib.ListN.{length}
-use Rattle.rules.specs.Base.{joined}
 use Rattle.rules.specs.Halves.{Field as RuleField}
 use Rattle.rules.specs.Answer.{Refusal, Answer, fine, refuse, _>>=_}
-use Rattle.rules.specs.Asked.{fieldsOf, Asked as RuleAsked, askedOf}
+use Rattle.rules.specs.Asked.{Asked as RuleAsked, askedOf}
 use Rattle.rules.specs.Plan.{Plan, planAnswer}
 use Rattle.rules.specs.Lent.{zoneF, plan}
 use Rattle.rules.proofs.AnswerLaws.{fine-same}
 use Rattle.rules.proofs.AcceptedLaws.{limited-of, limits-utility, limits-fields}
 use Rattle.rules.proofs.PlanSteps.{never-0, deck-refused, deck-asks}
-use Rattle.terms.specs.Meaning.{Means, planIn}
+use Rattle.terms.specs.Meaning.{laidFields, Means}
+use Rattle.terms.proofs.Laid.{many-laid}
 use Rattle.terms.specs.declared.Asked.{Asked}
 use Rattle.rows.specs.Flat.{flatOf}
 use Rattle.rows.specs.Kept.{rowOf}
-use Rattle.judges.specs.Promise.{planned, judgedOf, Asks}
-use Rattle.judges.proofs.JudgeLaws.{plan-same}
+use Rattle.judges.specs.Promise.{planned, judgedOf, Says, Asks}
+use Rattle.judges.proofs.JudgeLaws.{fields-same, plan-same}
 use Rattle.cards.specs.Promise.{nothingAsked}
 use Rattle.plans.specs.Promise.{refusedWith, plannedBy, numbersIn, Holds, HoldsFor, Plans}
 use Rattle.plans.specs.declared.Planned.{Planned}
@@ -40,34 +40,36 @@ numbers-by x (fine p) many = rw (many p refl)
 
 module _ (deck : List ℕ) (a : RuleAsked) (asks : askedOf deck ≡ fine a) (x : Asked) (m : Means x a) where
   abbrev fs : List RuleField
-  fs = fieldsOf (joined (a .cards))
+  fs = laidFields a
 
-  -- it can be judged
+  -- what is read of it says what it asks for, so that it can be judged
+  pub says : (row : List ℕ) → row ≡ flatOf fs → Says x row a
+  says row e = let l = limited-of deck a asks in record { means = m; utility = limits-utility a l; fields = limits-fields a l; flat = e }
+
   pub judgeable : (row : List ℕ) → row ≡ flatOf fs → Asks x row
-  judgeable row e =
-      let l = limited-of deck a asks in
-      record { asked = a; means = m; utility = limits-utility a l; fields = limits-fields a l; flat = e }
+  judgeable row e = record { asked = a; says = says row e }
 
   is-planned : plan deck ≡ planned zoneF a
   unfolding plan
   is-planned = deck-asks zoneF deck a asks
 
   -- its fields are those of the plan
-  fields-same : (p : Plan) → planned zoneF a ≡ fine p → fs ≡ p .fields
-  unfolding planIn
-  fields-same p e = ap (λ (q : Plan). q .fields) (plan-same x a m p e)
+  pub row-fields : (p : Plan) → planned zoneF a ≡ fine p → fs ≡ p .fields
+  row-fields p e = fields-same x (flatOf fs) a (says (flatOf fs) refl) p e
+
+  many : (p : Plan) → planned zoneF a ≡ fine p → x .count ≡ length (p .fields)
+  many p e = many-laid x a m ∙ ap length (row-fields p e)
 
   numbers-are : (r : Planned) → r ≡ plannedBy x (judgedOf (planned zoneF a)) → numbersIn r ≡ planAnswer (plan deck)
-  numbers-are r e = ap numbersIn e ∙ numbers-by x (planned zoneF a) (λ p q. m .count ∙ ap length (fields-same p q)) ∙ ap planAnswer (sym is-planned)
+  numbers-are r e = ap numbersIn e ∙ numbers-by x (planned zoneF a) many ∙ ap planAnswer (sym is-planned)
 
   -- accepted, and the row holds its fields
   held : (row : List ℕ) → row ≡ rowOf fs → (p : Plan) → planned zoneF a ≡ fine p → Holds deck p x row
   held row e p q =
-      let same = fields-same p q in
       record {
-        is = ap (planIn zoneF x) (sym same) ∙ plan-same x a m p q;
-        fields = e ∙ ap rowOf same;
-        count = m .count ∙ ap length same;
+        is = plan-same x (flatOf fs) a (says (flatOf fs) refl) p q;
+        fields = e ∙ ap rowOf (row-fields p q);
+        count = many p q;
         means = λ b w. subst (Means x) (fine-same a b (sym asks ∙ w)) m;
       }
 

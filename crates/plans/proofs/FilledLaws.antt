@@ -1,22 +1,31 @@
 -- What the numbers of a plan say of the rules' answer, what its struct and its row hold, and so what is filled into a table; and what the lent table then holds.
 use mathlib.Core.Path.{_≡_, refl, ap, sym, subst, _∙_}
 use mathlib.Core.List.{List, [], _∷_, _++_, map}
-use Prim.Native.Nat.{ℕ, zero, suc, _*_, _≤_, _<_}
+use Prim.Native.Nat.{ℕ, zero, suc, _+_, _-_, _*_, _≤_, _<_}
 use native.Mathlib.Omega.{arith}
 use lib.ListN.{length, take, drop, length-map}
 use lib.Seq.{take-at}
-use borrow.Author.Tests.{leb-true}
+use borrow.Author.Tests.{leb-true, le-leb, lt-leb}
 use Rattle.rules.specs.Answer.{Refusal, Answer, fine, refuse}
-use Rattle.rules.specs.Halves.{Field as RuleField}
+use mathlib.Core.Bool.{true, false}
+use lib.Dec.{leb}
+use Rattle.rules.specs.Places.{All, noMore, also}
+use Rattle.rules.specs.Halves.{inputSize, Field as RuleField}
 use Rattle.rules.specs.Base.{joined}
-use Rattle.rules.specs.Asked.{fieldsOf}
+use Rattle.rules.specs.Grammar.{Format, Size, Input, plain, keyed, Part, inData, inKey, CardField}
+use Rattle.rules.specs.Asked.{fieldsOf, askedOf}
+use Rattle.rules.specs.Rows.{FieldWithin, Inside}
 use Rattle.rules.specs.Accepted.{Accepted}
-use Rattle.rules.specs.Plan.{Plan, PlanAnswer, planAnswer, planOf, assembled}
-use Rattle.rules.specs.Lent.{zoneF, plan, planInto, entryOf, tableAfter}
+use Rattle.rules.specs.Plan.{Plan, PlanAnswer, planAnswer, planOf, assembled, recordLength, keyLength, partLength, bytesBefore, through, insidePart}
+use Rattle.rules.specs.Lent.{zoneF, plan, planInto, entryOf, cardFields, tableAfter}
 use Rattle.rules.proofs.AnswerLaws.{fine-same, bind-fine, then-fine, unless-fine}
-use Rattle.rules.proofs.AcceptedLaws.{accepted, limited-of, limits-utility, limits-fields}
+use Rattle.rules.proofs.AcceptedLaws.{accepted, limited-of, limits-utility, limits-fields, combines, key-fits}
+use Rattle.rules.proofs.LimitLaws.{inside-exactly}
+use Rattle.rules.proofs.RecordLaws.{sizes-low}
+use Rattle.rules.proofs.KeyLaws.{Named}
+use Rattle.rules.proofs.SaidLaws.{card-fields}
 use Rattle.rules.proofs.PlanSteps.{never-0, into-refused, into-full, into-fits}
-use Rattle.terms.specs.Meaning.{planIn, entryMeans, entryFor}
+use Rattle.terms.specs.Meaning.{laidFields, planIn, entryMeans, entryFor}
 use Rattle.terms.specs.declared.Asked.{Asked}
 use Rattle.terms.specs.declared.Entry.{Entry}
 use Rattle.terms.proofs.Entries.{entries-hold}
@@ -26,9 +35,10 @@ use Rattle.rows.specs.Fair.{PlanFair}
 use Rattle.rows.proofs.RowLaws.{fields-back, flat-front, length-row}
 use Rattle.combinations.specs.Promise.{FieldsFair}
 use Rattle.combinations.proofs.CombineLaws.{asked-fair}
-use Rattle.plans.specs.Promise.{numbersIn, Holds, HoldsFor, Plans, tableOf, notFilled, filledFor}
+use Rattle.plans.specs.Promise.{numbersIn, Holds, HoldsFor, Plans, onCard, tableOf, notFilled, filledFor}
 use Rattle.plans.specs.declared.Planned.{Planned}
 use Rattle.plans.specs.declared.Filled.{Filled}
+use Rattle.plans.proofs.DeckLaws.{row-fields}
 
 -- ---- what the numbers say
 
@@ -54,6 +64,42 @@ module _ (deck : List ℕ) (r : Planned) (row : List ℕ) (w : Plans deck r row)
       go (refuse q) e = absurd (never-0 zoneF deck q e (sym (ap (λ (n : PlanAnswer). n .refusal) (w .numbers ∙ ap planAnswer e)) ∙ z))
       go (fine p) e = (p, e, w .numbers ∙ ap planAnswer e, subst (λ (x : Answer Plan). HoldsFor deck x (r .asked) row) e (w .held))
 
+-- ---- a field that counts through, on its card again
+
+module _ (i : Input) (b : Size) where
+  on-card : (x : CardField) → FieldWithin (x .field) → insidePart i b x ≡ true → Named i x → onCard (keyLength i) (through (keyLength i) x) ≡ x
+  unfolding onCard insidePart
+  on-card x l e n = go i (inside-exactly (partLength i (x .part)) (recordLength b) (x .field) .0 e) n (x .part) refl
+    where
+      low : 1 ≤ inputSize (x .field .kind)
+      low = sizes-low (x .field .kind) (l .kind) .0
+
+      data-again : (k : ℕ) → x .part ≡ inData → onCard k (through k x) ≡ x
+      data-again k q =
+          let z : bytesBefore k (x .part) ≡ k = ap (bytesBefore k) q in
+          let t : leb (bytesBefore k (x .part) + x .field .r) k ≡ false = lt-leb _ k (omega (arith, z, l .r .0)) in
+          let r : bytesBefore k (x .part) + x .field .r - k ≡ x .field .r = omega (arith, z) in
+          rw t (λ j. record { part = sym q j; field = record { r = r j; kind = x .field .kind; t = x .field .t } })
+
+      key-again : (k : ℕ) → x .part ≡ inKey → x .field .r + inputSize (x .field .kind) - 1 ≤ k → onCard k (through k x) ≡ x
+      key-again k q w =
+          let z : bytesBefore k (x .part) ≡ 0 = ap (bytesBefore k) q in
+          let t : leb (bytesBefore k (x .part) + x .field .r) k ≡ true = le-leb _ k (omega (arith, z, w, low)) in
+          let r : bytesBefore k (x .part) + x .field .r ≡ x .field .r = omega (arith, z) in
+          rw t (λ j. record { part = sym q j; field = record { r = r j; kind = x .field .kind; t = x .field .t } })
+
+      go : (i : Input) → Inside (partLength i (x .part)) (recordLength b) (x .field) → Named i x → (q : Part) → x .part ≡ q → onCard (keyLength i) (through (keyLength i) x) ≡ x
+      go (plain s) w n q e = data-again 0 (n refl)
+      go (keyed k d) w n inData e = data-again k e
+      go (keyed k d) w n inKey e =
+          let p : partLength (keyed k d) (x .part) ≡ k = ap (partLength (keyed k d)) e in
+          key-again k e (omega (arith, p, w .input))
+
+all-on-card : (f : Format) (i : Input) (b : Size) {fs : List CardField} → All (λ f. FieldWithin (f .field)) fs → All (λ f. insidePart i b f ≡ true) fs → All (Named i) fs
+    → map (onCard (keyLength i)) (map (through (keyLength i)) fs) ≡ fs
+all-on-card f i b noMore noMore noMore = refl
+all-on-card f i b (also {x = x} l ls) (also e es) (also n ns) = rw (on-card i b x l e n, all-on-card f i b ls es ns)
+
 -- ---- the struct and the row of an accepted plan
 
 module _ (deck : List ℕ) (p : Plan) (x : Asked) (row : List ℕ) (h : Holds deck p x row) (end : ℕ) (all : end ≡ 5 * length (p .fields)) where
@@ -75,12 +121,26 @@ module _ (deck : List ℕ) (p : Plan) (x : Asked) (row : List ℕ) (h : Holds de
 
     -- and its fields are within their limits
     fair-fields : FieldsFair (take end row)
-    unfolding plan planOf assembled
+    unfolding plan planOf
     fair-fields =
         let s = bind-fine _ _ p e in
         let l = limited-of deck (s .0) (s .1) in
-        let same : p .fields ≡ fieldsOf (joined (s .0 .cards)) = sym (ap (λ (q : Plan). q .fields) (fine-same (assembled zoneF (s .0)) p (then-fine _ _ p (s .2) .1))) in
+        let same : p .fields ≡ laidFields (s .0) = sym (row-fields deck (s .0) (s .1) x (h .means (s .0) (s .1)) p (s .2)) in
         asked-fair x (s .0) (take end row) (h .means (s .0) (s .1)) (limits-utility (s .0) l) (limits-fields (s .0) l) (front ∙ ap flatOf same) .fields
+
+    -- and on their cards they are these
+    pub cards-are : map (onCard (x .key)) (p .fields) ≡ cardFields (askedOf deck)
+    unfolding plan planOf assembled
+    cards-are =
+        let s = bind-fine _ _ p e in
+        let t = then-fine _ _ p (s .2) in
+        let l = limited-of deck (s .0) (s .1) in
+        let c = combines zoneF (s .0) (t .0) in
+        let i = s .0 .utility .input in
+        let same : p .fields ≡ map (through (keyLength i)) (fieldsOf (joined (s .0 .cards))) = sym (ap (λ (q : Plan). q .fields) (fine-same (assembled zoneF (s .0)) p (t .1))) in
+        (λ j. map (onCard (h .means (s .0) (s .1) .key j)) (same j))
+        ∙ all-on-card (s .0 .utility .format) i (s .0 .utility .output) (limits-fields (s .0) l) (c .insides) (key-fits (s .0 .utility .format) i (s .0 .cards) (c .cards-fit))
+        ∙ sym (ap cardFields (s .1))
 
 -- there is room for its fields, and they stand in the row
 pub row-holds : (deck : List ℕ) (p : Plan) → plan deck ≡ fine p → (x : Asked) (row : List ℕ) → Holds deck p x row → (length (p .fields) ≤ 64) × (length row ≡ 320)
@@ -95,22 +155,27 @@ plans-long deck r row w = go (plan deck) refl (w .held)
     go (fine p) e h = row-holds deck p e (r .asked) row h .1
     go (refuse q) e h = ap length (h .1) ∙ length-row [] (omega arith)
 
+-- as many fields stand on the cards as in the plan
+pub card-count : (deck : List ℕ) (p : Plan) → plan deck ≡ fine p → length (cardFields (askedOf deck)) ≡ length (p .fields)
+unfolding plan
+card-count deck p e = card-fields deck p e
+
 -- ---- what is filled in
 
 module _ (room : ℕ) (deck : List ℕ) (r : Planned) (row : List ℕ) (w : Plans deck r row) where
-  pub filled-refused : (r .refusal ≡ 0 → ⊥) → notFilled (r .refusal) (r .place) (r .column) ≡ filledFor (planInto room deck)
+  pub filled-refused : (r .refusal ≡ 0 → ⊥) → notFilled (r .refusal) (r .place) (r .column) ≡ filledFor deck (planInto room deck)
   filled-refused h =
       let s = refused-plan deck r row w h in
-      (λ i. notFilled (s .2 i) (s .3 i) (s .4 i)) ∙ ap filledFor (sym (into-refused room deck (s .0) (s .1)))
+      (λ i. notFilled (s .2 i) (s .3 i) (s .4 i)) ∙ ap (filledFor deck) (sym (into-refused room deck (s .0) (s .1)))
 
   module _ (z : r .refusal ≡ 0) where
     many : let p = accepted-plan deck r row w z .0 in r .fields ≡ length (p .fields)
     many = ap (λ (n : PlanAnswer). n .fields) (accepted-plan deck r row w z .2)
 
-    pub filled-full : room < r .fields → notFilled 15 (r .fields) 0 ≡ filledFor (planInto room deck)
+    pub filled-full : room < r .fields → notFilled 15 (r .fields) 0 ≡ filledFor deck (planInto room deck)
     filled-full l =
         let s = accepted-plan deck r row w z in
-        ap (λ (n : ℕ). notFilled 15 n 0) many ∙ ap filledFor (sym (into-full room deck (s .0) (s .1) (omega (arith, many))))
+        ap (λ (n : ℕ). notFilled 15 n 0) many ∙ ap (filledFor deck) (sym (into-full room deck (s .0) (s .1) (omega (arith, many))))
 
     pub few-fields : 5 * r .fields ≤ 320
     few-fields = let s = accepted-plan deck r row w z in omega (arith, many, row-holds deck (s .0) (s .1) (r .asked) row (s .3) .0)
@@ -121,16 +186,20 @@ module _ (room : ℕ) (deck : List ℕ) (r : Planned) (row : List ℕ) (w : Plan
     pub fields-fair : FieldsFair (take (5 * r .fields) row)
     fields-fair = let s = accepted-plan deck r row w z in fair-fields deck (s .0) (r .asked) row (s .3) (5 * r .fields) (ap (λ (n : ℕ). 5 * n) many) (s .1)
 
-    pub filled-whole : r .fields ≤ room → (table : List Entry) → table ≡ tableOf (fieldsIn (take (5 * r .fields) row))
+    pub filled-whole : r .fields ≤ room → (table : List Entry) → table ≡ tableOf (map (onCard (r .asked .key)) (fieldsIn (take (5 * r .fields) row)))
         → _≡_ {A = Filled}
         (record { refusal = 0; place = 0; column = 0; keeping = r .keeping; lost = r .lost; fields = r .fields; entries = table; store = r .fields })
-        (filledFor (planInto room deck))
+        (filledFor deck (planInto room deck))
     filled-whole l table t =
         let s = accepted-plan deck r row w z in
         let n = s .2 in
-        let e : table ≡ tableOf (s .0 .fields) = t ∙ ap tableOf (fields-are deck (s .0) (r .asked) row (s .3) (5 * r .fields) (ap (λ (n : ℕ). 5 * n) many)) in
-        (λ i. record { refusal = 0; place = 0; column = 0; keeping = n i .keeping; lost = n i .lost; fields = n i .fields; entries = e i; store = n i .fields })
-        ∙ ap filledFor (sym (into-fits room deck (s .0) (s .1) (omega (arith, many))))
+        let all = ap (λ (n : ℕ). 5 * n) many in
+        let e : table ≡ tableOf (cardFields (askedOf deck))
+        = t ∙ ap (λ (fs : List RuleField). tableOf (map (onCard (r .asked .key)) fs)) (fields-are deck (s .0) (r .asked) row (s .3) (5 * r .fields) all)
+        ∙ ap tableOf (cards-are deck (s .0) (r .asked) row (s .3) (5 * r .fields) all (s .1)) in
+        let c : length (s .0 .fields) ≡ length (cardFields (askedOf deck)) = sym (card-count deck (s .0) (s .1)) in
+        (λ i. record { refusal = 0; place = 0; column = 0; keeping = n i .keeping; lost = n i .lost; fields = n i .fields; entries = e i; store = (many ∙ c) i })
+        ∙ ap (filledFor deck) (sym (into-fits room deck (s .0) (s .1) (omega (arith, many))))
 
 -- ---- the lent table
 
@@ -144,28 +213,40 @@ map-drop (suc n) [] = refl
 map-drop (suc n) (e ∷ es) = map-drop n es
 
 -- the entries to be stored
-pub stored-entries : (fs : List RuleField) → take (length fs) (tableOf fs) ≡ map entryFor (map entryOf fs)
+pub stored-entries : (fs : List CardField) → take (length fs) (tableOf fs) ≡ map entryFor (map entryOf fs)
 unfolding tableOf
 stored-entries fs = take-at (map entryFor (map entryOf fs)) _ (length fs) (length-map (map entryOf fs) entryFor ∙ length-map fs entryOf)
 
 -- a table that has the entries stored at its front is what the rules say that it is afterwards
-pub table-after : (x : Answer Plan) (table : List Entry)
-    → map entryMeans (take (filledFor x .store) (filledFor x .entries) ++ drop (filledFor x .store) table) ≡ tableAfter (map entryMeans table) x
-table-after (refuse r) table = refl
-table-after (fine p) table =
-    ap (λ (es : List Entry). map entryMeans (es ++ drop (length (p .fields)) table)) (stored-entries (p .fields))
-    ∙ map-append (map entryFor (map entryOf (p .fields))) (drop (length (p .fields)) table)
-    ∙ rw (entries-hold (map entryOf (p .fields)), map-drop (length (p .fields)) table)
+pub table-after : (deck : List ℕ) (x : Answer Plan) → ((p : Plan) → x ≡ fine p → plan deck ≡ fine p) → (table : List Entry)
+    → map entryMeans (take (filledFor deck x .store) (filledFor deck x .entries) ++ drop (filledFor deck x .store) table) ≡ tableAfter (map entryMeans table) deck x
+table-after deck (refuse r) own table = refl
+table-after deck (fine p) own table =
+    let fs = cardFields (askedOf deck) in
+    ap (λ (es : List Entry). map entryMeans (es ++ drop (length fs) table)) (stored-entries fs)
+    ∙ map-append (map entryFor (map entryOf fs)) (drop (length fs) table)
+    ∙ rw (entries-hold (map entryOf fs), map-drop (length fs) table, card-count deck p (own p refl))
+
+-- a plan that goes into a table is the deck's plan, and the table has room for its fields
+pub into-room : (room : ℕ) (deck : List ℕ) (p : Plan) → planInto room deck ≡ fine p → (plan deck ≡ fine p) × (length (p .fields) ≤ room)
+unfolding planInto
+into-room room deck p e =
+    let s = bind-fine _ _ p e in
+    let t = then-fine _ _ p (s .2) in
+    let q = fine-same (s .0) p (t .1) in
+    (s .1 ∙ ap fine q, subst (λ (y : Plan). length (y .fields) ≤ room) q (leb-true _ room (unless-fine _ 15 _ (t .0))))
+
+pub into-own : (room : ℕ) (deck : List ℕ) (p : Plan) → planInto room deck ≡ fine p → plan deck ≡ fine p
+into-own room deck p e = into-room room deck p e .0
 
 -- no more entries are stored than there are, and than the table has
-pub store-fits : (room : ℕ) (deck : List ℕ) → (filledFor (planInto room deck) .store ≤ 64) × (filledFor (planInto room deck) .store ≤ room)
-unfolding planInto plan
+pub store-fits : (room : ℕ) (deck : List ℕ) → (filledFor deck (planInto room deck) .store ≤ 64) × (filledFor deck (planInto room deck) .store ≤ room)
+unfolding plan
 store-fits room deck = go (planInto room deck) refl
   where
-    go : (x : Answer Plan) → planInto room deck ≡ x → (filledFor x .store ≤ 64) × (filledFor x .store ≤ room)
+    go : (x : Answer Plan) → planInto room deck ≡ x → (filledFor deck x .store ≤ 64) × (filledFor deck x .store ≤ room)
     go (refuse r) e = (omega arith, omega arith)
     go (fine p) e =
-        let s = bind-fine _ _ p e in
-        let t = then-fine _ _ p (s .2) in
-        let q = fine-same (s .0) p (t .1) in
-        (accepted zoneF deck p (s .1 ∙ ap fine q) .few, subst (λ (y : Plan). length (y .fields) ≤ room) q (leb-true _ room (unless-fine _ 15 _ (t .0))))
+        let own = into-room room deck p e in
+        let c = card-count deck p (own .0) in
+        (omega (arith, c, accepted zoneF deck p (own .0) .few), omega (arith, c, own .1))

@@ -2,12 +2,12 @@
 use mathlib.Core.Path.{_≡_, refl, ap, sym, subst, _∙_}
 use mathlib.Core.List.{List}
 use Prim.Native.Nat.{ℕ}
-use Rattle.rules.specs.Base.{joined}
 use Rattle.rules.specs.Answer.{Answer, fine, refuse}
-use Rattle.rules.specs.Asked.{fieldsOf, Asked as RuleAsked}
-use Rattle.rules.specs.Plan.{Plan, planOf, assembled}
-use Rattle.rules.specs.Lent.{zoneF, plan, planInto}
-use Rattle.rules.proofs.AnswerLaws.{fine-same, bind-fine, then-fine}
+use Rattle.rules.specs.Asked.{Asked as RuleAsked}
+use Rattle.rules.specs.Plan.{Plan, planOf}
+use Rattle.rules.specs.Lent.{plan, planInto}
+use Rattle.rules.proofs.AnswerLaws.{bind-fine}
+use Rattle.terms.specs.Meaning.{laidFields}
 use Rattle.terms.specs.declared.Asked.{Asked}
 use Rattle.rows.specs.Kept.{rowOf}
 use Rattle.cards.specs.Promise.{Reads, DeckSays}
@@ -16,15 +16,16 @@ use Rattle.cards.proofs.PromiseLaws.{only-one as read-once}
 use Rattle.plans.specs.Promise.{Holds, HoldsFor, Plans, filledFor}
 use Rattle.plans.specs.declared.Planned.{Planned}
 use Rattle.plans.specs.declared.Filled.{Filled}
+use Rattle.plans.proofs.DeckLaws.{row-fields}
 
 -- ---- of a plan
 
 module _ (deck : List ℕ) (p : Plan) (e : plan deck ≡ fine p) where
   held-read : (x : Asked) (row : List ℕ) → Holds deck p x row → DeckSays deck (record { refusal = 0; place = 0; column = 0; asked = x }) row
-  unfolding plan planOf assembled
+  unfolding plan planOf
   held-read x row h =
       let s = bind-fine _ _ p e in
-      let same : p .fields ≡ fieldsOf (joined (s .0 .cards)) = sym (ap (λ (q : Plan). q .fields) (fine-same (assembled zoneF (s .0)) p (then-fine _ _ p (s .2) .1))) in
+      let same : p .fields ≡ laidFields (s .0) = sym (row-fields deck (s .0) (s .1) x (h .means (s .0) (s .1)) p (s .2)) in
       record {
         reads =
             subst (λ (z : Answer RuleAsked). Reads z (record { refusal = 0; place = 0; column = 0; asked = x }) row) (sym (s .1))
@@ -49,5 +50,5 @@ only-one deck r s one other w v =
 
 -- ---- of a table
 
-pub only-one-filled : (room : ℕ) (deck : List ℕ) (r s : Filled) → r ≡ filledFor (planInto room deck) → s ≡ filledFor (planInto room deck) → r ≡ s
+pub only-one-filled : (room : ℕ) (deck : List ℕ) (r s : Filled) → r ≡ filledFor deck (planInto room deck) → s ≡ filledFor deck (planInto room deck) → r ≡ s
 only-one-filled room deck r s e q = e ∙ sym q

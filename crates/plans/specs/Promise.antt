@@ -1,21 +1,22 @@
 -- What is promised of the plan of a deck.
 use mathlib.Core.Path.{_≡_}
 use mathlib.Core.List.{List, [], _++_, map}
+use mathlib.Core.Bool.{cond}
 use Prim.Native.Nat.{ℕ, _-_}
+use lib.Dec.{leb}
 use lib.ListN.{length, replicate}
-use Rattle.rules.specs.Base.{joined}
 use Rattle.rules.specs.Answer.{Answer, fine, refuse}
+use Rattle.rules.specs.Grammar.{inData, inKey, CardField}
 use Rattle.rules.specs.Halves.{Field as RuleField}
-use Rattle.rules.specs.Asked.{fieldsOf, Asked as RuleAsked, askedOf}
+use Rattle.rules.specs.Asked.{Asked as RuleAsked, askedOf}
 use Rattle.rules.specs.Plan.{Plan, PlanAnswer, planAnswer}
-use Rattle.rules.specs.Lent.{zoneF, entryOf, plan}
+use Rattle.rules.specs.Lent.{zoneF, entryOf, cardFields, plan}
 use Rattle.terms.specs.Meaning.{Means, planIn, entryFor, noEntry}
 use Rattle.terms.specs.declared.Asked.{Asked}
 use Rattle.terms.specs.declared.Entry.{Entry}
-use Rattle.rows.specs.Flat.{flatOf}
 use Rattle.rows.specs.Kept.{rowOf}
 use Rattle.cards.specs.Promise.{nothingAsked}
-use Rattle.judges.specs.Promise.{planned, judgedOf}
+use Rattle.judges.specs.Promise.{planned, judgedOf, Says}
 use Rattle.plans.specs.declared.Planned.{Planned}
 use Rattle.plans.specs.declared.Filled.{Filled}
 
@@ -33,7 +34,7 @@ plannedBy x (fine n) = keptAs x (n .0) (n .1)
 plannedBy x (refuse r) = refusedWith (r .number) (r .place) (r .column)
 
 unfoldable pub Verdicts : Asked → List ℕ → Planned → Type 0
-Verdicts x row r = (a : RuleAsked) → Means x a → row ≡ flatOf (fieldsOf (joined (a .cards))) → r ≡ plannedBy x (judgedOf (planned zoneF a))
+Verdicts x row r = (a : RuleAsked) → Says x row a → r ≡ plannedBy x (judgedOf (planned zoneF a))
 
 -- the six numbers
 abbrev pub numbersIn : Planned → PlanAnswer
@@ -62,12 +63,22 @@ pub record OfDeck (r : Planned) (row : List ℕ) : Type 0 where
 
 -- ---- the fields for a lent table
 
+-- a field of a plan as it stands on its card, behind a key of so many bytes: what begins in the key is taken from it, and behind it data count from 1 again
+abbrev pub partAt : ℕ → ℕ → ℕ
+partAt key r = cond (leb r key) 1 0
+
+abbrev pub placeAt : ℕ → ℕ → ℕ
+placeAt key r = cond (leb r key) r (r - key)
+
+unfoldable pub onCard : ℕ → RuleField → CardField
+onCard key f = record { part = cond (leb (f .r) key) inKey inData; field = record { r = placeAt key (f .r); kind = f .kind; t = f .t } }
+
 -- an entry for each field, and nothing behind them: 64 in all
-unfoldable pub tableOf : List RuleField → List Entry
+unfoldable pub tableOf : List CardField → List Entry
 tableOf fs = map entryFor (map entryOf fs) ++ replicate (64 - length fs) noEntry
 
 -- the numbers, and so many entries to store
-abbrev pub filledWith : PlanAnswer → List RuleField → Filled
+abbrev pub filledWith : PlanAnswer → List CardField → Filled
 filledWith n fs =
     record {
       refusal = n .refusal;
@@ -84,9 +95,9 @@ abbrev pub notFilled : ℕ → ℕ → ℕ → Filled
 notFilled number place column = filledWith (record { refusal = number; place = place; column = column; keeping = 0; lost = 0; fields = 0 }) []
 
 -- the fields that are stored
-abbrev pub stored : Answer Plan → List RuleField
-stored (fine p) = p .fields
-stored (refuse r) = []
+abbrev pub stored : List ℕ → Answer Plan → List CardField
+stored deck (fine p) = cardFields (askedOf deck)
+stored deck (refuse r) = []
 
-abbrev pub filledFor : Answer Plan → Filled
-filledFor x = filledWith (planAnswer x) (stored x)
+abbrev pub filledFor : List ℕ → Answer Plan → Filled
+filledFor deck x = filledWith (planAnswer x) (stored deck x)

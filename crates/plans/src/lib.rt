@@ -5,7 +5,7 @@ use terms::Entry;
 use terms::Field;
 use terms::Kind;
 ghost use mathlib.Core.Path.{_≡_};
-ghost use mathlib.Core.List.{List, []};
+ghost use mathlib.Core.List.{List, [], map};
 ghost use Prim.Native.Nat.{ℕ, _*_, _≤_};
 ghost use lib.ListN.{length, take};
 ghost use Rattle.rules.specs.Lent.{kindNumber, entryOf, planInto};
@@ -13,7 +13,7 @@ ghost use Rattle.terms.specs.Meaning.{kindOf, fieldOf, entryFor};
 ghost use Rattle.rows.specs.Kept.{fieldsIn, rowOf};
 ghost use Rattle.combinations.specs.Promise.{FieldFair, FieldsFair};
 ghost use Rattle.judges.specs.Promise.{Asks};
-ghost use Rattle.plans.specs.Promise.{refusedWith, keptAs, Verdicts, Plans, OfDeck, tableOf, notFilled, filledFor};
+ghost use Rattle.plans.specs.Promise.{refusedWith, keptAs, Verdicts, Plans, OfDeck, partAt, placeAt, onCard, tableOf, notFilled, filledFor};
 
 // ---- the plan of a deck
 
@@ -103,14 +103,35 @@ fn kind_number(kind: Kind) -> u8
     }
 }
 
-fn entry(f: Field) -> Entry
+// The part that a field of a plan reads, behind a key of so many bytes: what begins in the key is taken from it.
+fn part_number(r: usize, key: usize) -> u8
+    ensures { λ x. ⌜ x ≡ partAt key r ⌝ }
+{
+    if r <= key {
+        return 1;
+    }
+    0
+}
+
+// Its first position as on the card: behind the key data count from 1 again.
+fn card_place(r: usize, key: usize) -> usize
+    ensures { λ x. ⌜ x ≡ placeAt key r ⌝ }
+{
+    if r <= key {
+        return r;
+    }
+    r - key
+}
+
+fn entry(f: Field, key: usize) -> Entry
     requires { ⌜ FieldFair f ⌝ }
-    ensures { λ r. ⌜ r ≡ entryFor (entryOf (fieldOf f)) ⌝ }
+    ensures { λ r. ⌜ r ≡ entryFor (entryOf (onCard key (fieldOf f))) ⌝ }
 {
     let kind = f.kind;
     Entry {
         kind: kind_number(kind),
-        r: f.r as u16,
+        part: part_number(f.r, key),
+        r: card_place(f.r, key) as u16,
         input: f.input as u16,
         output: f.output as u16,
         t: f.t as u16,
@@ -122,6 +143,7 @@ fn no_entries() -> [Entry; 64]
 {
     let none = Entry {
         kind: 0,
+        part: 0,
         r: 0,
         input: 0,
         output: 0,
@@ -130,17 +152,17 @@ fn no_entries() -> [Entry; 64]
     [none; 64]
 }
 
-// The fields of a plan in order.
-fn entries(fields: &[u16]) -> [Entry; 64]
+// The fields of a plan in order, behind a key of so many bytes.
+fn entries(fields: &[u16], key: usize) -> [Entry; 64]
     requires { ⌜ FieldsFair (now fields) × (length (now fields) ≤ 320) ⌝ }
-    ensures { λ r. ⌜ r ≡ tableOf (fieldsIn (now (fields .entry))) ⌝ }
+    ensures { λ r. ⌜ r ≡ tableOf (map (onCard key) (fieldsIn (now (fields .entry)))) ⌝ }
 {
     let count = fields.len() / 5;
     let mut out = no_entries();
     let mut i: usize = 0;
     while i < count {
         let f = rows::field_at(fields, i);
-        out[i] = entry(f);
+        out[i] = entry(f, key);
         i += 1;
     }
     out
@@ -179,7 +201,7 @@ fn not_filled(number: usize, place: usize, column: usize) -> Filled
 // Refusal 15: the table has fewer entries than the plan has fields.
 fn filled_by(planned: Planned, row: &[u16], room: usize) -> Filled
     requires { ⌜ OfDeck planned (now row) ⌝ }
-    ensures { λ r. ⌜ ((deck : List ℕ) → Plans deck planned (now (row .entry)) → r ≡ filledFor (planInto room deck)) ⌝ }
+    ensures { λ r. ⌜ ((deck : List ℕ) → Plans deck planned (now (row .entry)) → r ≡ filledFor deck (planInto room deck)) ⌝ }
 {
     if planned.refusal != 0 {
         return not_filled(planned.refusal, planned.place, planned.column);
@@ -189,7 +211,7 @@ fn filled_by(planned: Planned, row: &[u16], room: usize) -> Filled
         return not_filled(15, count, 0);
     }
     let end = 5 * count;
-    let table = entries(&row[..end]);
+    let table = entries(&row[..end], planned.asked.key);
     Filled {
         refusal: 0,
         place: 0,
@@ -204,7 +226,7 @@ fn filled_by(planned: Planned, row: &[u16], room: usize) -> Filled
 
 // The plan of a deck for a table of so many entries.
 pub fn plan_for(deck: &[u8], room: usize) -> Filled
-    ensures { λ r. ⌜ r ≡ filledFor (planInto room (now (deck .entry))) ⌝ }
+    ensures { λ r. ⌜ r ≡ filledFor (now (deck .entry)) (planInto room (now (deck .entry))) ⌝ }
 {
     let mut row = [0u16; 320];
     let planned = plan_deck(deck, &mut row);

@@ -73,6 +73,10 @@ module _ (s : List ℕ) (i n : ℕ) where
             ∙ take-append-seam x (drop n s),
       )
 
+  -- and on to a third
+  pub text-ahead : (x : List ℕ) → i ≤ length s → drop i s ≡ x ++ drop n s → (to : ℕ) → i ≤ n → n ≤ to → to ≤ length s → slice i to s ≡ x ++ slice n to s
+  text-ahead x a e to h k l = split to h k l ∙ ap (λ (z : List ℕ). z ++ slice n to s) (text-is x a (omega arith) e .1)
+
 -- ---- what is read
 
 module _ (s : List ℕ) (i : ℕ) where
@@ -92,9 +96,15 @@ module _ (s : List ℕ) (i : ℕ) where
     pub number-passed : (to : ℕ) → n ≤ to → to ≤ length s → numbersIn false s i to ≡ i ∷ numbersIn true s n to
     number-passed to h l =
         let x = number-sound (drop i s) v (drop n s) (r .1) in
-        let k = text-is s i n (x .0) inside (r .0) (x .1) in
-        ap (numberColumns false i) (split s i n to (omega (arith, number-ahead)) h l ∙ ap (λ (z : List ℕ). z ++ slice n to s) (k .1))
-        ∙ text-passed i (slice n to s) (x .2) ∙ ap (λ (j : ℕ). i ∷ numberColumns true j (slice n to s)) (sym (k .0))
+        ap (numberColumns false i) (text-ahead s i n (x .0) inside (x .1) to (omega (arith, number-ahead)) h l)
+        ∙ text-passed i (slice n to s) (x .2) ∙ ap (λ (j : ℕ). i ∷ numberColumns true j (slice n to s)) (sym (text-is s i n (x .0) inside (r .0) (x .1) .0))
+
+-- two marks
+pub marks-passed : (s : List ℕ) (i a b to : ℕ) → getD s i 256 ≡ a → getD s (i + 1) 256 ≡ b → isDigit a ≡ false → isDigit b ≡ false → i + 2 ≤ to → to ≤ length s
+    → numbersIn false s i to ≡ numbersIn false s (i + 2) to
+marks-passed s i a b to e f d c h l =
+    let z : i + 1 + 1 ≡ i + 2 = omega arith in
+    mark-passed s i false a to e d (omega arith) l ∙ mark-passed s (i + 1) false b to f c (omega arith) l ∙ ap (λ (j : ℕ). numbersIn false s j to) z
 
 after-one : (m : ℕ) (s : List ℕ) (u : Unit) (left : List ℕ) → after (m ∷ []) s ≡ read u left → s ≡ m ∷ left
 after-one m [] u left e = absurd (not-read [] u left e)
@@ -105,30 +115,30 @@ after-one m (b ∷ s) u left e = go (eqb m b) refl e
     go false f e = absurd (not-read (b ∷ s) u left e)
 
 -- a number's text, and the mark behind it
-then-text : (s : List ℕ) (i m v n : ℕ) → ReadsFrom (numberThen m) i s v n → (w : ℕ) × (x : List ℕ) × (drop i s ≡ (x ++ (m ∷ [])) ++ drop n s) × NumberText x w
+pub then-text : (m v : ℕ) (s left : List ℕ) → numberThen m s ≡ read v left → (w : ℕ) × (x : List ℕ) × (s ≡ (x ++ (m ∷ [])) ++ left) × NumberText x w
 unfolding numberThen
-then-text s i m v n r =
-    let a = bind-read (number (drop i s)) (λ w. after (m ∷ []) >> pure w) v (drop n s) (r .1) in
-    let b = bind-read (after (m ∷ []) (a .1)) (λ u. pure (a .0)) v (drop n s) (a .3) in
-    let x = number-sound (drop i s) (a .0) (a .1) (a .2) in
-    let e : a .1 ≡ m ∷ drop n s = after-one m (a .1) (b .0) (b .1) (b .2) ∙ ap (λ (l : List ℕ). m ∷ l) (read-left (a .0) v (b .1) (drop n s) (b .3)) in
-    (a .0, x .0, x .1 ∙ ap (λ (l : List ℕ). x .0 ++ l) e ∙ sym (append-assoc (x .0) (m ∷ []) (drop n s)), x .2)
+then-text m v s left r =
+    let a = bind-read (number s) (λ w. after (m ∷ []) >> pure w) v left r in
+    let b = bind-read (after (m ∷ []) (a .1)) (λ u. pure (a .0)) v left (a .3) in
+    let x = number-sound s (a .0) (a .1) (a .2) in
+    let e : a .1 ≡ m ∷ left = after-one m (a .1) (b .0) (b .1) (b .2) ∙ ap (λ (l : List ℕ). m ∷ l) (read-left (a .0) v (b .1) left (b .3)) in
+    (a .0, x .0, x .1 ∙ ap (λ (l : List ℕ). x .0 ++ l) e ∙ sym (append-assoc (x .0) (m ∷ []) left), x .2)
 
 module _ (s : List ℕ) (i m v n : ℕ) (inside : i ≤ length s) (r : ReadsFrom (numberThen m) i s v n) where
   -- a number and its mark
   pub then-ahead : i < n
   then-ahead =
-      let x = then-text s i m v n r in
+      let x = then-text m v (drop i s) (drop n s) (r .1) in
       omega (arith, text-is s i n (x .1 ++ (m ∷ [])) inside (r .0) (x .2) .0, length-append (x .1) (m ∷ []))
 
   pub then-passed : (to : ℕ) → isDigit m ≡ false → n ≤ to → to ≤ length s → numbersIn false s i to ≡ i ∷ numbersIn false s n to
   then-passed to d h l =
-      let x = then-text s i m v n r in
+      let x = then-text m v (drop i s) (drop n s) (r .1) in
       let y = slice n to s in
       let k = text-is s i n (x .1 ++ (m ∷ [])) inside (r .0) (x .2) in
       let e : suc (i + length (x .1)) ≡ n = omega (arith, k .0, length-append (x .1) (m ∷ [])) in
       let f : slice i to s ≡ x .1 ++ (m ∷ y)
-      = split s i n to (omega (arith, then-ahead)) h l ∙ ap (λ (z : List ℕ). z ++ y) (k .1) ∙ append-assoc (x .1) (m ∷ []) y in
+      = text-ahead s i n (x .1 ++ (m ∷ [])) inside (x .2) to (omega (arith, then-ahead)) h l ∙ append-assoc (x .1) (m ∷ []) y in
       let g : numberColumns true (i + length (x .1)) (m ∷ y) ≡ numberColumns false (suc (i + length (x .1))) y = rw d refl in
       ap (numberColumns false i) f ∙ text-passed i (m ∷ y) (x .3) ∙ ap (λ (z : List ℕ). i ∷ z) (g ∙ ap (λ (j : ℕ). numberColumns false j y) e)
 

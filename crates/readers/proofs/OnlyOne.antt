@@ -8,16 +8,20 @@ use native.Mathlib.Omega.{arith}
 use lib.ListN.{length, take, drop, length-drop}
 use Rattle.rules.specs.Reader.{Reader, number}
 use Rattle.rules.specs.Halves.{Kind as RuleKind, copy, pack, unpack, inputSize, outputSize, Field as RuleField}
-use Rattle.rules.specs.Grammar.{Mode as RuleMode, tc, tf, tr, trf, Format as RuleFormat, ff, fv, fu, Size as RuleSize, two, one, Parameter as RuleParameter, modeIs, formatIs, inputIs, outputIs, rewindIn, rewindOut, firstIs, field, cv, parameter, item}
+use Rattle.rules.specs.Grammar.{Mode as RuleMode, tc, tf, tr, trf, Format as RuleFormat, ff, fv, fu, Size as RuleSize, two, one, Input as RuleInput, plain, keyed, Parameter as RuleParameter, modeIs, formatIs, inputIs, outputIs, rewindIn, rewindOut, firstIs, Part as RulePart, inData, inKey, CardField, field, cv, parameter, item}
 use Rattle.rules.specs.Words.{numberColumns}
 use Rattle.rules.proofs.ReaderLaws.{not-read, read-value, read-left}
-use Rattle.terms.specs.Meaning.{modeOf, formatOf, sizeOf, kindOf, fieldOf}
+use Rattle.terms.specs.Meaning.{modeOf, formatOf, sizeOf, inputOf, kindOf, fieldOf, partOf, cardField}
 use Rattle.terms.specs.declared.Mode.{Mode}
 use Rattle.terms.specs.declared.Mode.the-variants.{TC, TF, TR, TRF}
 use Rattle.terms.specs.declared.Format.{Format}
 use Rattle.terms.specs.declared.Format.the-variants.{FF, FV, FU}
 use Rattle.terms.specs.declared.Size.{Size}
 use Rattle.terms.specs.declared.Size.the-variants.{Two, One}
+use Rattle.terms.specs.declared.Input.{Input}
+use Rattle.terms.specs.declared.Input.the-variants.{Plain, Keyed}
+use Rattle.terms.specs.declared.Part.{Part}
+use Rattle.terms.specs.declared.Part.the-variants.{Data, Key}
 use Rattle.terms.specs.declared.Kind.{Kind}
 use Rattle.terms.specs.declared.Kind.the-variants.{Copy, Pack, Unpack}
 use Rattle.terms.specs.declared.Field.{Field}
@@ -92,10 +96,18 @@ size-back : (z : Size) → sizeBack (sizeOf z) ≡ z
 size-back (Two n m) = refl
 size-back (One g) = refl
 
+abbrev inputBack : RuleInput → Input
+inputBack (plain z) = Plain (sizeBack z)
+inputBack (keyed k d) = Keyed k d
+
+input-back : (i : Input) → inputBack (inputOf i) ≡ i
+input-back (Plain z) = ap Plain (size-back z)
+input-back (Keyed k d) = refl
+
 abbrev parameterBack : RuleParameter → UParameter
 parameterBack (modeIs m) = ModeIs (modeBack m)
 parameterBack (formatIs f) = FormatIs (formatBack f)
-parameterBack (inputIs z) = InputIs (sizeBack z)
+parameterBack (inputIs i) = InputIs (inputBack i)
 parameterBack (outputIs z) = OutputIs (sizeBack z)
 parameterBack rewindIn = RewindIn
 parameterBack rewindOut = RewindOut
@@ -104,7 +116,7 @@ parameterBack (firstIs n) = FirstIs n
 parameter-back : (u : UParameter) → parameterBack (parameterOf u) ≡ u
 parameter-back (ModeIs m) = ap ModeIs (mode-back m)
 parameter-back (FormatIs f) = ap FormatIs (format-back f)
-parameter-back (InputIs z) = ap InputIs (size-back z)
+parameter-back (InputIs i) = ap InputIs (input-back i)
 parameter-back (OutputIs z) = ap OutputIs (size-back z)
 parameter-back RewindIn = refl
 parameter-back RewindOut = refl
@@ -149,24 +161,41 @@ field-back f h =
 pub field-once : (f g : Field) → OneSize (f .kind) (f .input) (f .output) → OneSize (g .kind) (g .input) (g .output) → fieldOf f ≡ fieldOf g → f ≡ g
 field-once f g a b e = sym (field-back f a) ∙ ap fieldBack e ∙ field-back g b
 
-field-value : (f g : RuleField) → field f ≡ field g → f ≡ g
+abbrev partBack : RulePart → Part
+partBack inData = Data
+partBack inKey = Key
+
+part-back : (p : Part) → partBack (partOf p) ≡ p
+part-back Data = refl
+part-back Key = refl
+
+-- a field as it stands on its card
+pub card-once : (p q : Part) (f g : Field) → OneSize (f .kind) (f .input) (f .output) → OneSize (g .kind) (g .input) (g .output) → cardField p f ≡ cardField q g
+    → (p ≡ q) × (f ≡ g)
+unfolding cardField
+card-once p q f g a b e =
+    (sym (part-back p) ∙ ap (λ (c : CardField). partBack (c .part)) e ∙ part-back q, field-once f g a b (ap (λ (c : CardField). c .field) e))
+
+field-value : (f g : CardField) → field f ≡ field g → f ≡ g
 field-value f g e = cc
 
-not-cv : (f : RuleField) → field f ≡ cv → ⊥
+not-cv : (f : CardField) → field f ≡ cv → ⊥
 not-cv f e = let z : _≡_ {A = ℕ} 0 1 = cc in omega arith
 
 pub item-only-one : (s : List ℕ) (a b : ItemRead) → ItemSays s a → ItemSays s b → a ≡ b
-item-only-one s (IsField f a n) (IsField g b m) r q =
-    let e = one-read item s (field (fieldOf f)) (field (fieldOf g)) n m (r .0) (q .0) in
-    let h = field-once f g (r .1) (q .1) (field-value (fieldOf f) (fieldOf g) (e .0)) in
+item-only-one s (IsField o f a n) (IsField p g b m) r q =
+    let e = one-read item s (field (cardField o f)) (field (cardField p g)) n m (r .0) (q .0) in
+    let h = card-once o p f g (r .1) (q .1) (field-value (cardField o f) (cardField p g) (e .0)) in
+    let i = h .0 in
+    let j = h .1 in
     let k = e .1 in
-    let p : a ≡ b = r .2 ∙ ap (λ (j : ℕ). placesIn (numberColumns false 0 (take j s))) k ∙ sym (q .2) in
+    let l : a ≡ b = r .2 ∙ ap (λ (j : ℕ). placesIn (numberColumns false 0 (take j s))) k ∙ sym (q .2) in
     cc
-item-only-one s (IsField f a n) (IsCV m) r q = absurd (not-cv (fieldOf f) (one-read item s (field (fieldOf f)) cv n m (r .0) q .0))
-item-only-one s (IsField f a n) (NoItem m) r q = absurd (not-both item s (field (fieldOf f)) n m (r .0) q)
-item-only-one s (IsCV n) (IsField g b m) r q = absurd (not-cv (fieldOf g) (one-read item s (field (fieldOf g)) cv m n (q .0) r .0))
+item-only-one s (IsField o f a n) (IsCV m) r q = absurd (not-cv (cardField o f) (one-read item s (field (cardField o f)) cv n m (r .0) q .0))
+item-only-one s (IsField o f a n) (NoItem m) r q = absurd (not-both item s (field (cardField o f)) n m (r .0) q)
+item-only-one s (IsCV n) (IsField p g b m) r q = absurd (not-cv (cardField p g) (one-read item s (field (cardField p g)) cv m n (q .0) r .0))
 item-only-one s (IsCV n) (IsCV m) r q = ap IsCV (one-read item s cv cv n m r q .1)
 item-only-one s (IsCV n) (NoItem m) r q = absurd (not-both item s cv n m r q)
-item-only-one s (NoItem n) (IsField g b m) r q = absurd (not-both item s (field (fieldOf g)) m n (q .0) r)
+item-only-one s (NoItem n) (IsField p g b m) r q = absurd (not-both item s (field (cardField p g)) m n (q .0) r)
 item-only-one s (NoItem n) (IsCV m) r q = absurd (not-both item s cv m n q r)
 item-only-one s (NoItem n) (NoItem m) r q = ap NoItem (one-stop item s n m r q)

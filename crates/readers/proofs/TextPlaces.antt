@@ -7,14 +7,16 @@ use native.Mathlib.Omega.{arith}
 use lib.ListN.{length, take, drop}
 use Rattle.rules.specs.Base.{ascii}
 use Rattle.rules.specs.Halves.{Kind as RuleKind}
-use Rattle.rules.specs.Grammar.{Size as RuleSize, two, one, Parameter as RuleParameter, modeIs, formatIs, inputIs, outputIs, rewindIn, rewindOut, firstIs, Item, field, cv, parameter, item}
+use Rattle.rules.specs.Grammar.{Size as RuleSize, two, one, Input as RuleInput, plain, keyed, Parameter as RuleParameter, modeIs, formatIs, inputIs, outputIs, rewindIn, rewindOut, firstIs, Item, field, cv, Start, parameter, item}
 use Rattle.rules.specs.Words.{numberColumns}
-use Rattle.rules.specs.Texts.{NumberText, SizeText, ParameterText, KindText, ItemText}
+use Rattle.rules.specs.Texts.{NumberText, SizeText, InputText, ParameterText, KindText, StartText, ItemText}
 use Rattle.rules.proofs.NumberLaws.{Ends, at-end, before}
 use Rattle.rules.proofs.NumberColumns.{columns-number}
 use Rattle.rules.proofs.GrammarLaws.{comma-ends, parameter-sound, item-sound}
-use Rattle.terms.specs.Meaning.{kindOf, fieldOf}
+use Rattle.terms.specs.Meaning.{kindOf, fieldOf, cardField}
 use Rattle.terms.specs.declared.Size.the-variants.{Two, One}
+use Rattle.terms.specs.declared.Input.the-variants.{Plain, Keyed}
+use Rattle.terms.specs.declared.Part.{Part}
 use Rattle.terms.specs.declared.Kind.{Kind}
 use Rattle.terms.specs.declared.Kind.the-variants.{Copy, Pack, Unpack}
 use Rattle.terms.specs.declared.Field.{Field}
@@ -25,7 +27,7 @@ use Rattle.readers.specs.declared.Places.{Places}
 use Rattle.readers.proofs.NumberPlaces.{text-is}
 use Rattle.readers.proofs.OnlyOne.{kindBack}
 
-close-ends : (s : List ℕ) → Ends (41 ∷ s)
+pub close-ends : (s : List ℕ) → Ends (41 ∷ s)
 close-ends s = before refl refl
 
 -- a number at the end of a text
@@ -38,10 +40,14 @@ abbrev sizePlaces : RuleSize → ℕ → List ℕ
 sizePlaces (two n m) second = 3 ∷ second ∷ []
 sizePlaces (one g) second = 3 ∷ []
 
+abbrev inputPlaces : RuleInput → ℕ → List ℕ
+inputPlaces (plain z) second = sizePlaces z second
+inputPlaces (keyed k d) second = 5 ∷ second ∷ []
+
 abbrev pub rulePlaces : RuleParameter → ℕ → List ℕ
 rulePlaces (modeIs m) second = []
 rulePlaces (formatIs f) second = []
-rulePlaces (inputIs z) second = sizePlaces z second
+rulePlaces (inputIs i) second = inputPlaces i second
 rulePlaces (outputIs z) second = sizePlaces z second
 rulePlaces rewindIn second = []
 rulePlaces rewindOut second = []
@@ -56,6 +62,15 @@ size-text (SizeText.pair {x = a} {y = b} n m) =
     )
 size-text (SizeText.single n) = (0, columns-number 3 n (close-ends []))
 
+input-text : {x : List ℕ} {i : RuleInput} → InputText x i → (second : ℕ) × (numberColumns false 2 x ≡ inputPlaces i second)
+input-text (InputText.with-key {x = a} {y = b} n m) =
+    let e : ascii "(K=" ++ a ++ ascii ",D=" ++ b ++ ascii ")" ≡ 40 ∷ 75 ∷ 61 ∷ (a ++ 44 ∷ 68 ∷ 61 ∷ (b ++ 41 ∷ [])) = simp append-assoc in
+    let k = suc (suc (suc (5 + length a))) in (
+      k,
+      ap (numberColumns false 2) e ∙ columns-number 5 n (comma-ends (68 ∷ 61 ∷ (b ++ 41 ∷ []))) ∙ ap (λ (l : List ℕ). 5 ∷ l) (columns-number k m (close-ends [])),
+    )
+input-text (InputText.no-key z) = size-text z
+
 parameter-text : {x : List ℕ} {p : RuleParameter} → ParameterText x p → (second : ℕ) × (numberColumns false 0 x ≡ rulePlaces p second)
 parameter-text ParameterText.TC = (0, refl)
 parameter-text ParameterText.TF = (0, refl)
@@ -64,7 +79,7 @@ parameter-text ParameterText.TRF = (0, refl)
 parameter-text ParameterText.FF = (0, refl)
 parameter-text ParameterText.FV = (0, refl)
 parameter-text ParameterText.FU = (0, refl)
-parameter-text (ParameterText.A= z) = size-text z
+parameter-text (ParameterText.A= i) = input-text i
 parameter-text (ParameterText.B= z) = size-text z
 parameter-text ParameterText.IR = (0, refl)
 parameter-text ParameterText.IN = (0, refl)
@@ -89,8 +104,9 @@ module _ (s : List ℕ) (n : ℕ) where
   rule-again : (p : RuleParameter) (k : ℕ) → rulePlaces p (secondIn (rulePlaces p k)) ≡ rulePlaces p k
   rule-again (modeIs m) k = refl
   rule-again (formatIs f) k = refl
-  rule-again (inputIs (two n m)) k = refl
-  rule-again (inputIs (one g)) k = refl
+  rule-again (inputIs (plain (two n m))) k = refl
+  rule-again (inputIs (plain (one g))) k = refl
+  rule-again (inputIs (keyed l d)) k = refl
   rule-again (outputIs (two n m)) k = refl
   rule-again (outputIs (one g)) k = refl
   rule-again rewindIn k = refl
@@ -100,8 +116,9 @@ module _ (s : List ℕ) (n : ℕ) where
   rule-same : (u : UParameter) (k : ℕ) → parameterPlaces u k ≡ rulePlaces (parameterOf u) k
   rule-same (ModeIs m) k = refl
   rule-same (FormatIs f) k = refl
-  rule-same (InputIs (Two n m)) k = refl
-  rule-same (InputIs (One g)) k = refl
+  rule-same (InputIs (Plain (Two n m))) k = refl
+  rule-same (InputIs (Plain (One g))) k = refl
+  rule-same (InputIs (Keyed l d)) k = refl
   rule-same (OutputIs (Two n m)) k = refl
   rule-same (OutputIs (One g)) k = refl
   rule-same RewindIn k = refl
@@ -116,10 +133,16 @@ module _ (s : List ℕ) (n : ℕ) where
 
 -- ---- a field
 
-pub behind-places : (k : Kind) (first second t : ℕ) → kindPlaces k first second ++ (t ∷ []) ≡ behindPlaces k (record { input = first; output = second; t = t })
-behind-places Copy first second t = refl
-behind-places Pack first second t = refl
-behind-places Unpack first second t = refl
+pub behind-places : (k : Kind) (r first second t : ℕ) → kindPlaces k first second ++ (t ∷ []) ≡ behindPlaces k (record { r = r; input = first; output = second; t = t })
+behind-places Copy r first second t = refl
+behind-places Pack r first second t = refl
+behind-places Unpack r first second t = refl
+
+start-text : {x w : List ℕ} {s : Start} → StartText x s → Ends w → (place : ℕ) × (d : ℕ) × (numberColumns false 0 (x ++ w) ≡ place ∷ numberColumns false d w)
+start-text (StartText.of-data {x = x} n) e = (0, 0 + length x, columns-number 0 n e)
+start-text {w = w} (StartText.of-key {x = x} n) e =
+    let f : (ascii "(K," ++ x ++ ascii ")") ++ w ≡ 40 ∷ 75 ∷ 44 ∷ (x ++ 41 ∷ w) = simp append-assoc in
+    (3, suc (3 + length x), ap (numberColumns false 0) f ∙ columns-number 3 n (close-ends w))
 
 kind-text : (c : ℕ) {x w : List ℕ} {k : RuleKind} → KindText x k → Ends w
     → (first : ℕ) × (second : ℕ) × (d : ℕ) × (numberColumns false c (x ++ w) ≡ kindPlaces (kindBack k) first second ++ numberColumns false d w)
@@ -144,17 +167,18 @@ kind-text c {w = w} (KindText.unpacks {x = a} {y = b} n m) e =
     )
 
 abbrev ItemPlaces : Item → List ℕ → Type 0
-ItemPlaces (field f) cs = (q : Places) × (cs ≡ fieldPlaces (kindBack (f .kind)) q)
+ItemPlaces (field f) cs = (q : Places) × (cs ≡ fieldPlaces (kindBack (f .field .kind)) q)
 ItemPlaces cv cs = Unit
 
 item-text : {x : List ℕ} {i : Item} → ItemText x i → ItemPlaces i (numberColumns false 0 x)
 item-text (ItemText.aField {x = x} {y = y} {z = z} {k = k} n m t) =
     let e : x ++ ascii "," ++ y ++ ascii "," ++ z ≡ x ++ 44 ∷ (y ++ 44 ∷ z) = simp append-assoc in
-    let c = kind-text (suc (0 + length x)) m (comma-ends z) in
+    let b = start-text n (comma-ends (y ++ 44 ∷ z)) in
+    let c = kind-text (suc (b .1)) m (comma-ends z) in
     let l : numberColumns false (c .2) (44 ∷ z) ≡ suc (c .2) ∷ [] = last-number (suc (c .2)) t in (
-      record { input = c .0; output = c .1; t = suc (c .2) },
-      ap (numberColumns false 0) e ∙ columns-number 0 n (comma-ends (y ++ 44 ∷ z))
-          ∙ ap (λ (l : List ℕ). 0 ∷ l) (c .3 ∙ ap (λ (l : List ℕ). kindPlaces (kindBack k) (c .0) (c .1) ++ l) l ∙ behind-places (kindBack k) (c .0) (c .1) (suc (c .2))),
+      record { r = b .0; input = c .0; output = c .1; t = suc (c .2) },
+      ap (numberColumns false 0) e ∙ b .2
+          ∙ ap (λ (l : List ℕ). b .0 ∷ l) (c .3 ∙ ap (λ (l : List ℕ). kindPlaces (kindBack k) (c .0) (c .1) ++ l) l ∙ behind-places (kindBack k) (b .0) (c .0) (c .1) (suc (c .2))),
     )
 item-text ItemText.CV = tt
 
@@ -168,12 +192,12 @@ field-again Copy q = refl
 field-again Pack q = refl
 field-again Unpack q = refl
 
-pub item-numbers : (s : List ℕ) (f : Field) (p : Places) (n : ℕ) → Reads item s (field (fieldOf f)) n → p ≡ placesIn (numberColumns false 0 (take n s))
+pub item-numbers : (s : List ℕ) (part : Part) (f : Field) (p : Places) (n : ℕ) → Reads item s (field (cardField part f)) n → p ≡ placesIn (numberColumns false 0 (take n s))
     → numberColumns false 0 (take n s) ≡ fieldPlaces (f .kind) p
-unfolding fieldOf
-item-numbers s f p n r e =
-    let x = item-sound s (field (fieldOf f)) (drop n s) (r .1) in
-    let y : ItemPlaces (field (fieldOf f)) (numberColumns false 0 (x .0)) = item-text (x .2) in
+unfolding cardField fieldOf
+item-numbers s part f p n r e =
+    let x = item-sound s (field (cardField part f)) (drop n s) (r .1) in
+    let y : ItemPlaces (field (cardField part f)) (numberColumns false 0 (x .0)) = item-text (x .2) in
     let c : numberColumns false 0 (take n s) ≡ fieldPlaces (f .kind) (y .0)
     = ap (numberColumns false 0) (text-is s 0 n (x .0) (omega arith) (r .0) (x .1) .1) ∙ y .1 ∙ ap (λ (k : Kind). fieldPlaces k (y .0)) (kind-same (f .kind) (f .input) (f .output)) in
     c ∙ sym (ap (fieldPlaces (f .kind)) (e ∙ ap placesIn c) ∙ field-again (f .kind) (y .0))

@@ -7,10 +7,11 @@ use lib.ListN.{length, take, drop}
 use lib.Seq.{slice}
 use Rattle.rules.specs.Reader.{read, stopped, Reader, isDigit, number}
 use Rattle.rules.specs.Halves.{Kind as RuleKind}
-use Rattle.rules.specs.Grammar.{Size as RuleSize, Parameter as RuleParameter, modeIs, formatIs, inputIs, outputIs, rewindIn, rewindOut, firstIs, Item, field, cv, parameter, item}
+use Rattle.rules.specs.Grammar.{Size as RuleSize, Input as RuleInput, Parameter as RuleParameter, modeIs, formatIs, inputIs, outputIs, rewindIn, rewindOut, firstIs, Item, field, cv, parameter, item}
 use Rattle.rules.specs.Words.{numberColumns}
-use Rattle.terms.specs.Meaning.{modeOf, formatOf, sizeOf, kindOf, fieldOf}
+use Rattle.terms.specs.Meaning.{modeOf, formatOf, sizeOf, inputOf, kindOf, fieldOf, cardField}
 use Rattle.terms.specs.declared.Size.the-variants.{Two, One}
+use Rattle.terms.specs.declared.Input.the-variants.{Plain, Keyed}
 use Rattle.terms.specs.declared.Kind.{Kind}
 use Rattle.terms.specs.declared.Field.{Field}
 use Rattle.terms.specs.declared.Kind.the-variants.{Copy, Pack, Unpack}
@@ -18,6 +19,8 @@ use Rattle.readers.specs.declared.NumberRead.{NumberRead}
 use Rattle.readers.specs.declared.NumberRead.the-variants.{IsNumber, NoNumber}
 use Rattle.readers.specs.declared.SizeRead.{SizeRead}
 use Rattle.readers.specs.declared.SizeRead.the-variants.{IsSize, NoSize}
+use Rattle.readers.specs.declared.InputRead.{InputRead}
+use Rattle.readers.specs.declared.InputRead.the-variants.{IsInput, NoInput}
 use Rattle.readers.specs.declared.KindRead.{KindRead}
 use Rattle.readers.specs.declared.KindRead.the-variants.{IsKind, NoKind}
 use Rattle.readers.specs.declared.UParameter.{UParameter}
@@ -78,11 +81,11 @@ secondIn (a ∷ more) = firstIn more
 
 -- where the numbers of a field begin
 abbrev pub placesIn : List ℕ → Places
-placesIn [] = record { input = 0; output = 0; t = 0 }
-placesIn (r ∷ []) = record { input = 0; output = 0; t = 0 }
-placesIn (r ∷ n ∷ []) = record { input = 0; output = 0; t = 0 }
-placesIn (r ∷ s ∷ t ∷ []) = record { input = s; output = s; t = t }
-placesIn (r ∷ n ∷ m ∷ t ∷ more) = record { input = n; output = m; t = t }
+placesIn [] = record { r = 0; input = 0; output = 0; t = 0 }
+placesIn (r ∷ []) = record { r = r; input = 0; output = 0; t = 0 }
+placesIn (r ∷ n ∷ []) = record { r = r; input = 0; output = 0; t = 0 }
+placesIn (r ∷ s ∷ t ∷ []) = record { r = r; input = s; output = s; t = t }
+placesIn (r ∷ n ∷ m ∷ t ∷ more) = record { r = r; input = n; output = m; t = t }
 
 -- ---- a parameter
 
@@ -90,10 +93,14 @@ abbrev pub SizeFrom : Bool → (List ℕ → ℕ) → Reader RuleSize → ℕ �
 SizeFrom digit place p from s (IsSize z second n) = ReadsFrom p from s (sizeOf z) n × (from ≤ n) × (second ≡ place (numbersIn digit s from n))
 SizeFrom digit place p from s (NoSize a) = StopsFrom p from s a
 
+abbrev pub InputFrom : (List ℕ → ℕ) → Reader RuleInput → ℕ → List ℕ → InputRead → Type 0
+InputFrom place p from s (IsInput i second n) = ReadsFrom p from s (inputOf i) n × (from ≤ n) × (second ≡ place (numbersIn false s from n))
+InputFrom place p from s (NoInput a) = StopsFrom p from s a
+
 abbrev pub parameterOf : UParameter → RuleParameter
 parameterOf (ModeIs m) = modeIs (modeOf m)
 parameterOf (FormatIs f) = formatIs (formatOf f)
-parameterOf (InputIs z) = inputIs (sizeOf z)
+parameterOf (InputIs i) = inputIs (inputOf i)
 parameterOf (OutputIs z) = outputIs (sizeOf z)
 parameterOf RewindIn = rewindIn
 parameterOf RewindOut = rewindOut
@@ -107,8 +114,9 @@ ParameterSays s (NoParameter a) = Stops parameter s a
 abbrev pub parameterPlaces : UParameter → ℕ → List ℕ
 parameterPlaces (ModeIs m) second = []
 parameterPlaces (FormatIs f) second = []
-parameterPlaces (InputIs (Two n m)) second = 3 ∷ second ∷ []
-parameterPlaces (InputIs (One g)) second = 3 ∷ []
+parameterPlaces (InputIs (Plain (Two n m))) second = 3 ∷ second ∷ []
+parameterPlaces (InputIs (Plain (One g))) second = 3 ∷ []
+parameterPlaces (InputIs (Keyed k d)) second = 5 ∷ second ∷ []
 parameterPlaces (OutputIs (Two n m)) second = 3 ∷ second ∷ []
 parameterPlaces (OutputIs (One g)) second = 3 ∷ []
 parameterPlaces RewindIn second = []
@@ -140,27 +148,28 @@ KindFrom p from s (IsKind k input output first second n) =
     ReadsFrom p from s (kindOf k input output) n × OneSize k input output × (from ≤ n) × OneSize k first second × (numbersIn false s from n ≡ kindPlaces k first second)
 KindFrom p from s (NoKind a) = StopsFrom p from s a
 
--- the places of a field's numbers, and of those behind r
+-- the places of a field's numbers behind r, and of all of them
 abbrev pub behindPlaces : Kind → Places → List ℕ
 behindPlaces Copy p = p .input ∷ p .t ∷ []
 behindPlaces Pack p = p .input ∷ p .output ∷ p .t ∷ []
 behindPlaces Unpack p = p .input ∷ p .output ∷ p .t ∷ []
 
 abbrev pub fieldPlaces : Kind → Places → List ℕ
-fieldPlaces k p = 0 ∷ behindPlaces k p
+fieldPlaces k p = p .r ∷ behindPlaces k p
 
 abbrev pub fieldWith : Kind → ℕ → ℕ → ℕ → ℕ → Field
 fieldWith k r input output t = record { kind = k; r = r; input = input; output = output; t = t }
 
-abbrev pub ItemFrom : Reader Item → ℕ → List ℕ → ItemRead → Type 0
-ItemFrom p from s (IsField f q n) =
-    ReadsFrom p from s (field (fieldOf f)) n × OneSize (f .kind) (f .input) (f .output)
-    × (from ≤ n) × OneSize (f .kind) (q .input) (q .output) × (numbersIn false s from n ≡ behindPlaces (f .kind) q)
-ItemFrom p from s (IsCV n) = ReadsFrom p from s cv n
-ItemFrom p from s (NoItem a) = StopsFrom p from s a
+-- from a place on, where r stands at another
+abbrev pub ItemFrom : Reader Item → ℕ → ℕ → List ℕ → ItemRead → Type 0
+ItemFrom p from place s (IsField part f q n) =
+    ReadsFrom p from s (field (cardField part f)) n × OneSize (f .kind) (f .input) (f .output)
+    × (from ≤ n) × OneSize (f .kind) (q .input) (q .output) × (numbersIn false s from n ≡ behindPlaces (f .kind) q) × (q .r ≡ place)
+ItemFrom p from place s (IsCV n) = ReadsFrom p from s cv n
+ItemFrom p from place s (NoItem a) = StopsFrom p from s a
 
 abbrev pub ItemSays : List ℕ → ItemRead → Type 0
-ItemSays s (IsField f p n) =
-    Reads item s (field (fieldOf f)) n × OneSize (f .kind) (f .input) (f .output) × (p ≡ placesIn (numberColumns false 0 (take n s)))
+ItemSays s (IsField part f p n) =
+    Reads item s (field (cardField part f)) n × OneSize (f .kind) (f .input) (f .output) × (p ≡ placesIn (numberColumns false 0 (take n s)))
 ItemSays s (IsCV n) = Reads item s cv n
 ItemSays s (NoItem a) = Stops item s a

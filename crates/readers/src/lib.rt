@@ -7,14 +7,16 @@ ghost use mathlib.Core.Bool.{true, false};
 ghost use Prim.Native.Nat.{_≤_};
 ghost use lib.ListN.{length, getD};
 ghost use Rattle.rules.specs.Reader.{number as ruleNumber};
-ghost use Rattle.rules.specs.Grammar.{sizeReader, kindReader};
-ghost use Rattle.rules.specs.TextParts.{numberThen, sizeBehind, sizesBehind, fieldBehind};
-ghost use Rattle.terms.specs.Meaning.{kindOf};
-ghost use Rattle.readers.specs.Meaning.{digitValue, NumberSays, NumberFrom, firstIn, secondIn, SizeFrom, KindFrom, Sized, ParameterSays, ItemSays, fieldWith, ItemFrom};
+ghost use Rattle.rules.specs.Grammar.{sizeReader, inputReader, start, kindReader};
+ghost use Rattle.rules.specs.TextParts.{numberThen, sizeBehind, dataBehind, keyedBehind, keyThen, sizesBehind, fieldBehind};
+ghost use Rattle.terms.specs.Meaning.{partOf, kindOf};
+ghost use Rattle.readers.specs.Meaning.{digitValue, NumberSays, NumberFrom, firstIn, secondIn, SizeFrom, InputFrom, KindFrom, Sized, ParameterSays, ItemSays, fieldWith, ItemFrom};
 use terms::Field;
 use terms::Format;
+use terms::Input;
 use terms::Kind;
 use terms::Mode;
+use terms::Part;
 use terms::Size;
 
 // The marks and letters of the grammar, as `peek` answers them.
@@ -32,9 +34,13 @@ const LETTER_B: usize = b'B' as usize;
 
 const LETTER_C: usize = b'C' as usize;
 
+const LETTER_D: usize = b'D' as usize;
+
 const LETTER_F: usize = b'F' as usize;
 
 const LETTER_I: usize = b'I' as usize;
+
+const LETTER_K: usize = b'K' as usize;
 
 const LETTER_N: usize = b'N' as usize;
 
@@ -68,6 +74,18 @@ enum SizeRead {
     },
 }
 
+// What A says, likewise.
+enum InputRead {
+    IsInput {
+        input: Input,
+        second: usize,
+        used: usize,
+    },
+    NoInput {
+        at: usize,
+    },
+}
+
 // The middle of an item, the places of its two sizes (for a copy both are s), and the place behind it.
 enum KindRead {
     IsKind {
@@ -87,7 +105,7 @@ enum KindRead {
 pub enum UParameter {
     ModeIs(Mode),
     FormatIs(Format),
-    InputIs(Size),
+    InputIs(Input),
     OutputIs(Size),
     RewindIn,
     RewindOut,
@@ -106,16 +124,18 @@ pub enum ParameterRead {
     },
 }
 
-// Where the numbers of a field begin, behind r: its input size, its output size (for a copy both are s) and t.
+// Where the numbers of a field begin: r, its input size, its output size (for a copy both are s) and t.
 pub struct Places {
+    pub r: usize,
     pub input: usize,
     pub output: usize,
     pub t: usize,
 }
 
-// An item of an FS card: a field or CV. Places count from 0 at the item's first byte, like what was taken.
+// An item of an FS card: a field, r counting in its part, or CV. Places count from 0 at the item's first byte, like what was taken.
 pub enum ItemRead {
     IsField {
+        part: Part,
         field: Field,
         places: Places,
         used: usize,
@@ -320,7 +340,107 @@ fn format(s: &[u8]) -> ParameterRead
     }
 }
 
-// `A=` or `B=` and a size: the text begins with A or B.
+// `D=l)` behind `(K=l,`.
+fn data_behind(s: &[u8], from: usize, key: usize) -> InputRead
+    requires { ⌜ from ≤ length (now s) ⌝ }
+    ensures { λ r. ⌜ InputFrom firstIn (dataBehind key) from (now (s .entry)) r ⌝ }
+{
+    let letter = peek(s, from);
+    if letter != LETTER_D {
+        return InputRead::NoInput { at: from };
+    }
+    let sign = peek(s, from + 1);
+    if sign != EQUALS {
+        return InputRead::NoInput { at: from + 1 };
+    }
+    let start = from + 2;
+    let n = number_then(s, start, b')');
+    match n {
+        NumberRead::IsNumber { value: data, used } => InputRead::IsInput {
+            input: Input::Keyed { key, data },
+            second: start,
+            used,
+        },
+        NumberRead::NoNumber { at } => InputRead::NoInput { at },
+    }
+}
+
+// `=l,D=l)` behind `(K`.
+fn keyed_behind(s: &[u8], from: usize) -> InputRead
+    requires { ⌜ from ≤ length (now s) ⌝ }
+    ensures { λ r. ⌜ InputFrom secondIn keyedBehind from (now (s .entry)) r ⌝ }
+{
+    let sign = peek(s, from);
+    if sign != EQUALS {
+        return InputRead::NoInput { at: from };
+    }
+    let n = number_then(s, from + 1, b',');
+    match n {
+        NumberRead::IsNumber { value, used } => data_behind(s, used, value),
+        NumberRead::NoNumber { at } => InputRead::NoInput { at },
+    }
+}
+
+// A size, or `(K=l,D=l)`.
+fn input(s: &[u8], from: usize) -> InputRead
+    requires { ⌜ from ≤ length (now s) ⌝ }
+    ensures { λ r. ⌜ InputFrom secondIn inputReader from (now (s .entry)) r ⌝ }
+{
+    let first = peek(s, from);
+    if first == OPEN {
+        let letter = peek(s, from + 1);
+        if letter == LETTER_K {
+            return keyed_behind(s, from + 2);
+        }
+    }
+    let given = size(s, from);
+    match given {
+        SizeRead::IsSize { size, second, used } => InputRead::IsInput {
+            input: Input::Plain(size),
+            second,
+            used,
+        },
+        SizeRead::NoSize { at } => InputRead::NoInput { at },
+    }
+}
+
+// What A says, behind `A=`.
+fn input_size(s: &[u8]) -> ParameterRead
+    requires { ⌜ (getD (now s) 0 256 ≡ 65) × (getD (now s) 1 256 ≡ 61) ⌝ }
+    ensures { λ r. ⌜ ParameterSays (now (s .entry)) r ⌝ }
+{
+    let given = input(s, 2);
+    match given {
+        InputRead::IsInput {
+            input,
+            second,
+            used,
+        } => ParameterRead::IsParameter {
+            parameter: UParameter::InputIs(input),
+            second,
+            used,
+        },
+        InputRead::NoInput { at } => ParameterRead::NoParameter { at },
+    }
+}
+
+// What B says, behind `B=`.
+fn output_size(s: &[u8]) -> ParameterRead
+    requires { ⌜ (getD (now s) 0 256 ≡ 66) × (getD (now s) 1 256 ≡ 61) ⌝ }
+    ensures { λ r. ⌜ ParameterSays (now (s .entry)) r ⌝ }
+{
+    let given = size(s, 2);
+    match given {
+        SizeRead::IsSize { size, second, used } => ParameterRead::IsParameter {
+            parameter: UParameter::OutputIs(size),
+            second,
+            used,
+        },
+        SizeRead::NoSize { at } => ParameterRead::NoParameter { at },
+    }
+}
+
+// `A=` or `B=` and what it says: the text begins with A or B.
 fn sizes(s: &[u8]) -> ParameterRead
     requires { ⌜ (getD (now s) 0 256 ≡ 65) ⊎ (getD (now s) 0 256 ≡ 66) ⌝ }
     ensures { λ r. ⌜ ParameterSays (now (s .entry)) r ⌝ }
@@ -330,24 +450,10 @@ fn sizes(s: &[u8]) -> ParameterRead
     if sign != EQUALS {
         return ParameterRead::NoParameter { at: 1 };
     }
-    let given = size(s, 2);
-    match given {
-        SizeRead::IsSize { size, second, used } => {
-            if letter == LETTER_A {
-                return ParameterRead::IsParameter {
-                    parameter: UParameter::InputIs(size),
-                    second,
-                    used,
-                };
-            }
-            ParameterRead::IsParameter {
-                parameter: UParameter::OutputIs(size),
-                second,
-                used,
-            }
-        }
-        SizeRead::NoSize { at } => ParameterRead::NoParameter { at },
+    if letter == LETTER_A {
+        return input_size(s);
     }
+    output_size(s)
 }
 
 // I or O and one of R, N and U: the text begins with I or O.
@@ -487,10 +593,10 @@ fn field(kind: Kind, r: usize, input: usize, output: usize, t: usize) -> Field
     }
 }
 
-// The middle, a comma and t, behind `r,`.
-fn field_behind(s: &[u8], from: usize, r: usize) -> ItemRead
+// The middle, a comma and t, behind `r,` or `(K,r),`, where r stands at this place.
+fn field_behind(s: &[u8], from: usize, part: Part, r: usize, place: usize) -> ItemRead
     requires { ⌜ from ≤ length (now s) ⌝ }
-    ensures { λ x. ⌜ ItemFrom (fieldBehind r) from (now (s .entry)) x ⌝ }
+    ensures { λ x. ⌜ ItemFrom (fieldBehind (start (partOf part) r)) from place (now (s .entry)) x ⌝ }
 {
     let middle = kind(s, from);
     match middle {
@@ -510,8 +616,10 @@ fn field_behind(s: &[u8], from: usize, r: usize) -> ItemRead
             let n = number_at(s, last);
             match n {
                 NumberRead::IsNumber { value: t, used } => ItemRead::IsField {
+                    part,
                     field: field(kind, r, input, output, t),
                     places: Places {
+                        r: place,
                         input: first,
                         output: second,
                         t: last,
@@ -525,7 +633,48 @@ fn field_behind(s: &[u8], from: usize, r: usize) -> ItemRead
     }
 }
 
-// `r,s,t`, `r,(P,n,m),t`, `r,(U,n,m),t` or `CV`.
+// `K,r),` behind `(`.
+fn key_start(s: &[u8]) -> NumberRead
+    requires { ⌜ 1 ≤ length (now s) ⌝ }
+    ensures { λ r. ⌜ NumberFrom keyThen 1 (now (s .entry)) r ⌝ }
+{
+    let letter = peek(s, 1);
+    if letter != LETTER_K {
+        return NumberRead::NoNumber { at: 1 };
+    }
+    let comma = peek(s, 2);
+    if comma != COMMA {
+        return NumberRead::NoNumber { at: 2 };
+    }
+    let n = number_then(s, 3, b')');
+    match n {
+        NumberRead::IsNumber { value, used } => {
+            let mark = peek(s, used);
+            if mark == COMMA {
+                return NumberRead::IsNumber {
+                    value,
+                    used: used + 1,
+                };
+            }
+            NumberRead::NoNumber { at: used }
+        }
+        NumberRead::NoNumber { at } => NumberRead::NoNumber { at },
+    }
+}
+
+// A field that is taken from the key: the text begins with `(`.
+fn key_field(s: &[u8]) -> ItemRead
+    requires { ⌜ getD (now s) 0 256 ≡ 40 ⌝ }
+    ensures { λ r. ⌜ ItemSays (now (s .entry)) r ⌝ }
+{
+    let n = key_start(s);
+    match n {
+        NumberRead::IsNumber { value, used } => field_behind(s, used, Part::Key, value, 3),
+        NumberRead::NoNumber { at } => ItemRead::NoItem { at },
+    }
+}
+
+// `r,s,t`, `r,(P,n,m),t`, `r,(U,n,m),t`, each also with `(K,r)` in place of r, or `CV`.
 pub fn item(s: &[u8]) -> ItemRead
     ensures { λ r. ⌜ ItemSays (now (s .entry)) r ⌝ }
 {
@@ -537,9 +686,12 @@ pub fn item(s: &[u8]) -> ItemRead
         }
         return ItemRead::NoItem { at: 1 };
     }
+    if first == OPEN {
+        return key_field(s);
+    }
     let n = number_then(s, 0, b',');
     match n {
-        NumberRead::IsNumber { value, used } => field_behind(s, used, value),
+        NumberRead::IsNumber { value, used } => field_behind(s, used, Part::Data, value, 0),
         NumberRead::NoNumber { at } => ItemRead::NoItem { at },
     }
 }

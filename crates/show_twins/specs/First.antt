@@ -13,4 +13,6 @@ askedFromFirst x =
       count = x .count;
       fs = x .fs;
       cv = x .cv;
+      key = x .key;
+      keyed = x .keyed;
     }

@@ -131,9 +131,20 @@ fn say_sizes(letter: &[u8], f: Field) {
     say(b")");
 }
 
+// Says where a field begins to read as a card does, behind a key of so many bytes.
+fn say_start(r: usize, key: usize) {
+    if r <= key {
+        say(b"(K,");
+        number(r);
+        say(b")");
+        return;
+    }
+    number(r - key);
+}
+
 // Says a field as an item of a card.
-fn say_item(f: Field) {
-    number(f.r);
+fn say_item(f: Field, key: usize) {
+    say_start(f.r, key);
     say(b",");
     let kind = f.kind;
     match kind {
@@ -146,14 +157,14 @@ fn say_item(f: Field) {
 }
 
 // Says a field by its number, its item and its card.
-pub(crate) fn say_field(deck: &[u8], fields: &[u16], field: usize) {
+pub(crate) fn say_field(deck: &[u8], key: usize, fields: &[u16], field: usize) {
     if field == 0 {
         return;
     }
     say(b"field ");
     number(field);
     say(b", ");
-    say_item(numbered(fields, field));
+    say_item(numbered(fields, field), key);
     say(b" on card ");
     number(cards::field_card(deck, field - 1));
 }

@@ -11,9 +11,9 @@ fn last_reader(fields: &[u16], half: usize) -> usize {
     fields::last_over(fields, Side::Input, half / 2 + 1)
 }
 
-fn not_read(lost: usize) {
+fn not_read(key: usize, lost: usize) {
     say(b"no field reads ");
-    half_of_byte(lost);
+    half_of_byte(lost, key);
 }
 
 fn say_digits(count: usize) {
@@ -25,27 +25,32 @@ fn say_digits(count: usize) {
     }
 }
 
-fn dropped(deck: &[u8], fields: &[u16], lost: usize) {
+fn dropped(deck: &[u8], key: usize, fields: &[u16], lost: usize) {
     let reader = last_reader(fields, lost);
-    fields::say_field(deck, fields, reader);
+    fields::say_field(deck, key, fields, reader);
     say(b", has room for ");
     say_digits(fields::digits(fields::numbered(fields, reader)));
     say(b": the digit in ");
-    half_of_byte(lost);
+    half_of_byte(lost, key);
     say(b" is dropped");
 }
 
 // The field that covers the half writes its byte last, so that it comes behind the one that reads it.
-fn covered(deck: &[u8], fields: &[u16], lost: usize) {
+fn covered(deck: &[u8], key: usize, fields: &[u16], lost: usize) {
     let reader = last_reader(fields, lost);
     let byte = fields::output_byte(fields::numbered(fields, reader), lost);
-    fields::say_field(deck, fields, reader);
+    fields::say_field(deck, key, fields, reader);
     say(b", is the last that reads ");
-    half_of_byte(lost);
+    half_of_byte(lost, key);
     say(b"; it writes it to byte ");
     number(byte);
     say(b" of the output, and ");
-    fields::say_field(deck, fields, fields::last_over(fields, Side::Output, byte));
+    fields::say_field(
+        deck,
+        key,
+        fields,
+        fields::last_over(fields, Side::Output, byte),
+    );
     say(b", covers that");
 }
 
@@ -58,10 +63,11 @@ fn tail(asked: Asked) {
 
 // Says one of the reasons 1 to 4.
 pub(crate) fn explain(deck: &[u8], asked: Asked, fields: &[u16], reason: usize, lost: usize) {
+    let key = asked.key;
     match reason {
-        1 => not_read(lost),
-        2 => dropped(deck, fields, lost),
-        3 => covered(deck, fields, lost),
+        1 => not_read(key, lost),
+        2 => dropped(deck, key, fields, lost),
+        3 => covered(deck, key, fields, lost),
         _ => tail(asked),
     }
     say(b"\n");

@@ -1,2 +1,3 @@
 pub mod PlanOf
 pub mod Entries
+pub mod Laid

@@ -7,9 +7,10 @@ use native.Mathlib.Omega.{arith}
 use lib.Dec.{eqb}
 use borrow.Author.Tests.{eqb-true, eqb-false, ne-eqb}
 use Rattle.rules.specs.Base.{joined}
-use Rattle.rules.specs.Grammar.{Item}
-use Rattle.rules.specs.Asked.{cvs, fieldsOf, Asked as RuleAsked}
+use Rattle.rules.specs.Grammar.{Size, two, Input, plain, keyed, Item}
+use Rattle.rules.specs.Asked.{cvs, Asked as RuleAsked}
 use Rattle.rules.specs.Plan.{assembled}
+use Rattle.rules.specs.Keys.{throughUtility}
 use Rattle.rules.proofs.AcceptedLaws.{cvs-append}
 use Rattle.terms.specs.Meaning.{utilityOf, cvCard, Means, planIn}
 use Rattle.terms.specs.declared.Asked.{Asked}
@@ -27,8 +28,13 @@ cv-said i l (c ∷ cards) = go (cv-said (suc i) (omega arith) cards) (eqb (cvs c
         let n = eqb-false (cvs c) 0 t in
         rw (t, ne-eqb i 0 (λ q. omega arith), ne-eqb (cvs (joined (c ∷ cards))) 0 (λ q. n (omega (arith, cvs-append c (joined cards)))))
 
-pub plan-means : (zone : ℕ) (x : Asked) (a : RuleAsked) → Means x a → planIn zone x (fieldsOf (joined (a .cards))) ≡ assembled zone a
-unfolding planIn assembled utilityOf
+-- the size that A is without keys
+abbrev sizeIn : Input → Size
+sizeIn (plain s) = s
+sizeIn (keyed k d) = two k d
+
+pub plan-means : (zone : ℕ) (x : Asked) (a : RuleAsked) → Means x a → planIn zone x (assembled zone a .fields) ≡ assembled zone a
+unfolding planIn assembled utilityOf throughUtility
 plan-means zone x a m =
     let u = m .utility in
     let c : eqb (x .cv) 0 ≡ eqb (cvs (joined (a .cards))) 0 = ap (λ (z : ℕ). eqb z 0) (m .cv) ∙ cv-said 2 (omega arith) (a .cards) in
@@ -36,9 +42,9 @@ plan-means zone x a m =
       zone = zone;
       mode = u i .mode;
       format = u i .format;
-      input = u i .input;
+      input = sizeIn (u i .input);
       output = u i .output;
       first = u i .first;
-      fields = fieldsOf (joined (a .cards));
+      fields = assembled zone a .fields;
       carries = not (c i);
     }

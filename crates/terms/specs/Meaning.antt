@@ -1,15 +1,16 @@
 -- What the types that cards name mean in the rules.
 use mathlib.Core.Path.{_≡_}
 use mathlib.Core.Bool.{cond, not}
-use mathlib.Core.List.{List, [], _∷_, _++_}
-use Prim.Native.Nat.{ℕ, suc, _-_, _≤_}
-use lib.Dec.{eqb}
+use mathlib.Core.List.{List, [], _∷_, _++_, map}
+use Prim.Native.Nat.{ℕ, suc, _+_, _-_, _≤_}
+use lib.Dec.{leb, eqb}
 use lib.ListN.{length, replicate}
 use Rattle.rules.specs.Base.{joined}
-use Rattle.rules.specs.Grammar.{Mode as RuleMode, tc, tf, tr, trf, Format as RuleFormat, ff, fv, fu, Size as RuleSize, two, one, Item}
-use Rattle.rules.specs.Halves.{Kind as RuleKind, copy, pack, unpack, Field as RuleField}
+use Rattle.rules.specs.Grammar.{Mode as RuleMode, tc, tf, tr, trf, Format as RuleFormat, ff, fv, fu, Size as RuleSize, two, one, Input as RuleInput, plain, keyed, Part as RulePart, inData, inKey, CardField, Item}
+use Rattle.rules.specs.Halves.{Kind as RuleKind, copy, pack, unpack, inputSize, Field as RuleField}
 use Rattle.rules.specs.Asked.{fieldsOf, cvs, Utility, Asked as RuleAsked}
-use Rattle.rules.specs.Plan.{Plan, recordLength, blockLength}
+use Rattle.rules.specs.Plan.{Plan, recordLength, blockLength, keyLength, keyFields}
+use Rattle.rules.specs.Keys.{throughUtility}
 use Rattle.rules.specs.Output.{cost}
 use Rattle.rules.specs.Lent.{Entry as RuleEntry}
 use Rattle.terms.specs.declared.Mode.{Mode}
@@ -18,6 +19,10 @@ use Rattle.terms.specs.declared.Format.{Format}
 use Rattle.terms.specs.declared.Format.the-variants.{FF, FV, FU}
 use Rattle.terms.specs.declared.Size.{Size}
 use Rattle.terms.specs.declared.Size.the-variants.{Two, One}
+use Rattle.terms.specs.declared.Input.{Input}
+use Rattle.terms.specs.declared.Input.the-variants.{Plain, Keyed}
+use Rattle.terms.specs.declared.Part.{Part}
+use Rattle.terms.specs.declared.Part.the-variants.{Data, Key}
 use Rattle.terms.specs.declared.Kind.{Kind}
 use Rattle.terms.specs.declared.Kind.the-variants.{Copy, Pack, Unpack}
 use Rattle.terms.specs.declared.Field.{Field}
@@ -40,6 +45,10 @@ abbrev pub sizeOf : Size → RuleSize
 sizeOf (Two n m) = two n m
 sizeOf (One g) = one g
 
+abbrev pub inputOf : Input → RuleInput
+inputOf (Plain s) = plain (sizeOf s)
+inputOf (Keyed k d) = keyed k d
+
 -- of a copy the one size is what it reads
 abbrev pub kindOf : Kind → ℕ → ℕ → RuleKind
 kindOf Copy input output = copy input
@@ -48,6 +57,23 @@ kindOf Unpack input output = unpack input output
 
 unfoldable pub fieldOf : Field → RuleField
 fieldOf f = record { r = f .r; kind = kindOf (f .kind) (f .input) (f .output); t = f .t }
+
+-- a field as it stands on its card
+abbrev pub partOf : Part → RulePart
+partOf Data = inData
+partOf Key = inKey
+
+unfoldable pub cardField : Part → Field → CardField
+cardField part f = record { part = partOf part; field = fieldOf f }
+
+-- where a field stands in the row, behind a key of so many bytes: it counts through key and data, but one that is taken from the key and runs past it, which
+-- is refused, stands past every record
+abbrev pub laidAt : ℕ → RulePart → ℕ → ℕ → ℕ
+laidAt key inData r size = key + r
+laidAt key inKey r size = cond (leb (r + size - 1) key) r 8192
+
+unfoldable pub laid : ℕ → CardField → RuleField
+laid key f = record { r = laidAt key (f .part) (f .field .r) (inputSize (f .field .kind)); kind = f .field .kind; t = f .field .t }
 
 -- a copy has one size, which stands in both places
 abbrev pub OneSize : Field → Type 0
@@ -60,25 +86,38 @@ noField = record { kind = Copy; r = 0; input = 0; output = 0; t = 0 }
 -- ---- what a deck asks for
 
 unfoldable pub utilityOf : Asked → Utility
-utilityOf x = record { mode = modeOf (x .mode); format = formatOf (x .format); input = sizeOf (x .input); output = sizeOf (x .output); first = x .first }
+utilityOf x = record { mode = modeOf (x .mode); format = formatOf (x .format); input = plain (sizeOf (x .input)); output = sizeOf (x .output); first = x .first }
 
 -- the card of each field, the first FS card being card i
 abbrev pub fieldCards : ℕ → List (List Item) → List ℕ
 fieldCards i [] = []
 fieldCards i (c ∷ cs) = replicate (length (fieldsOf c)) i ++ fieldCards (suc i) cs
 
--- the first card that says CV, or 0
+-- the first card with some of what f counts, or 0
+abbrev pub firstCard : (List Item → ℕ) → ℕ → List (List Item) → ℕ
+firstCard f i [] = 0
+firstCard f i (c ∷ cs) = let later = firstCard f (suc i) cs in cond (eqb (f c) 0) later i
+
+-- the first card that says CV, and the first with a field that is taken from the key, or 0
 abbrev pub cvCard : ℕ → List (List Item) → ℕ
-cvCard i [] = 0
-cvCard i (c ∷ cs) = let later = cvCard (suc i) cs in cond (eqb (cvs c) 0) later i
+cvCard i cs = firstCard cvs i cs
+
+abbrev pub keyCard : ℕ → List (List Item) → ℕ
+keyCard i cs = firstCard (λ c. keyFields (fieldsOf c)) i cs
+
+-- the fields that a deck asks for, as they stand in the row
+unfoldable pub laidFields : RuleAsked → List RuleField
+laidFields a = map (laid (keyLength (a .utility .input))) (fieldsOf (joined (a .cards)))
 
 -- the struct says just what the rules say that the deck asks for beside the fields, and how many they are
 pub record Means (x : Asked) (a : RuleAsked) : Type 0 where
-  pub utility : utilityOf x ≡ a .utility
+  pub utility : utilityOf x ≡ throughUtility (a .utility)
+  pub key : x .key ≡ keyLength (a .utility .input)
   pub count : x .count ≡ length (fieldsOf (joined (a .cards)))
   pub few : x .count ≤ 64
   pub fs : x .fs ≡ length (a .cards)
   pub cv : x .cv ≡ cvCard 2 (a .cards)
+  pub keyed : x .keyed ≡ keyCard 2 (a .cards)
 
 -- the plan that it is with these fields, in a zone
 unfoldable pub planIn : ℕ → Asked → List RuleField → Plan
@@ -110,11 +149,11 @@ pub record TaskIs (x : Task) (p : Plan) : Type 0 where
 
 -- what an entry holds in the rules, and the entry that holds it
 abbrev pub entryMeans : Entry → RuleEntry
-entryMeans e = record { kind = e .kind; r = e .r; input = e .input; output = e .output; t = e .t }
+entryMeans e = record { kind = e .kind; part = e .part; r = e .r; input = e .input; output = e .output; t = e .t }
 
 abbrev pub entryFor : RuleEntry → Entry
-entryFor e = record { kind = e .kind; r = e .r; input = e .input; output = e .output; t = e .t }
+entryFor e = record { kind = e .kind; part = e .part; r = e .r; input = e .input; output = e .output; t = e .t }
 
 -- what an array holds where there is no entry
 abbrev pub noEntry : Entry
-noEntry = record { kind = 0; r = 0; input = 0; output = 0; t = 0 }
+noEntry = record { kind = 0; part = 0; r = 0; input = 0; output = 0; t = 0 }

@@ -1,6 +1,6 @@
 -- `cards::list` and `cards::rest` meet their contracts: a list reads its item and then its rest, a rest is nothing, a slash and a list, or stops. The measure of both
 -- is what is left of the card.
-use mathlib.Core.Path.{refl, sym, _∙_, subst}
+use mathlib.Core.Path.{refl, ap, sym, _∙_, subst}
 use Prim.Native.Nat.{ℕ, _<_}
 use native.Mathlib.Omega.{arith}
 use denote.Ref.{now}
@@ -11,13 +11,18 @@ use borrow.Rule.Slice.PartAt.{part-to-end}
 use borrow.Author.Needs.{needs}
 use Rattle.readers.specs.declared.ItemRead.the-variants.{IsField, IsCV, NoItem}
 use Rattle.readers.specs.Meaning.{ItemSays}
-use Rattle.readers.proofs.Callers.{field-takes, cv-takes}
+use Rattle.readers.proofs.Callers.{field-takes, field-small, cv-takes}
 use Rattle.readers.proofs.item.Reads as item-reads
+use Rattle.terms.specs.Meaning.{partOf}
+use Rattle.rows.specs.Flat.{Short}
+use Rattle.cards.specs.declared.Noted.{Noted}
+use Rattle.cards.proofs.RowLaws.{field-key, cv-key}
 use Rattle.cards.proofs.ListedLaws.{outside-is, places-low, kept-short, listed-field, listed-cv, listed-none, rest-ended, rest-slash, rest-other-byte}
 use Rattle.cards.proofs.cv_noted.Reads as cv-noted-reads
 use Rattle.cards.proofs.field_noted.Reads as field-noted-reads
 use Rattle.cards.proofs.field_outside.Reads as field-outside-reads
 use Rattle.cards.proofs.keep.Reads as keep-reads
+use Rattle.cards.proofs.laid.Reads as laid-reads
 use Rattle.cards.proofs.+list+rest.{statement}
 use Rattle.cards.proofs.list.Reads as list
 use Rattle.cards.proofs.list.Kinds as list-kinds
@@ -47,7 +52,7 @@ rest-below t = and 2 rest-kinds.ps (falls 2 rest-kinds.ps _<_ μ-rest t) rest.Pr
 
 -- what the functions that each one calls ask and tell
 abbrev list-claims : ℕ → list-lts.Claims
-list-claims t = (item-reads.Asked, item-reads.Learnt, field-outside-reads.Asked, field-outside-reads.Learnt, keep-reads.Asked, keep-reads.Learnt, field-noted-reads.Asked, field-noted-reads.Learnt, rest-below t, rest.Post, cv-noted-reads.Asked, cv-noted-reads.Learnt)
+list-claims t = (item-reads.Asked, item-reads.Learnt, field-outside-reads.Asked, field-outside-reads.Learnt, laid-reads.Asked, laid-reads.Learnt, keep-reads.Asked, keep-reads.Learnt, field-noted-reads.Asked, field-noted-reads.Learnt, rest-below t, rest.Post, cv-noted-reads.Asked, cv-noted-reads.Learnt)
 
 abbrev rest-claims : ℕ → rest-lts.Claims
 rest-claims t = (list-below t, list.Post)
@@ -60,7 +65,7 @@ list-enum-known-next t c = search needs
 
 -- what `item` found in each arm
 is-field : (t : ℕ) (c : list-lts.After-next (list-claims t) (list-at t) list.Post)
-    → ItemSays (now (c .before .before .before .before .args .operand)) (IsField (c .next .given .0 .0) (c .next .given .0 .1 .0) (c .next .given .0 .1 .1 .0))
+    → ItemSays (now (c .before .before .before .before .args .operand)) (IsField (c .next .given .0 .0) (c .next .given .0 .1 .0) (c .next .given .0 .1 .1 .0) (c .next .given .0 .1 .1 .1 .0))
 is-field t c = subst (ItemSays (now (c .before .before .before .before .args .operand))) (c .next .given .1) (c .before .before .item .ensures)
 
 is-cv : (t : ℕ) (c : list-lts.After-next2 (list-claims t) (list-at t) list.Post)
@@ -76,42 +81,55 @@ list-field-outside-requires t c κs =
     let n = c .before in
     let s = n .before .before .before .before in
     let e = is-field t n in
-    let l = places-low (now (s .args .operand)) (n .next .given .0 .0) (n .next .given .0 .1 .0) (n .next .given .0 .1 .1 .0) e in
+    let l = places-low _ _ _ _ _ e in
     let k = e .0 .0 in
-    (e .1, s .pre .1 .1, omega arith, omega arith, omega arith)
+    (e .1, s .pre .1 .1, omega arith, omega arith, omega arith, omega arith)
+
+list-laid-requires : (t : ℕ) → list-lts.Need-laid-requires (list-claims t) (list-at t) list.Post
+list-laid-requires t c κs =
+    let n = c .before .before in
+    let f = field-small _ _ _ _ _ (is-field t n) in
+    record { small = f .r; short = f .input; within = n .before .before .before .before .pre .1 .3 }
 
 list-keep-requires : (t : ℕ) → list-lts.Need-keep-requires (list-claims t) (list-at t) list.Post
 list-keep-requires t c κs =
-    let n = c .before .before .before in
+    let n = c .before .before .before .before in
     let s = n .before .before .before .before in
+    let o = now (s .args .operand) in
+    let g = n .next .given .0 in
     let e = is-field t n in (
       s .pre .1 .0,
-      λ z. kept-short (now (s .args .operand)) (n .next .given .0 .0) (n .next .given .0 .1 .0) (n .next .given .0 .1 .1 .0) e (s .args .column) (s .pre .1 .1)
-          (sym (outside-is (now (s .args .operand)) (n .next .given .0 .0) (n .next .given .0 .1 .0) (n .next .given .0 .1 .1 .0) e (s .args .column)) ∙ sym (c .before .field-outside .ensures) ∙ z),
+      λ z. subst Short (sym (c .before .laid .ensures))
+          (kept-short o (g .0) (g .1 .0) (g .1 .1 .0) (g .1 .1 .1 .0) e (s .args .noted .key) (s .args .column) (s .pre .1 .3) (s .pre .1 .1)
+          (sym (outside-is o (g .0) (g .1 .0) (g .1 .1 .0) (g .1 .1 .1 .0) e (s .args .column)) ∙ sym (c .before .before .field-outside .ensures) ∙ z)),
     )
 
 list-field-noted-requires : (t : ℕ) → list-lts.Need-field-noted-requires (list-claims t) (list-at t) list.Post
 list-field-noted-requires t c κs = tt
 
 list-sub-rest : (t : ℕ) → list-lts.Need-sub-rest (list-claims t) (list-at t) list.Post
-list-sub-rest t c = is-field t (c .before .before .before .before .before) .0 .0
+list-sub-rest t c = is-field t (c .before .before .before .before .before .before) .0 .0
 
 list-part-rest-start : (t : ℕ) → list-lts.Need-part-rest-start (list-claims t) (list-at t) list.Post
-list-part-rest-start t c = is-field t (c .before .before .before .before .before) .0 .0
+list-part-rest-start t c = is-field t (c .before .before .before .before .before .before) .0 .0
 
 list-part-rest-end : (t : ℕ) → list-lts.Need-part-rest-end (list-claims t) (list-at t) list.Post
 list-part-rest-end t c = search needs
 
 list-add-rest : (t : ℕ) → list-lts.Need-add-rest (list-claims t) (list-at t) list.Post
-list-add-rest t c = let e = is-field t (c .before .before .before .before .before .before) in let k = e .0 .0 in omega arith
+list-add-rest t c =
+    let n = c .before .before .before .before .before .before .before in
+    omega (arith, is-field t n .0 .0, n .before .before .before .before .pre .1 .2)
 
 list-rest-requires : (t : ℕ) → list-lts.Need-rest-requires (list-claims t) (list-at t) list.Post
 list-rest-requires t c κs =
-    let n = c .before .before .before .before .before .before .before in
+    let n = c .before .before .before .before .before .before .before .before in
+    let s = n .before .before .before .before in
     let e = is-field t n in
-    let h = field-takes _ _ _ _ e in
+    let h = field-takes _ _ _ _ _ e in
     let k = e .0 .0 in
-    (omega arith, (c .before .before .before .keep .ensures .0, omega arith, omega arith))
+    let same = ap (λ (x : Noted). x .key) (c .before .before .field-noted .ensures) ∙ field-key (s .args .noted) (s .args .card) (partOf (n .next .given .0 .0)) _ in
+    (omega arith, (c .before .before .before .keep .ensures .0, omega arith, omega arith, omega (arith, same, s .pre .1 .3)))
 
 list-enum-known-next-2 : (t : ℕ) → list-lts.Need-enum-known-next-2 (list-claims t) (list-at t) list.Post
 list-enum-known-next-2 t c = search needs
@@ -134,27 +152,30 @@ list-add-rest-2 t c = let e = is-cv t (c .before .before .before) in let k = e .
 list-rest-requires-2 : (t : ℕ) → list-lts.Need-rest-requires-2 (list-claims t) (list-at t) list.Post
 list-rest-requires-2 t c κs =
     let n = c .before .before .before .before in
+    let s = n .before .before .before .before in
     let e = is-cv t n in
     let h = cv-takes _ _ e in
     let k = e .0 in
-    (omega arith, (n .before .before .before .before .pre .1 .0, omega arith, omega arith))
+    let same = ap (λ (x : Noted). x .key) (c .before .before .cv-noted .ensures) ∙ cv-key (s .args .noted) (s .args .card) (s .args .column) in
+    (omega arith, (s .pre .1 .0, omega arith, omega arith, omega (arith, same, s .pre .1 .3)))
 
 list-enum-known-next-3 : (t : ℕ) → list-lts.Need-enum-known-next-3 (list-claims t) (list-at t) list.Post
 list-enum-known-next-3 t c = search needs
 
-list-add-t30 : (t : ℕ) → list-lts.Need-add-t30 (list-claims t) (list-at t) list.Post
-list-add-t30 t c = let k = is-none t (c .before) .0 in omega arith
+list-add-t32 : (t : ℕ) → list-lts.Need-add-t32 (list-claims t) (list-at t) list.Post
+list-add-t32 t c = let k = is-none t (c .before) .0 in omega arith
 
 list-returns : (t : ℕ) → list-lts.Need-returns (list-claims t) (list-at t) list.Post
 list-returns t c =
-    let n = c .before .before .before .before .before .before .before .before in
+    let n = c .before .before .before .before .before .before .before .before .before in
     let s = n .before .before .before .before in
     let o = now (s .args .operand) in
     let g = n .next .given .0 in (
       c .rest .ensures .0,
-      listed-field (s .args .card) (s .args .column) (s .args .noted, now (s .args .row)) o (g .0) (g .1 .0) (g .1 .1 .0) (is-field t n)
-          _ (c .before .before .before .before .before .before .field-outside .ensures) _ (c .before .before .before .before .keep .ensures .1) _ (c .before .before .before .field-noted .ensures)
-          _ (part-to-end o (g .1 .1 .0)) (c .rest .result) _ (c .rest .ensures .1),
+      listed-field (s .args .card) (s .args .column) (s .args .noted, now (s .args .row)) o (g .0) (g .1 .0) (g .1 .1 .0) (g .1 .1 .1 .0) (is-field t n)
+          _ (c .before .before .before .before .before .before .before .field-outside .ensures) _ (c .before .before .before .before .before .before .laid .ensures)
+          _ (c .before .before .before .before .keep .ensures .1) _ (c .before .before .before .field-noted .ensures)
+          _ (part-to-end o (g .1 .1 .1 .0)) (c .rest .result) _ (c .rest .ensures .1),
     )
 
 list-returns-2 : (t : ℕ) → list-lts.Need-returns-2 (list-claims t) (list-at t) list.Post
@@ -198,7 +219,7 @@ rest-add-list t c = omega arith
 
 rest-list-requires :
     (t : ℕ) → rest-lts.Need-list-requires (rest-claims t) (rest-at t) rest.Post
-rest-list-requires t c κs = let s = c .before .before .before .before .before .before in (omega arith, (s .pre .1 .0, omega arith, omega arith))
+rest-list-requires t c κs = let s = c .before .before .before .before .before .before in (omega arith, (s .pre .1 .0, omega arith, omega arith, s .pre .1 .3))
 
 rest-returns-2 : (t : ℕ) → rest-lts.Need-returns-2 (rest-claims t) (rest-at t) rest.Post
 rest-returns-2 t c =
@@ -218,6 +239,7 @@ pub +list+rest-spec : {M : Type 1} → statement M
     (list-item-requires t)
     (list-enum-known-next t)
     (list-field-outside-requires t)
+    (list-laid-requires t)
     (list-keep-requires t)
     (list-field-noted-requires t)
     (list-sub-rest t)
@@ -233,7 +255,7 @@ pub +list+rest-spec : {M : Type 1} → statement M
     (list-add-rest-2 t)
     (list-rest-requires-2 t)
     (list-enum-known-next-3 t)
-    (list-add-t30 t)
+    (list-add-t32 t)
     (list-returns t)
     (list-returns-2 t)
     (list-returns-3 t))

@@ -1,9 +1,9 @@
 -- `cards::card_over` meets its contract: the loop's invariant is that the field stands on none of the cards before, so that its card is that among the cards from
 -- here on. The measure is what is left of the deck.
-use mathlib.Core.Path.{_≡_, sym, subst}
+use mathlib.Core.Path.{_≡_, ap, sym, subst}
 use mathlib.Core.Logic.{_⊎_, ⊎-elim}
 use mathlib.Core.List.{List}
-use Prim.Native.Nat.{ℕ, _-_}
+use Prim.Native.Nat.{ℕ, _-_, _≤_}
 use native.Mathlib.Numerals.{add-one}
 use native.Mathlib.Omega.{arith}
 use denote.Ref.{now}
@@ -24,13 +24,13 @@ use Rattle.cards.specs.declared.CardAt.the-variants.{UAt, FsAt, NoOperan
 use Rattle.cards.specs.declared.Noted.{Noted}
 use Rattle.cards.specs.Selected.{Taken, ListSays}
 use Rattle.cards.specs.Deck.{cardsIn, OperandAt, CardAtSays}
-use Rattle.cards.proofs.HolderLaws.{Seeking, Held, seeking-start, seeking-none, seeking-u, seeking-found, seeking-more}
+use Rattle.cards.proofs.HolderLaws.{Seeking, Held, seeking-start, seeking-none, seeking-u, seeking-key, seeking-found, seeking-more}
 use Rattle.cards.proofs.CardAt as card-type
 use Rattle.cards.proofs.card_over.Statement.{statement}
 use Rattle.cards.proofs.card_over.Tie as tie
 
 abbrev Inv-loop : tie.InvT-loop
-Inv-loop deck from field row₀ noted₀ card₀ at₀ row noted card at = (length row ≡ 320) × All IsCard (cardsIn (drop at deck)) × Seeking deck from field (noted .count) card at
+Inv-loop deck from field row₀ noted₀ card₀ at₀ row noted card at = (length row ≡ 320) × All IsCard (cardsIn (drop at deck)) × (noted .key ≤ 4096) × Seeking deck from field (noted .count) card at
 
 abbrev μ-loop : tie.MeasureT-loop
 μ-loop deck from field row₀ noted₀ card₀ at₀ row noted card at = length deck - at
@@ -42,7 +42,7 @@ loop-holds : tie.Need-loop-holds Inv-loop μ-loop
 loop-holds c =
     let s = c .before .before in
     let a = s .args in
-    (length-replicate {A = ℕ} 320 0, s .pre .0, subst (λ (n : Noted). Seeking (now (a .deck)) (a .from) (a .field) (n .count) 2 (a .from)) (sym (c .nothing-noted .ensures)) (seeking-start (now (a .deck)) (a .from) (a .field) (s .pre .1)))
+    (length-replicate {A = ℕ} 320 0, s .pre .0, omega (arith, ap (λ (n : Noted). n .key) (c .nothing-noted .ensures)), subst (λ (n : Noted). Seeking (now (a .deck)) (a .from) (a .field) (n .count) 2 (a .from)) (sym (c .nothing-noted .ensures)) (seeking-start (now (a .deck)) (a .from) (a .field) (s .pre .1)))
 
 card-at-requires : tie.Need-card-at-requires Inv-loop μ-loop
 card-at-requires c κs = c .loop .inv .1
@@ -66,7 +66,7 @@ returns : tie.Need-returns Inv-loop μ-loop
 returns c =
     let l = c .before .before .loop in
     let a = c .before .before .before .before .before .args in
-    other (now (a .deck)) (a .from) (a .field) (l .noted, l .row) (l .card) (l .at) (l .inv .2) (c .before .card-at .result) (c .before .card-at .ensures) (c .match .keys2)
+    other (now (a .deck)) (a .from) (a .field) (l .noted, l .row) (l .card) (l .at) (l .inv .3) (c .before .card-at .result) (c .before .card-at .ensures) (c .match .keys2)
 
 sub-list : tie.Need-sub-list Inv-loop μ-loop
 sub-list c = is-fs (c .before) .from
@@ -81,7 +81,7 @@ list-requires : tie.Need-list-requires Inv-loop μ-loop
 list-requires c κs =
     let l = c .before .before .before .before .before .before .loop in
     let h = is-fs (c .before .before .before) in
-    (l .inv .0, omega arith, omega (arith, h .upto))
+    (l .inv .0, omega arith, omega (arith, h .upto), l .inv .2)
 
 -- what the two functions gave of it
 told : (c : tie.After-list Inv-loop μ-loop)
@@ -104,10 +104,10 @@ returns-2 c =
     let a = f .before .before .before .before .before .before .args in
     let g = f .found .given .0 in
     let r = c .before .before .before .list in
-    seeking-found (now (a .deck)) (a .from) (a .field) (l .noted, l .row) (l .card) (l .at) (l .inv .2) (g .0) (g .1 .0) (g .1 .1 .0) (is-fs f) (r .result) (r .last .1 .1 .1 .1 .0) (told (c .before .before .before)) (c .if1 .taken)
+    seeking-found (now (a .deck)) (a .from) (a .field) (l .noted, l .row) (l .card) (l .at) (l .inv .3) (g .0) (g .1 .0) (g .1 .1 .0) (is-fs f) (r .result) (r .last .1 .1 .1 .1 .0) (told (c .before .before .before)) (c .if1 .taken)
 
 add-card : tie.Need-add-card Inv-loop μ-loop
-add-card c = let f = c .before .before .before .before .before .before .before in let h = is-fs f in let low = f .before .before .before .loop .inv .2 .low in omega (arith, h .on, h .within)
+add-card c = let f = c .before .before .before .before .before .before .before in let h = is-fs f in let low = f .before .before .before .loop .inv .3 .low in omega (arith, h .on, h .within)
 
 loop-less : tie.Need-loop-less Inv-loop μ-loop
 loop-less c = let h = is-fs (c .before .before .before .before .before .before .before) in omega (arith, h .on, h .within)
@@ -121,8 +121,9 @@ loop-again c =
     let r = c .before .before .before .list in (
       r .ensures .0,
       all-tail (subst (All IsCard) (is-fs f .is) (l .inv .1)),
+      omega (arith, seeking-key (now (a .deck)) (a .from) (a .field) (l .noted, l .row) (l .card) (l .at) (l .inv .3) (g .0) (g .1 .0) (g .1 .1 .0) (is-fs f) (r .result) (r .last .1 .1 .1 .1 .0) (told (c .before .before .before)), l .inv .2),
       rw (add-one (l .card))
-          (seeking-more (now (a .deck)) (a .from) (a .field) (l .noted, l .row) (l .card) (l .at) (l .inv .2) (g .0) (g .1 .0) (g .1 .1 .0) (is-fs f) (r .result) (r .last .1 .1 .1 .1 .0) (told (c .before .before .before)) (c .if1 .left)),
+          (seeking-more (now (a .deck)) (a .from) (a .field) (l .noted, l .row) (l .card) (l .at) (l .inv .3) (g .0) (g .1 .0) (g .1 .1 .0) (is-fs f) (r .result) (r .last .1 .1 .1 .1 .0) (told (c .before .before .before)) (c .if1 .left)),
     )
 
 pub card-over-spec : {M : Type 1} → statement M

@@ -3,7 +3,7 @@
 use mathlib.Core.Path.{_≡_, ap, sym, _∙_, subst}
 use mathlib.Core.Logic.{_⊎_, ⊎-elim}
 use mathlib.Core.List.{List, []}
-use Prim.Native.Nat.{ℕ, _-_}
+use Prim.Native.Nat.{ℕ, _-_, _≤_}
 use native.Mathlib.Numerals.{add-one}
 use native.Mathlib.Omega.{arith}
 use denote.Ref.{now}
@@ -26,29 +26,35 @@ use Rattle.cards.specs.declared.CardAt.the-variants.{UAt, FsAt, NoOperan
 use Rattle.cards.specs.declared.Noted.{Noted}
 use Rattle.cards.specs.Selected.{Taken, nothingNoted, ListSays, noSelection}
 use Rattle.cards.specs.Deck.{cardsIn, fsFirst, OperandAt, CardAtSays, FsSaid}
+use Rattle.cards.proofs.ListedLaws.{key-kept}
 use Rattle.cards.proofs.DeckLaws.{Selecting, selecting-start, selecting-none, selecting-u, selecting-stop, selecting-more}
 use Rattle.cards.proofs.CardAt as card-type
 use Rattle.cards.proofs.fs_cards.Statement.{statement}
 use Rattle.cards.proofs.fs_cards.Tie as tie
 
 abbrev Inv-loop : tie.InvT-loop
-Inv-loop deck from row₀ noted₀ card₀ at₀ row noted card at = (length row ≡ 320) × All IsCard (cardsIn (drop at deck)) × Selecting deck from (noted, row) card at
+Inv-loop deck from key row₀ noted₀ card₀ at₀ row noted card at =
+    (length row ≡ 320) × All IsCard (cardsIn (drop at deck)) × (noted .key ≤ 4096) × Selecting deck from key (noted, row) card at
 
 abbrev μ-loop : tie.MeasureT-loop
-μ-loop deck from row₀ noted₀ card₀ at₀ row noted card at = length deck - at
+μ-loop deck from key row₀ noted₀ card₀ at₀ row noted card at = length deck - at
 
 nothing-noted-requires : tie.Need-nothing-noted-requires Inv-loop μ-loop
 nothing-noted-requires c κs = tt
 
-start : (deck : List ℕ) (from : ℕ) (n : Noted) (row : List ℕ) → n ≡ nothingNoted → row ≡ rowOf [] → Selecting deck from (n, row) 2 from
+start : (deck : List ℕ) (from key : ℕ) (n : Noted) (row : List ℕ) → n ≡ nothingNoted key → row ≡ rowOf [] → Selecting deck from key (n, row) 2 from
 unfolding noSelection
-start deck from n row e f = subst (λ (t : Taken). Selecting deck from t 2 from) (λ i. (sym e i, sym f i)) (selecting-start deck from)
+start deck from key n row e f = subst (λ (t : Taken). Selecting deck from key t 2 from) (λ i. (sym e i, sym f i)) (selecting-start deck from key)
 
 loop-holds : tie.Need-loop-holds Inv-loop μ-loop
 loop-holds c =
     let s = c .before .before in
-    let a = s .args in
-    (ap length (s .pre .1) ∙ length-row [] (omega arith), s .pre .0, start (now (a .deck)) (a .from) _ (now (a .row)) (c .nothing-noted .ensures) (s .pre .1))
+    let a = s .args in (
+      ap length (s .pre .1 .0) ∙ length-row [] (omega arith),
+      s .pre .0,
+      omega (arith, ap (λ (n : Noted). n .key) (c .nothing-noted .ensures), s .pre .1 .1),
+      start (now (a .deck)) (a .from) (a .key) _ (now (a .row)) (c .nothing-noted .ensures) (s .pre .1 .0),
+    )
 
 card-at-requires : tie.Need-card-at-requires Inv-loop μ-loop
 card-at-requires c κs = c .loop .inv .1
@@ -57,12 +63,12 @@ enum-known-found : tie.Need-enum-known-found Inv-loop μ-loop
 enum-known-found c = search needs
 
 -- a card whose number is not that of `FsAt`
-other : (deck : List ℕ) (from : ℕ) (t : Taken) (card at : ℕ) → Selecting deck from t card at → (r : CardAt) → CardAtSays deck at r
+other : (deck : List ℕ) (from key : ℕ) (t : Taken) (card at : ℕ) → Selecting deck from key t card at → (r : CardAt) → CardAtSays deck at r
     → (tagOf card-type.the-type r ≡ 0) ⊎ (tagOf card-type.the-type r ≡ 2)
-    → FsSaid 2 noSelection (fsFirst (cardsIn (drop from deck))) (record { noted = t .0; unread = 0; column = 0 }) (t .1)
-other deck from t card at g (UAt start end next) h k = selecting-u deck from t card at g (start - at) start end next h
-other deck from t card at g (FsAt start end next) h k = absurd (⊎-elim (λ e. omega arith) (λ e. omega arith) k)
-other deck from t card at g NoOperand h k = selecting-none deck from t card at g h
+    → FsSaid 2 (noSelection key) (fsFirst (cardsIn (drop from deck))) (record { noted = t .0; unread = 0; column = 0 }) (t .1)
+other deck from key t card at g (UAt start end next) h k = selecting-u deck from key t card at g (start - at) start end next h
+other deck from key t card at g (FsAt start end next) h k = absurd (⊎-elim (λ e. omega arith) (λ e. omega arith) k)
+other deck from key t card at g NoOperand h k = selecting-none deck from key t card at g h
 
 -- what stands here is an FS card
 is-fs : (c : tie.After-found Inv-loop μ-loop)
@@ -73,7 +79,7 @@ returns : tie.Need-returns Inv-loop μ-loop
 returns c =
     let l = c .before .before .loop in
     let a = c .before .before .before .before .before .args in
-    (l .inv .0, other (now (a .deck)) (a .from) (l .noted, l .row) (l .card) (l .at) (l .inv .2) (c .before .card-at .result) (c .before .card-at .ensures) (c .match .keys2))
+    (l .inv .0, other (now (a .deck)) (a .from) (a .key) (l .noted, l .row) (l .card) (l .at) (l .inv .3) (c .before .card-at .result) (c .before .card-at .ensures) (c .match .keys2))
 
 sub-list : tie.Need-sub-list Inv-loop μ-loop
 sub-list c = is-fs (c .before) .from
@@ -88,7 +94,7 @@ list-requires : tie.Need-list-requires Inv-loop μ-loop
 list-requires c κs =
     let l = c .before .before .before .before .before .before .loop in
     let h = is-fs (c .before .before .before) in
-    (l .inv .0, omega arith, omega (arith, h .upto))
+    (l .inv .0, omega arith, omega (arith, h .upto), l .inv .2)
 
 -- what the two functions gave of it
 told : (c : tie.After-list Inv-loop μ-loop)
@@ -111,10 +117,10 @@ returns-2 c =
     let a = f .before .before .before .before .before .before .args in
     let g = f .found .given .0 in
     let r = c .before .before .list in
-    (r .ensures .0, selecting-stop (now (a .deck)) (a .from) (l .noted, l .row) (l .card) (l .at) (l .inv .2) (g .0) (g .1 .0) (g .1 .1 .0) (is-fs f) (r .result) (r .last .1 .1 .1 .1 .0) (told (c .before .before)) (c .if1 .taken) _)
+    (r .ensures .0, selecting-stop (now (a .deck)) (a .from) (a .key) (l .noted, l .row) (l .card) (l .at) (l .inv .3) (g .0) (g .1 .0) (g .1 .1 .0) (is-fs f) (r .result) (r .last .1 .1 .1 .1 .0) (told (c .before .before)) (c .if1 .taken) _)
 
 add-card : tie.Need-add-card Inv-loop μ-loop
-add-card c = let f = c .before .before .before .before .before .before in let h = is-fs f in let low = f .before .before .before .loop .inv .2 .low in omega (arith, h .on, h .within)
+add-card c = let f = c .before .before .before .before .before .before in let h = is-fs f in let low = f .before .before .before .loop .inv .3 .low in omega (arith, h .on, h .within)
 
 loop-less : tie.Need-loop-less Inv-loop μ-loop
 loop-less c = let f = c .before .before .before .before .before .before in let h = is-fs f in omega (arith, h .on, h .within)
@@ -128,8 +134,9 @@ loop-again c =
     let r = c .before .before .list in (
       r .ensures .0,
       all-tail (subst (All IsCard) (is-fs f .is) (l .inv .1)),
+      omega (arith, key-kept (l .card) (l .noted, l .row) _ (r .result) _ (told (c .before .before)) (c .if1 .left), l .inv .2),
       rw (add-one (l .card))
-          (selecting-more (now (a .deck)) (a .from) (l .noted, l .row) (l .card) (l .at) (l .inv .2) (g .0) (g .1 .0) (g .1 .1 .0) (is-fs f) (r .result) (r .last .1 .1 .1 .1 .0) (told (c .before .before)) (c .if1 .left)),
+          (selecting-more (now (a .deck)) (a .from) (a .key) (l .noted, l .row) (l .card) (l .at) (l .inv .3) (g .0) (g .1 .0) (g .1 .1 .0) (is-fs f) (r .result) (r .last .1 .1 .1 .1 .0) (told (c .before .before)) (c .if1 .left)),
     )
 
 pub fs-cards-spec : {M : Type 1} → statement M

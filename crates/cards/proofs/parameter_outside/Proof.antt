@@ -13,14 +13,14 @@ enum-told-2 c = search needs
 enum-known-parameter : tie.Need-enum-known-parameter
 enum-known-parameter c = search needs
 
-size-outside-requires : tie.Need-size-outside-requires
-size-outside-requires c κs = search needs
+input-outside-requires : tie.Need-input-outside-requires
+input-outside-requires c κs = search needs
 
 enum-known-parameter-2 : tie.Need-enum-known-parameter-2
 enum-known-parameter-2 c = search needs
 
-size-outside-requires-2 : tie.Need-size-outside-requires-2
-size-outside-requires-2 c κs = search needs
+size-outside-requires : tie.Need-size-outside-requires
+size-outside-requires c κs = search needs
 
 enum-told-3 : tie.Need-enum-told-3
 enum-told-3 c = search needs
@@ -44,10 +44,10 @@ returns-2 : tie.Need-returns-2
 returns-2 c = search needs
 
 returns-3 : tie.Need-returns-3
-returns-3 c = rw (c .before .before .parameter .given .1, input-places (c .before .before .parameter .given .0 .0) (c .before .before .before .before .args .second)) (c .size-outside .ensures)
+returns-3 c = rw (c .before .before .parameter .given .1, input-places (c .before .before .parameter .given .0 .0) (c .before .before .before .before .args .second)) (c .input-outside .ensures)
 
 returns-4 : tie.Need-returns-4
-returns-4 c = rw (c .before .before .parameter2 .given .1, output-places (c .before .before .parameter2 .given .0 .0) (c .before .before .before .before .args .second)) (c .size-outside2 .ensures)
+returns-4 c = rw (c .before .before .parameter2 .given .1, output-places (c .before .before .parameter2 .given .0 .0) (c .before .before .before .before .args .second)) (c .size-outside .ensures)
 
 returns-5 : tie.Need-returns-5
 returns-5 c = search needs
@@ -65,9 +65,9 @@ parameter-outside-spec =
     enum-told
     enum-told-2
     enum-known-parameter
-    size-outside-requires
+    input-outside-requires
     enum-known-parameter-2
-    size-outside-requires-2
+    size-outside-requires
     enum-told-3
     enum-told-4
     enum-known-parameter-3

@@ -4,7 +4,7 @@ use mathlib.Core.List.{List, []}
 use Prim.Native.Nat.{ℕ, _+_, _-_}
 use native.Mathlib.Omega.{arith}
 use denote.Ref.{now}
-use lib.ListN.{length}
+use lib.ListN.{length, drop}
 use lib.Seq.{slice}
 use borrow.Author.Needs.{needs}
 use Rattle.rules.specs.Reader.{listOf}
@@ -17,10 +17,12 @@ use Rattle.rules.proofs.LineLaws.{slice-part}
 use Rattle.rows.proofs.RowLaws.{length-row}
 use Rattle.lines.specs.Meaning.{IsCard}
 use Rattle.cards.specs.declared.DeckRead.{DeckRead}
+use Rattle.cards.specs.Selected.{noSelection}
 use Rattle.cards.specs.Parameters.{UListed}
-use Rattle.cards.specs.Deck.{OperandAt, CardAtSays}
+use Rattle.cards.specs.Deck.{cardsIn, fsFirst, OperandAt, CardAtSays, FsSaid}
+use Rattle.cards.specs.Verdict.{keyOf}
 use Rattle.cards.specs.Promise.{DeckReads}
-use Rattle.cards.proofs.OrderedLaws.{all-cards, first-known, unread-u, unread-fs, all-read}
+use Rattle.cards.proofs.OrderedLaws.{all-cards, first-known, unread-u, unread-fs, all-read, key-most}
 use Rattle.cards.proofs.read_ordered.Statement.{statement}
 use Rattle.cards.proofs.read_ordered.Tie as tie
 
@@ -81,28 +83,44 @@ returns-2 c =
           (unread-u (now (s .args .deck)) (s .args .fs) (s .pre .0) (g .0) (g .1 .0) (g .1 .1 .0) (is-u f) (u .u-card .result) (said u) (c .before .if1 .taken) row),
     )
 
+key-length-requires : tie.Need-key-length-requires
+key-length-requires c κs = search needs
+
 fs-cards-requires : tie.Need-fs-cards-requires
 fs-cards-requires c κs =
-    let u = c .before .before .before in
+    let u = c .before .before .before .before .before in
     let f = u .before .before .before in
     let s = f .before .before .before .before in
-    (all-tail (subst (All IsCard) (is-u f .is) (all-cards (now (s .args .deck)) (s .args .fs) (s .pre .0))), s .pre .1)
+    (all-tail (subst (All IsCard) (is-u f .is) (all-cards (now (s .args .deck)) (s .args .fs) (s .pre .0))), (s .pre .1, omega (arith, c .before .key-length .ensures, key-most (u .u-card .result .state .input))))
+
+-- what was read of the FS cards, behind the key of the U card
+said-fs : (c : tie.After-fs-cards)
+    → let u = c .before .before .before .before .before .before in
+    let f = u .before .before .before in
+    let s = f .before .before .before .before in
+    FsSaid 2 (noSelection (keyOf (u .u-card .result .state .input))) (fsFirst (cardsIn (drop (f .first .given .0 .1 .1 .0) (now (s .args .deck))))) (c .fs-cards .result) (c .fs-cards .last .1 .1 .1 .0)
+said-fs c =
+    let u = c .before .before .before .before .before .before in
+    let f = u .before .before .before in
+    let s = f .before .before .before .before in
+    subst (λ (k : ℕ). FsSaid 2 (noSelection k) (fsFirst (cardsIn (drop (f .first .given .0 .1 .1 .0) (now (s .args .deck))))) (c .fs-cards .result) (c .fs-cards .last .1 .1 .1 .0))
+    (c .before .before .key-length .ensures) (c .fs-cards .ensures .1)
 
 refused-requires-3 : tie.Need-refused-requires-3
 refused-requires-3 c κs = search needs
 
 returns-3 : tie.Need-returns-3
 returns-3 c =
-    let e = c .before .before .before .before in
+    let e = c .before .before .before .before .before .before in
     let u = e .before .before in
     let f = u .before .before .before in
     let s = f .before .before .before .before in
     let g = f .first .given .0 in
     let k = c .before .before .fs-cards in (
       k .ensures .0,
-      subst (λ (r : DeckRead). DeckReads (now (s .args .deck)) r (k .last .1 .1 .0)) (sym (c .refused3 .ensures))
+      subst (λ (r : DeckRead). DeckReads (now (s .args .deck)) r (k .last .1 .1 .1 .0)) (sym (c .refused3 .ensures))
           (unread-fs (now (s .args .deck)) (s .args .fs) (s .pre .0) (g .0) (g .1 .0) (g .1 .1 .0) (is-u f) (u .u-card .result) (said u) (e .if1 .left)
-          (k .result) (k .last .1 .1 .0) (k .ensures .1) (c .before .if2 .taken)),
+          (k .result) (k .last .1 .1 .1 .0) (said-fs (c .before .before)) (c .before .if2 .taken)),
     )
 
 judged-requires : tie.Need-judged-requires
@@ -110,16 +128,16 @@ judged-requires c κs = search needs
 
 returns-4 : tie.Need-returns-4
 returns-4 c =
-    let k = c .before .before .before .before .before in
-    let e = k .before .before in
+    let k = c .before .before .before .before in
+    let e = k .before .before .before .before in
     let u = e .before .before in
     let f = u .before .before .before in
     let s = f .before .before .before .before in
     let g = f .first .given .0 in
     let w = k .fs-cards in (
       w .ensures .0,
-      subst (λ (r : DeckRead). DeckReads (now (s .args .deck)) r (w .last .1 .1 .0)) (sym (c .judged .ensures))
-          (all-read (now (s .args .deck)) (s .args .fs) (s .pre .0) (g .0) (g .1 .0) (g .1 .1 .0) (is-u f) (u .u-card .result) (said u) (e .if1 .left) (w .result) (w .last .1 .1 .0) (w .ensures .1) (c .before .before .before .before .if2 .left)),
+      subst (λ (r : DeckRead). DeckReads (now (s .args .deck)) r (w .last .1 .1 .1 .0)) (sym (c .judged .ensures))
+          (all-read (now (s .args .deck)) (s .args .fs) (s .pre .0) (g .0) (g .1 .0) (g .1 .1 .0) (is-u f) (u .u-card .result) (said u) (e .if1 .left) (w .result) (w .last .1 .1 .1 .0) (said-fs k) (c .before .before .before .if2 .left)),
     )
 
 pub read-ordered-spec : {M : Type 1} → statement M
@@ -137,6 +155,7 @@ read-ordered-spec =
     u-card-requires
     refused-requires-2
     returns-2
+    key-length-requires
     fs-cards-requires
     refused-requires-3
     returns-3

@@ -6,12 +6,11 @@ use denote.Ref.{now}
 use borrow.Author.Tests.{not-true, not-false}
 use borrow.Author.Needs.{needs}
 use Rattle.rules.specs.Lent.{zoneF}
-use Rattle.rules.specs.Base.{joined}
 use Rattle.rules.specs.Answer.{fine, _>>=_}
 use Rattle.rules.specs.Halves.{Field as RuleField}
-use Rattle.rules.specs.Asked.{fieldsOf, Asked as RuleAsked}
+use Rattle.rules.specs.Asked.{Asked as RuleAsked}
 use Rattle.rules.specs.Plan.{selects, recordLength}
-use Rattle.terms.specs.Meaning.{modeOf, sizeOf}
+use Rattle.terms.specs.Meaning.{modeOf, sizeOf, laidFields}
 use Rattle.rows.specs.Flat.{flatOf}
 use Rattle.rows.specs.Kept.{fieldsIn}
 use Rattle.rows.proofs.RowLaws.{fields-back}
@@ -31,16 +30,16 @@ selected c = sym (c .before .selects .ensures) ∙ not-false (c .before .selects
 -- what weighing answers of the fields that are asked for
 told : (c : tie.After-weigh) (a : RuleAsked)
     → let x = c .before .before .before .before .before .before .args .asked in
-    now (c .before .before .before .before .before .before .args .fields) ≡ flatOf (fieldsOf (joined (a .cards)))
-    → weighed (c .weigh .result) ≡ weighedOf zoneF (fieldsOf (joined (a .cards))) (recordLength (sizeOf (x .input))) (recordLength (sizeOf (x .output)))
+    now (c .before .before .before .before .before .before .args .fields) ≡ flatOf (laidFields a)
+    → weighed (c .weigh .result) ≡ weighedOf zoneF (laidFields a) (recordLength (sizeOf (x .input))) (recordLength (sizeOf (x .output)))
 told c a e =
     let x = c .before .before .before .before .before .before .args .asked in
     rw (c .before .before .record-length .ensures, c .before .record-length2 .ensures) at (c .weigh .ensures)
-    ∙ ap (λ (fs : List RuleField). weighedOf zoneF fs (recordLength (sizeOf (x .input))) (recordLength (sizeOf (x .output)))) (ap fieldsIn e ∙ fields-back (fieldsOf (joined (a .cards))))
+    ∙ ap (λ (fs : List RuleField). weighedOf zoneF fs (recordLength (sizeOf (x .input))) (recordLength (sizeOf (x .output)))) (ap fieldsIn e ∙ fields-back (laidFields a))
 
 -- the fields of the row are those that are asked for
-sound : (c : tie.Start) (a : RuleAsked) → now (c .args .fields) ≡ flatOf (fieldsOf (joined (a .cards))) → combinedOf (c .args .asked) (fieldsOf (joined (a .cards))) ≡ fine tt
-sound c a e = subst (λ (fs : List RuleField). combinedOf (c .args .asked) fs ≡ fine tt) (ap fieldsIn e ∙ fields-back (fieldsOf (joined (a .cards)))) (c .pre .1)
+sound : (c : tie.Start) (a : RuleAsked) → now (c .args .fields) ≡ flatOf (laidFields a) → combinedOf (c .args .asked) (laidFields a) ≡ fine tt
+sound c a e = subst (λ (fs : List RuleField). combinedOf (c .args .asked) fs ≡ fine tt) (ap fieldsIn e ∙ fields-back (laidFields a)) (c .pre .1)
 
 selects-requires : tie.Need-selects-requires
 selects-requires c κs = search needs
@@ -49,7 +48,7 @@ returns : tie.Need-returns
 unfolding Judges
 returns c =
     let start = c .before .before .before in
-    λ a m e. carried (start .args .asked) a m (sound start a e) (sym (c .before .selects .ensures) ∙ not-true (c .before .selects .result) (c .if1 .taken))
+    λ a h. carried (start .args .asked) _ a h (sound start a (h .flat)) (sym (c .before .selects .ensures) ∙ not-true (c .before .selects .result) (c .if1 .taken))
 
 record-length-requires : tie.Need-record-length-requires
 record-length-requires c κs = search needs
@@ -82,22 +81,22 @@ unfolding Judges _>>=_
 returns-2 c =
     let w = c .before .before .before in
     let start = w .before .before .before .before .before .before in
-    λ a m e. by-weighing (start .args .asked) a m (sound start a e) (selected (w .before .before .before)) (Barren _) (ap weighed (sym (c .before .weighed .given .1)) ∙ told w a e)
+    λ a h. by-weighing (start .args .asked) _ a h (sound start a (h .flat)) (selected (w .before .before .before)) (Barren _) (ap weighed (sym (c .before .weighed .given .1)) ∙ told w a (h .flat))
 
 returns-3 : tie.Need-returns-3
 unfolding Judges _>>=_
 returns-3 c =
     let w = c .before .before .before in
     let start = w .before .before .before .before .before .before in
-    λ a m e. by-weighing (start .args .asked) a m (sound start a e) (selected (w .before .before .before)) (Lost _) (ap weighed (sym (c .before .weighed2 .given .1)) ∙ told w a e)
+    λ a h. by-weighing (start .args .asked) _ a h (sound start a (h .flat)) (selected (w .before .before .before)) (Lost _) (ap weighed (sym (c .before .weighed2 .given .1)) ∙ told w a (h .flat))
 
 returns-4 : tie.Need-returns-4
 unfolding Judges _>>=_
 returns-4 c =
     let w = c .before .before .before .before in
     let start = w .before .before .before .before .before .before in
-    λ a m e. rw (w .before .before .record-length .ensures, c .before .block-length .ensures) at (c .by-tail .ensures)
-    ∙ by-weighing (start .args .asked) a m (sound start a e) (selected (w .before .before .before)) Kept (ap weighed (sym (c .before .before .enum-told .given .1)) ∙ told w a e)
+    λ a h. rw (w .before .before .record-length .ensures, c .before .block-length .ensures) at (c .by-tail .ensures)
+    ∙ by-weighing (start .args .asked) _ a h (sound start a (h .flat)) (selected (w .before .before .before)) Kept (ap weighed (sym (c .before .before .enum-told .given .1)) ∙ told w a (h .flat))
 
 pub by-halves-spec : {M : Type 1} → statement M
 by-halves-spec =

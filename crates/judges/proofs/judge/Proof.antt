@@ -6,8 +6,9 @@ use native.Mathlib.Omega.{arith}
 use denote.Ref.{now}
 use lib.ListN.{length}
 use borrow.Author.Needs.{needs}
-use Rattle.rules.specs.Base.{joined}
-use Rattle.rules.specs.Asked.{fieldsOf, Asked as RuleAsked}
+use Rattle.rules.specs.Asked.{Asked as RuleAsked}
+use Rattle.terms.specs.Meaning.{laidFields}
+use Rattle.terms.proofs.Laid.{many-laid}
 use Rattle.terms.specs.declared.Asked.{Asked}
 use Rattle.rows.specs.Flat.{flatOf}
 use Rattle.rows.specs.Kept.{fieldsIn}
@@ -22,16 +23,18 @@ use Rattle.judges.proofs.judge.Statement.{statement}
 use Rattle.judges.proofs.judge.Tie as tie
 
 fair : (c : tie.Start) → AskedFair (c .args .asked) (now (c .args .fields))
-fair c = asked-fair (c .args .asked) (c .pre .asked) (now (c .args .fields)) (c .pre .means) (c .pre .utility) (c .pre .fields) (c .pre .flat)
+fair c = let h = c .pre .says in asked-fair (c .args .asked) (c .pre .asked) (now (c .args .fields)) (h .means) (h .utility) (h .fields) (h .flat)
 
 -- at most 64 fields
 few : (c : tie.Start) → length (now (c .args .fields)) ≤ 320
-few c = omega (arith, c .pre .means .few, c .pre .means .count, fields-many (fieldsOf (joined (c .pre .asked .cards))) (c .pre .flat))
+few c =
+    let h = c .pre .says in
+    omega (arith, h .means .few, many-laid (c .args .asked) (c .pre .asked) (h .means), fields-many (laidFields (c .pre .asked)) (h .flat))
 
 -- where the row holds what a deck asks for, its fields are those
-answered : (x : Asked) (row : List ℕ) (r : Combined) (a : RuleAsked) → row ≡ flatOf (fieldsOf (joined (a .cards))) → answerOf r ≡ combinedOf x (fieldsIn row)
-    → answerOf r ≡ combinedOf x (fieldsOf (joined (a .cards)))
-answered x row r a e h = h ∙ ap (combinedOf x) (ap fieldsIn e ∙ fields-back (fieldsOf (joined (a .cards))))
+answered : (x : Asked) (row : List ℕ) (r : Combined) (a : RuleAsked) → row ≡ flatOf (laidFields a) → answerOf r ≡ combinedOf x (fieldsIn row)
+    → answerOf r ≡ combinedOf x (laidFields a)
+answered x row r a e h = h ∙ ap (combinedOf x) (ap fieldsIn e ∙ fields-back (laidFields a))
 
 combine-requires : tie.Need-combine-requires
 combine-requires c κs = fair (c .before)
@@ -55,14 +58,14 @@ unfolding Judges
 returns c =
     let k = c .before .before .before in
     let s = k .before .before in
-    λ a m e. combined-refused _ a m 8 _ (ap answerOf (sym (c .before .combined .given .1)) ∙ answered (s .args .asked) (now (s .args .fields)) (k .combine .result) a e (k .combine .ensures))
+    λ a h. combined-refused _ _ a h 8 _ (ap answerOf (sym (c .before .combined .given .1)) ∙ answered (s .args .asked) (now (s .args .fields)) (k .combine .result) a (h .flat) (k .combine .ensures))
 
 returns-2 : tie.Need-returns-2
 unfolding Judges
 returns-2 c =
     let k = c .before .before .before in
     let s = k .before .before in
-    λ a m e. combined-refused _ a m 9 _ (ap answerOf (sym (c .before .combined2 .given .1)) ∙ answered (s .args .asked) (now (s .args .fields)) (k .combine .result) a e (k .combine .ensures))
+    λ a h. combined-refused _ _ a h 9 _ (ap answerOf (sym (c .before .combined2 .given .1)) ∙ answered (s .args .asked) (now (s .args .fields)) (k .combine .result) a (h .flat) (k .combine .ensures))
 
 returns-3 : tie.Need-returns-3
 returns-3 c = search needs

@@ -9,16 +9,16 @@ use Rattle.plans.proofs.entries.Statement.{statement}
 use Rattle.plans.proofs.entries.Tie as tie
 
 abbrev Inv-loop : tie.InvT-loop
-Inv-loop fields count out₀ i₀ out i = Filling fields out i
+Inv-loop fields key count out₀ i₀ out i = Filling fields key out i
 
 abbrev μ-loop : tie.MeasureT-loop
-μ-loop fields count out₀ i₀ out i = length fields / 5 - i
+μ-loop fields key count out₀ i₀ out i = length fields / 5 - i
 
 no-entries-requires : tie.Need-no-entries-requires Inv-loop μ-loop
 no-entries-requires c κs = search needs
 
 loop-holds : tie.Need-loop-holds Inv-loop μ-loop
-loop-holds c = fill-start _ _ (c .no-entries .ensures)
+loop-holds c = fill-start _ _ _ (c .no-entries .ensures)
 
 field-at-requires : tie.Need-field-at-requires Inv-loop μ-loop
 field-at-requires c κs = search needs
@@ -42,10 +42,10 @@ loop-again : tie.Need-loop-again Inv-loop μ-loop
 loop-again c =
     let s = c .before .before .before .before .before .before in
     let l = c .before .before .before .loop in
-    fill-more (now (s .args .fields)) (s .pre .1) (l .out) (l .i) (l .inv) (omega arith) _ (rw (c .before .field-at .ensures) at (c .entry .ensures))
+    fill-more (now (s .args .fields)) (s .args .key) (s .pre .1) (l .out) (l .i) (l .inv) (omega arith) _ (rw (c .before .field-at .ensures) at (c .entry .ensures))
 
 returns : tie.Need-returns Inv-loop μ-loop
-returns c = fill-end _ _ _ (c .before .loop .inv) (c .loop-test .left)
+returns c = fill-end _ _ _ _ (c .before .loop .inv) (c .loop-test .left)
 
 pub entries-spec : {M : Type 1} → statement M
 entries-spec =

@@ -40,19 +40,19 @@ returns : tie.Need-returns
 unfolding Verdicts Judges
 returns c =
     let k = c .before .before .before .before in
-    λ a m e. c .refused .ensures ∙ ap (plannedBy (k .before .before .before .before .args .asked)) (ap answerOf (sym (c .before .before .verdict .given .1)) ∙ k .judge .ensures a m e)
+    λ a h. c .refused .ensures ∙ ap (plannedBy (k .before .before .before .before .args .asked)) (ap answerOf (sym (c .before .before .verdict .given .1)) ∙ k .judge .ensures a h)
 
 returns-2 : tie.Need-returns-2
 unfolding Verdicts Judges
 returns-2 c =
     let k = c .before .before .before in
-    λ a m e. c .accepted .ensures ∙ ap (plannedBy (k .before .before .before .before .args .asked)) (ap answerOf (sym (c .before .enum-told .given .1)) ∙ k .judge .ensures a m e)
+    λ a h. c .accepted .ensures ∙ ap (plannedBy (k .before .before .before .before .args .asked)) (ap answerOf (sym (c .before .enum-told .given .1)) ∙ k .judge .ensures a h)
 
 returns-3 : tie.Need-returns-3
 unfolding Verdicts Judges
 returns-3 c =
     let k = c .before .before .before .before in
-    λ a m e. c .accepted2 .ensures ∙ ap (plannedBy (k .before .before .before .before .args .asked)) (ap answerOf (sym (c .before .before .verdict2 .given .1)) ∙ k .judge .ensures a m e)
+    λ a h. c .accepted2 .ensures ∙ ap (plannedBy (k .before .before .before .before .args .asked)) (ap answerOf (sym (c .before .before .verdict2 .given .1)) ∙ k .judge .ensures a h)
 
 pub judged-spec : {M : Type 1} → statement M
 judged-spec =

@@ -1,14 +1,15 @@
 -- `readers::field_behind` meets its contract: the middle, the comma, the last number.
 use Prim.Native.Nat.{_+_}
-use mathlib.Core.Path.{_≡_, sym, _∙_, subst}
+use mathlib.Core.Path.{_≡_, refl, sym, _∙_, subst}
 use borrow.Author.Needs.{needs}
 use denote.Ref.{now}
 use lib.ListN.{getD}
 use native.Mathlib.Omega.{arith}
 use Rattle.rules.specs.Reader.{number}
-use Rattle.rules.specs.Grammar.{kindReader}
+use Rattle.rules.specs.Grammar.{start, kindReader}
 use Rattle.rules.specs.TextParts.{fieldBehind}
 use Rattle.rules.proofs.ChoiceLaws.{byte-inside}
+use Rattle.terms.specs.Meaning.{partOf}
 use Rattle.readers.specs.Meaning.{NumberFrom, KindFrom, ItemFrom}
 use Rattle.terms.specs.declared.Field.{Field}
 use Rattle.readers.specs.declared.KindRead.the-variants.{IsKind}
@@ -37,7 +38,7 @@ middle c =
 returns : tie.Need-returns
 returns c =
     let a = c .before .before .before .before .before .before .before .args in
-    comma-missing (a .r) (now (a .s)) (a .from) _ _ (middle (c .before .before .before) .0) (λ e. c .if1 .taken (c .before .peek .ensures ∙ e))
+    comma-missing (start (partOf (a .part)) (a .r)) (now (a .s)) (a .from) _ _ (middle (c .before .before .before) .0) (λ e. c .if1 .taken (c .before .peek .ensures ∙ e))
 
 -- the comma is there
 comma : (c : tie.Else1) → getD (now (c .before .before .before .before .before .before .before .args .s)) (c .before .before .before .middle .given .0 .1 .1 .1 .1 .1 .0) 256 ≡ 44
@@ -76,23 +77,23 @@ returns-2 c =
     let h = middle m in
     let e = comma (b .before .before .before .before) in
     let r = subst (NumberFrom number (end + 1) s) (b .before .n .given .1) (b .before .before .before .number-at .ensures) in
-    let q = field-placed s (a .from) (g .0) _ _ _ (h .2) (h .4) e _ _ r in
-    subst (λ (f : Field). ItemFrom (fieldBehind (a .r)) (a .from) s (IsField f (record { input = g .1 .1 .1 .0; output = g .1 .1 .1 .1 .0; t = end + 1 }) (b .before .n .given .0 .1 .0))) (sym (c .field .ensures))
-    (field-read (a .r) s (a .from) _ _ _ _ (h .0) e _ _ r, h .1, q .0, h .3, q .1)
+    let q = field-placed (a .place) s (a .from) (g .0) _ _ _ (h .2) (h .4) e _ _ r in
+    subst (λ (f : Field). ItemFrom (fieldBehind (start (partOf (a .part)) (a .r))) (a .from) (a .place) s (IsField (a .part) f (record { r = a .place; input = g .1 .1 .1 .0; output = g .1 .1 .1 .1 .0; t = end + 1 }) (b .before .n .given .0 .1 .0))) (sym (c .field .ensures))
+    (field-read (a .part) (a .r) s (a .from) _ _ _ _ (h .0) e _ _ r, h .1, q .0, h .3, q .1, refl)
 
 returns-3 : tie.Need-returns-3
 returns-3 c =
     let a = c .before .before .before .before .before .before .before .before .before .before .before .args in
     let s = now (a .s) in
     let m = c .before .before .before .before .before .before .before in
-    last-stops (a .r) s (a .from) _ _ (middle m .0) (comma (c .before .before .before .before)) _
+    last-stops (start (partOf (a .part)) (a .r)) s (a .from) _ _ (middle m .0) (comma (c .before .before .before .before)) _
     (subst (NumberFrom number (m .middle .given .0 .1 .1 .1 .1 .1 .0 + 1) s) (c .before .n2 .given .1) (c .before .before .before .number-at .ensures))
 
 returns-4 : tie.Need-returns-4
 returns-4 c =
     let a = c .before .before .before .before .before .args in
     let s = now (a .s) in
-    middle-stops (a .r) s (a .from) _ (subst (KindFrom kindReader (a .from) s) (c .before .middle2 .given .1) (c .before .before .before .kind .ensures))
+    middle-stops (start (partOf (a .part)) (a .r)) s (a .from) _ (subst (KindFrom kindReader (a .from) s) (c .before .middle2 .given .1) (c .before .before .before .kind .ensures))
 
 pub field-behind-spec : {M : Type 1} → statement M
 field-behind-spec =
