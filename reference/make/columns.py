@@ -48,12 +48,12 @@ def examples(f):
     f.at('two-blanks-fs', 3, U + '\n// FS ^ CV' + END, 'the operand is empty', 2, 7)
     f.at('blank-behind-comma', 3, '// U TC,^ FU' + END, 'the operand is TC and a comma', 1, 9)
     f.at('utt-shifts', 3, '// UTT TC,^x' + END, 'two columns more than behind `// U `', 1, 11)
-    f.note('Forms of document 001 that document 01 does not have')
-    f.u('a-keyed', 3, 'A=(^K=1,D=2)', 'the K', 9)
-    f.u('a-keyed-short', 3, 'A=(^K=1,2)', 'the K', 9)
+    f.note('Forms of document 001 that document 01 does not have; keyed input came with order 5 of document 02, and nothing else of them')
+    f.none('a-keyed', '// U A=(K=1,D=2)' + END, '5 1 0', 'it is read; T, F and B are missing')
+    f.u('a-keyed-short', 3, 'A=(K=1,^2)', 'the 2, where D belongs', 13)
     f.u('b-keyed', 3, 'TC,B=(^K=1,D=2)', 'the K', 12)
     f.u('fs-format', 3, 'TR,F^S,A=(9),B=(9)', 'the S', 10)
-    f.fs('keyed-r', 3, '^(K,1),1,1', 'the bracket', 7)
+    f.none('keyed-r', U + '\n// FS (K,1),1,1' + END, '0 0 0 TC FU A=5 B=5 R=1 fs=1 cv=0 1 C:past,1,1,1@2', 'it is read')
     f.fs('keyed-t', 3, '1,1,^(K,1)', 'the bracket', 11)
     f.fs('keyed-t-of-pack', 3, '1,(P,2,2),^(K,1)', 'the bracket', 17)
     f.each('of-001', f.u, 3, ['TC,^E=(2311)', 'TC,^S1', 'T^LF', 'O^Y'], 'no such parameter')
@@ -102,7 +102,7 @@ def wrong_items(f):
              '1,(P,2,2),^/', '1,(P,2,2),1^,', '1,(U^U', '1,(U,^X', '1,(U,2^)', '1,(U,2,^,', '1,(U,2,2^;1', '1,(U,3,5)^1', '1,(U,2,2),^(', '1,(U,2,2),1^)']
     f.each('wrong-item', f.fs, 3, wrong, 'no item goes on so')
     f.note('A byte that no item begins with, and empty items')
-    begins = ['^/1,1,1', '^,1,1', '^V', '^(P,2,2),1', '^TC', '1,2,3/^', '1,1,1/^/1,1,1', 'CV/^', '1,2,3/4,5,6/^A=(5)', 'CV/1,(P,2,2),1/^V']
+    begins = ['^/1,1,1', '^,1,1', '^V', '(^P,2,2),1', '^TC', '1,2,3/^', '1,1,1/^/1,1,1', 'CV/^', '1,2,3/4,5,6/^A=(5)', 'CV/1,(P,2,2),1/^V']
     f.each('no-item', f.fs, 3, begins, 'no item begins so')
     six = ['12345^6,1,1', '1,12345^6,1', '1,1,00000^1/CV', '1,(P,12345^6,2),1', '1,(U,2,00000^2),1', '1,(P,2,2),00000^1']
     f.each('six-digits-item', f.fs, 3, six, 'a sixth digit')

@@ -153,8 +153,10 @@ def operands():
            'A=(5))', 'A=(5)X', 'A=(5)6', 'A=[5]', 'A=(-5)', 'A=(+5)', 'A=(5.0)', 'A=(5;6)', 'A=(X)', 'A=(K=10,D=100)', 'A==(5)', 'a=(5)', 'C=(5)', 'AB=(5)', 'B=', 'B=()', 'B=(5,6',
            'I', 'IX', 'I1', 'IRN', 'IR1', 'ir', 'O', 'OX', 'OY', 'O1', 'ORN', 'OR1', 'R', 'R.', 'R-1', 'R+1', 'R1.', 'R1,0', 'RR1', 'R1R', 'R=1', 'R(1)', 'RX', 'r1',
            'E=(2311)', 'S1', 'S2', 'P', 'PN', 'Q=1', 'K', '5', '(5)', '=', '(', ')', '1,1,1', 'CV', '//']
+    keyed = {'A=(K=10,D=100)': ('0 0 0 TC FU A=K=10,D=100 B=5 R=1 fs=0 cv=0 0', 'the last is none of document 01, and came with order 5 of document 02; with TC and FU it is 8')}
     for i, text in enumerate(bad):
-        u('no-parameter-%d' % (i + 1), 'TC,FU,B=(5),' + text if not text.startswith('B') else 'TC,FU,A=(5),' + text, '3 1', 'the last parameter is none of those listed')
+        expected, why = keyed.get(text, ('3 1', 'the last parameter is none of those listed'))
+        u('no-parameter-%d' % (i + 1), 'TC,FU,B=(5),' + text if not text.startswith('B') else 'TC,FU,A=(5),' + text, expected, why)
     u('blank-in-operand', 'TC FU,A=(5),B=(5)', '5 1', 'the operand is TC alone: F, A and B are missing')
     u('blank-in-brackets', 'TC,FU,A=(5 ),B=(5)', '3 1', 'the operand ends inside A')
     f.note('A number is 1 to 5 digits; leading zeros are allowed')
@@ -184,8 +186,10 @@ def operands():
            '1,(,2,2),1', '1,(2,2),1', '1,(X,2),1', '1,(X,2,2),1', '1,(C,2,2),1', '1,(p,2,2),1', '1,(u,2,2),1', '1,(PU,2,2),1', '1,(P2,2),1', '1,(P;2,2),1', '1,(P,2;2),1', '1,(P,2,2;1', '1,(P,2,2,1',
            '1,P,2,2,1', '1,P,2,2),1', '1,(P,2,2)1', '1(P,2,2),1', '1,(P,2,2)),1', '1,((P,2,2),1', '1,[P,2,2],1', '1,(P,X,2),1', '1,(P,2,X),1', '1,(P,000002,2),1', '1,(U,2,000002),1', '1,(U,2,2)', '1,(U,2),1',
            '(K,1),1,1', '1,1,(K,1)', '1,(U,2,2),(K,1)', 'A=(5)', 'TC', '1,(U,3,5)1']
+    keyed = {'(K,1),1,1': ('0 0 0 TC FU A=5 B=5 R=1 fs=1 cv=0 1 C:past,1,1,1@2', 'no item of document 01; it came with order 5 of document 02, and without a key it is 8')}
     for i, text in enumerate(bad):
-        fs('no-item-%d' % (i + 1), text, '3 2', 'an operand that is not items with slashes between')
+        expected, why = keyed.get(text, ('3 2', 'an operand that is not items with slashes between'))
+        fs('no-item-%d' % (i + 1), text, expected, why)
     fs('item-and-blank', '1,1,1 /', '0 0 0 TC FU A=5 B=5 R=1 fs=1 cv=0 1 C:1,1,1,1@2', 'the slash is comment')
     fs('item-blank-inside', '1,1, 1', '3 2', 'the operand is 1,1 and a comma')
     f.note('The first card whose operand is not of its grammar; refusal 3 looks at all cards before 4 is asked')

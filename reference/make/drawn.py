@@ -1,6 +1,6 @@
-"""Plans, runs and twins drawn by chance, so many of each refusal and reason; their answers are the converter's own."""
+"""Plans, runs, decks and twins drawn by chance, so many of each refusal and reason; their answers are the converter's own."""
 from common import *
-import plans, re, runs, twins as of_twins
+import keys as of_keys, plans, re, runs, twins as of_twins
 
 LONGEST = 2400  # a longer line is left out: the files are many lines, not large ones
 
@@ -23,7 +23,7 @@ def sort_of(kind, answer):
 def drawn(seed, count, kind, wanted, chosen_if=lambda words: True):
     """The drawn cases of a kind, without names, so many of each sort as are wanted, of those that are chosen."""
     out = subprocess.run([CASES, str(seed), str(count), kind, '--large'], capture_output=True, text=True).stdout.split('\n')[:-1]
-    words_asked = 3 if kind == 'run' else 2
+    words_asked = {'run': 3, 'deck': 1}.get(kind, 2)
     counts, chosen = {}, []
     for line in out:
         words = line.split()
@@ -50,7 +50,7 @@ def files_of(name, head, kind, chosen, label):
 
 def make():
     early = {str(number): 50 for number in range(1, 11)}
-    of_plans = drawn(2026, 6000, 'plan', {'0': 300, **early, '15': 100})
+    of_plans = kept('drawn_plans.txt') or drawn(2026, 6000, 'plan', {'0': 300, **early, '15': 100})
     early = {str(number): 24 for number in range(1, 11)}
     of_runs = kept('drawn_runs_1.txt', 'drawn_runs_2.txt', 'drawn_runs_3.txt') or drawn(
         1973, 9000, 'run', {'0': 500, 'empty': 60, **early, '11': 120, '12': 200, '13': 160, '14': 160, '15': 160})
@@ -64,3 +64,22 @@ def twins():
     chosen = kept('drawn_twins.txt') or drawn(
         1964, 6000, 'twins', {'reason 1': 45, 'reason 2': 70, 'reason 3': 60, 'reason 4': 25, **refused, '15': 24, '16': 24})
     return files_of('drawn_twins', of_twins.HEAD, 'twins', chosen, 'drawn-twins')
+
+
+def has_keys(words):
+    """Whether a deck has a keyed A, or a field that is taken from a key."""
+    deck = bytes.fromhex(words[0]) if words[0] != '-' else b''
+    return b'A=(K=' in deck or b'(K,' in deck
+
+
+def keys():
+    """Decks with keys in them, of each kind that is drawn."""
+    f = File('drawn_keys.txt', of_keys.HEAD + ['This file: decks and reels drawn by chance, each deck with a keyed A or a field that is taken from a key.'])
+    chosen = kept(f.name) or (
+        drawn(2321, 20000, 'plan', {'0': 60, '3': 6, '4': 6, '6': 3, '7': 20, '8': 30, '9': 25, '10': 12, '15': 10}, has_keys)
+        + drawn(2311, 20000, 'run', {'0': 80, 'empty': 8, '7': 4, '8': 8, '9': 6, '10': 4, '11': 8, '12': 40, '13': 25, '15': 15}, has_keys)
+        + drawn(2314, 20000, 'deck', {'3': 40, '4': 12, '7': 30}, has_keys)
+        + drawn(3330, 20000, 'twins', {'reason 1': 20, 'reason 2': 25, 'reason 3': 25, '7': 3, '8': 5, '9': 4, '10': 4, '15': 8, '16': 10}, has_keys))
+    for number, case in enumerate(chosen, 1):
+        f.case('drawn-key-%d' % number, case, None)
+    return [f]

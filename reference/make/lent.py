@@ -3,7 +3,7 @@ from common import *
 
 PATTERN = [((i + 7) % 256, i + 1000, i + 2000, i + 3000, i + 4000) for i in range(70)]
 BYTES = bytes(i % 251 for i in range(70000))
-KINDS = {'C': 0, 'P': 1, 'U': 2}
+KINDS = {'C': 0, 'P': 1, 'U': 2, 'KC': 256, 'KP': 257, 'KU': 258}
 
 
 def digest(numbers):
@@ -14,7 +14,8 @@ def digest(numbers):
 
 
 def table_digest(fields):
-    """Of all 70 entries, the first holding these fields (letter, r, input, output, t), the others the pattern."""
+    """Of all 70 entries, the first holding these fields (letter, behind a K where it is taken from the key, r, input, output, t), the others the pattern. Kind and part are one
+    number, kind + 256 part."""
     entries = [(KINDS[f[0]],) + tuple(f[1:]) for f in fields]
     return digest(x for entry in entries + PATTERN[len(entries):] for x in entry)
 

@@ -35,7 +35,7 @@ def make():
         d('t6-%d' % (i + 1), '// UTT TF,FV,A=(20,300),B=(20,300)\n// FS ' + items + END, '0 0 0 TF FV A=20,300 B=20,300 R=1 fs=1 cv=2 2 C:1,2,2,3@2 C:4,5,5,6@2', 'three places of CV, one meaning')
     u('t7-300', 'TC,FU,A=(300),B=(300)', read('TC', 'FU', 300, 300), 'values of the text')
     u('t7-50', 'TC,FF,A=(50,250),B=(50,250)', read('TC', 'FF', '50,250', '50,250'), 'values of the text')
-    u('t7-keys', 'TC,FF,A=(K=10,D=60),B=(70,70)', '3 1', 'keys are not built')
+    u('t7-keys', 'TC,FF,A=(K=10,D=60),B=(70,70)', read('TC', 'FF', 'K=10,D=60', '70,70'), 'a key with copy is 8, not asked here')
     u('t8', 'TR,FF,A=(80,80),B=(80,80),R2', read('TR', 'FF', '80,80', '80,80', 2), 'skip and reblock')
     u('t8-copy', 'TC,FF,A=(80,80),B=(80,80),R2', read('TC', 'FF', '80,80', '80,80', 2), 'with copy it is 8, not asked here')
     u('t8-99999999', 'TR,FF,A=(80,80),B=(80,80),R99999999', '3 1', 'R of eight digits')
@@ -58,11 +58,14 @@ def make():
     u('c7-s', 'TC,FF,A=(80,80),B=(80,80),I1,O1,S2,R1', '3 1', 'device parameters')
     f.note('Disk and data cell')
     d('d1-udd', '// UDD TF,FF,A=(K=10,D=100),B=(K=10,D=31)\n// FS (K,1),10,(K,1)/6,15,1/21,(P,5,3),16' + END, '1 1', 'another program\'s card')
-    d('d1', '// U TF,FF,A=(K=10,D=100),B=(K=10,D=31)\n// FS (K,1),10,(K,1)/6,15,1/21,(P,5,3),16' + END, '3 1', 'keys are not built')
-    d('d1-b', '// U TF,FF,A=(110,110),B=(41,41)\n// FS (K,1),10,1/6,15,11/21,(P,5,3),26/77,(P,3,2),29/80,(P,6,4),31\n// FS 28,(P,8,5),35/26,(P,2,2),40' + END, '3 2', 'a keyed field on card 2')
+    d('d1', '// U TF,FF,A=(K=10,D=100),B=(K=10,D=31)\n// FS (K,1),10,(K,1)/6,15,1/21,(P,5,3),16' + END, '3 1', 'keyed output is not built')
+    d('d1-b', '// U TF,FF,A=(110,110),B=(41,41)\n// FS (K,1),10,1/6,15,11/21,(P,5,3),26/77,(P,3,2),29/80,(P,6,4),31\n// FS 28,(P,8,5),35/26,(P,2,2),40' + END,
+      '0 0 0 TF FF A=110,110 B=41,41 R=1 fs=2 cv=0 7 C:past,10,10,1@2 C:6,15,15,11@2 P:21,5,3,26@2 P:77,3,2,29@2 P:80,6,4,31@2 P:28,8,5,35@3 P:26,2,2,40@3',
+      'a keyed field on card 2; without a key it is 8, not asked here')
     d('d2-umt', '// UMT TRF,FF,A=(K=10,D=100),B=(110,440),ON\n// FS (K,1),10,1/1,100,11' + END, '1 1', 'another program\'s card')
-    d('d2', '// U TRF,FF,A=(K=10,D=100),B=(110,440),ON\n// FS (K,1),10,1/1,100,11' + END, '3 1', 'keys are not built')
-    u('d3', 'TC,FF,A=(K=10,D=100),B=(K=10,D=100),OY', '3 1', 'keys are not built')
+    d('d2', '// U TRF,FF,A=(K=10,D=100),B=(110,440),ON\n// FS (K,1),10,1/1,100,11' + END,
+      '0 0 0 TRF FF A=K=10,D=100 B=110,440 R=1 fs=1 cv=0 2 C:K1,10,10,1@2 C:1,100,100,11@2', 'data cell to tape, the key before the data')
+    u('d3', 'TC,FF,A=(K=10,D=100),B=(K=10,D=100),OY', '3 1', 'keyed output is not built')
     d('d3-two-lines', '// U TC,FF,A=(K=10,D=100),B=(K=10,D=100),\nOY' + END, '1 2', 'the second line is no card')
     d('d4', '// U TF,FF,A=(80,80),B=(K=10,D=70),ON\n// FS 75,6,(K,1)/1,70,1' + END, '3 1', 'keyed output is not built')
     u('d5', 'TR,FF,A=(80,80),B=(80,960),OY', '3 1', 'OY is not one of OR, ON, OU')
@@ -96,6 +99,10 @@ def make():
 
 def drawn():
     f = File('drawn_decks.txt', HEAD + ['This file: decks drawn by chance, most of them right decks with a fault or two put in.'])
+    for number, case in enumerate(kept(f.name), 1):
+        f.case('deck-%d' % number, case, None)
+    if f.names:
+        return f
     out = subprocess.run([CASES, '4711', '1500', 'plan'], capture_output=True, text=True).stdout.split('\n')[:-1]
     counts, number = {}, 0
     wanted = {0: 60, 8: 60, 9: 20, 10: 20, 15: 20}

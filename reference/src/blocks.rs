@@ -1,6 +1,7 @@
 //! The rule of a block in each format (refusal 12), and the records in it.
 
-use crate::grammar::Format;
+use crate::grammar::{Format, Part, Sizes};
+use crate::parts;
 use crate::plan::{longest_block, record_length, Plan};
 
 /// The length in 2 bytes and 2 zero bytes that start an FV block and each record.
@@ -16,6 +17,12 @@ fn fixed<'a>(plan: &Plan, block: &'a [u8]) -> Option<Vec<&'a [u8]>> {
     let (n, m) = (record_length(plan.a), longest_block(plan.a));
     let right = (1..=m).contains(&block.len()) && block.len().is_multiple_of(n);
     right.then(|| block.chunks(n).collect())
+}
+
+/// Keys: the block is one record, the key and the data behind it (document 02, order 5).
+fn keyed<'a>(plan: &Plan, block: &'a [u8]) -> Option<Vec<&'a [u8]>> {
+    let (key, data) = (parts::length(plan.a, Part::Key), parts::length(plan.a, Part::Data));
+    (block.len() == key + data).then(|| vec![block])
 }
 
 /// FV: records fill the block exactly, at least one; the data of each, without its word.
@@ -46,6 +53,7 @@ fn undefined<'a>(plan: &Plan, block: &'a [u8]) -> Option<Vec<&'a [u8]>> {
 /// The data of the records of a block; nothing if the block breaks its rule.
 pub fn records<'a>(plan: &Plan, block: &'a [u8]) -> Option<Vec<&'a [u8]>> {
     match plan.format {
+        Format::FF if matches!(plan.a, Sizes::Keyed(..)) => keyed(plan, block),
         Format::FF => fixed(plan, block),
         Format::FV => variable(plan, block),
         Format::FU => undefined(plan, block),

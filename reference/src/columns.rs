@@ -4,13 +4,15 @@ use crate::deck::{Card, Shape};
 use crate::grammar;
 
 /// What stands between the commas of a U operand; `#` is a number.
-const PARAMETERS: [&str; 18] = [
-    "TC", "TF", "TR", "TRF", "FF", "FV", "FU", "A=(#)", "A=(#,#)", "B=(#)", "B=(#,#)", "IR", "IN", "IU", "OR",
-    "ON", "OU", "R#",
+const PARAMETERS: [&str; 19] = [
+    "TC", "TF", "TR", "TRF", "FF", "FV", "FU", "A=(#)", "A=(#,#)", "A=(K=#,D=#)", "B=(#)", "B=(#,#)", "IR",
+    "IN", "IU", "OR", "ON", "OU", "R#",
 ];
 
 /// What stands between the slashes of an FS operand.
-const ITEMS: [&str; 4] = ["#,#,#", "#,(P,#,#),#", "#,(U,#,#),#", "CV"];
+const ITEMS: [&str; 7] = [
+    "#,#,#", "#,(P,#,#),#", "#,(U,#,#),#", "(K,#),#,#", "(K,#),(P,#,#),#", "(K,#),(U,#,#),#", "CV",
+];
 
 /// How many bytes of a text agree with a form, and whether they are the whole form.
 fn agreeing(form: &str, text: &[u8]) -> (usize, bool) {

@@ -1,6 +1,6 @@
 //! The combinations required of mode, format, sizes and FS cards (refusal 8).
 
-use crate::grammar::{Format, Item, Mode, Sizes};
+use crate::grammar::{Format, Item, Mode, Part, Sizes};
 use crate::limits::{items, Asked};
 use crate::{refuse_at, Refused};
 
@@ -8,14 +8,23 @@ fn selects(asked: &Asked) -> bool {
     matches!(asked.mode, Mode::TF | Mode::TRF)
 }
 
-/// FF: two numbers each. FU: one. FV: two with TF or TRF, else one.
+fn is_keyed(asked: &Asked) -> bool {
+    matches!(asked.a, Sizes::Keyed(..))
+}
+
+/// FF: two numbers each, of which key and data are two. FU: one. FV: two with TF or TRF, else one.
 fn right_count(asked: &Asked, sizes: Sizes) -> bool {
     let two = match asked.format {
         Format::FF => true,
         Format::FU => false,
         Format::FV => selects(asked),
     };
-    two == matches!(sizes, Sizes::Two(..))
+    two != matches!(sizes, Sizes::One(_))
+}
+
+/// Keys: only FF, with TF or TRF (document 02, order 5).
+fn keys_allowed(asked: &Asked) -> bool {
+    !is_keyed(asked) || (asked.format == Format::FF && selects(asked))
 }
 
 /// FF: m a multiple of n. FV with two numbers: n+8 at most m.
@@ -27,12 +36,14 @@ fn sizes_agree(format: Format, sizes: Sizes) -> bool {
     }
 }
 
-/// TC: A equals B. TR with FF: equal record lengths. TF with FF: equal m divided by n.
+/// TC: A equals B. TR with FF: equal record lengths. TF with FF: equal m divided by n; a keyed block is one record, so with keys a
+/// block of B holds one too.
 fn a_and_b_agree(asked: &Asked) -> bool {
     match (asked.mode, asked.format, asked.a, asked.b) {
         (Mode::TC, _, a, b) => a == b,
         (Mode::TR, Format::FF, Sizes::Two(n, _), Sizes::Two(p, _)) => n == p,
         (Mode::TF, Format::FF, Sizes::Two(n, m), Sizes::Two(p, q)) => m / n == q / p,
+        (Mode::TF, Format::FF, Sizes::Keyed(..), Sizes::Two(p, q)) => p == q,
         _ => true,
     }
 }
@@ -42,6 +53,7 @@ fn u_card_right(asked: &Asked) -> bool {
     let copies = asked.mode == Mode::TC;
     (asked.format != Format::FU || copies)
         && (!copies || asked.first == 1)
+        && keys_allowed(asked)
         && right_count(asked, asked.a)
         && right_count(asked, asked.b)
         && sizes_agree(asked.format, asked.a)
@@ -58,8 +70,11 @@ fn broken(asked: &Asked) -> Option<usize> {
     if !selects(asked) && !asked.fs.is_empty() {
         return Some(2);
     }
-    let cv = items(&asked.fs).find(|(_, item)| *item == Item::CV);
-    if asked.format == Format::FV { None } else { cv.map(|(card, _)| card) }
+    let wrong = |item| match item {
+        Item::CV => asked.format != Format::FV,
+        Item::Field(field) => field.part == Part::Key && !is_keyed(asked),
+    };
+    items(&asked.fs).find(|(_, item)| wrong(*item)).map(|(card, _)| card)
 }
 
 /// Refusal 8, or go on.

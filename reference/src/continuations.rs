@@ -12,11 +12,13 @@ mod chance;
 
 use chance::Chance;
 
-const PARAMETERS: [&str; 18] = [
-    "TC", "TF", "TR", "TRF", "FF", "FV", "FU", "A=(1)", "A=(1,1)", "B=(1)", "B=(1,1)", "IR", "IN", "IU", "OR",
-    "ON", "OU", "R1",
+const PARAMETERS: [&str; 19] = [
+    "TC", "TF", "TR", "TRF", "FF", "FV", "FU", "A=(1)", "A=(1,1)", "A=(K=1,D=1)", "B=(1)", "B=(1,1)", "IR",
+    "IN", "IU", "OR", "ON", "OU", "R1",
 ];
-const ITEMS: [&str; 4] = ["1,1,1", "1,(P,1,1),1", "1,(U,1,1),1", "CV"];
+const ITEMS: [&str; 7] = [
+    "1,1,1", "1,(P,1,1),1", "1,(U,1,1),1", "(K,1),1,1", "(K,1),(P,1,1),1", "(K,1),(U,1,1),1", "CV",
+];
 
 /// A grammar with its texts of one parameter or item, and what has been found about beginnings.
 struct Grammar {
@@ -99,7 +101,7 @@ fn grammars() -> [Grammar; 2] {
 /// One to three bytes changed, inserted or dropped, or all from one on cut off.
 fn damage(chance: &mut Chance, operand: &mut Vec<u8>) {
     for _ in 0..chance.range(1, 3) {
-        let byte = chance.pick(b"TCFRVUABINOKPXS=()0123456789,,//;-.x#~");
+        let byte = chance.pick(b"TCFRVUABINOKDPXS=()0123456789,,//;-.x#~");
         let at = chance.below(operand.len() + 1);
         match chance.below(4) {
             0 if at < operand.len() => operand[at] = byte,
@@ -135,7 +137,7 @@ fn damaged_operands() {
 /// All texts of at most three bytes that the grammars use, and one that they do not.
 #[test]
 fn short_operands() {
-    let longer = |text: &Vec<u8>| b"TCFRVUABINOP=(),/1x".map(|byte| [&text[..], &[byte]].concat());
+    let longer = |text: &Vec<u8>| b"TCFRVUABINOPKD=(),/1x".map(|byte| [&text[..], &[byte]].concat());
     for mut grammar in grammars() {
         let mut texts = vec![Vec::new()];
         grammar.compare(&texts[0]);

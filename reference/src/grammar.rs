@@ -18,11 +18,12 @@ pub enum Format {
     FU,
 }
 
-/// The numbers of A or B: `(g)` or `(n,m)`.
+/// The numbers of A or B: `(g)` or `(n,m)`; of A alone also `(K=k,D=d)`, the lengths of key and data (document 02, order 5).
 #[derive(Clone, Copy, Debug, PartialEq, Eq)]
 pub enum Sizes {
     One(usize),
     Two(usize, usize),
+    Keyed(usize, usize),
 }
 
 #[derive(Clone, Copy, Debug, PartialEq, Eq)]
@@ -43,9 +44,18 @@ pub enum Step {
     Unpack,
 }
 
+/// The part of an input record that a field reads.
+#[derive(Clone, Copy, Debug, PartialEq, Eq)]
+pub enum Part {
+    Data,
+    Key,
+}
+
 #[derive(Clone, Copy, Debug, PartialEq, Eq)]
 pub struct Field {
     pub step: Step,
+    pub part: Part,
+    /// The first position read, from 1 in its part.
     pub r: usize,
     pub input: usize,
     pub output: usize,
@@ -82,6 +92,14 @@ fn sizes(text: &[u8]) -> Option<Sizes> {
     }
 }
 
+/// `(K=k,D=d)`, and nothing else with a key in it.
+fn keyed(text: &[u8]) -> Option<Sizes> {
+    let inner = text.strip_prefix(b"(K=")?.strip_suffix(b")")?;
+    let comma = inner.iter().position(|byte| *byte == b',')?;
+    let (k, d) = (&inner[..comma], inner[comma..].strip_prefix(b",D=")?);
+    Some(Sizes::Keyed(number(k)?, number(d)?))
+}
+
 /// One parameter of a U operand, read whole.
 fn parameter(text: &[u8]) -> Option<Parameter> {
     match text {
@@ -94,7 +112,7 @@ fn parameter(text: &[u8]) -> Option<Parameter> {
         b"FU" => Some(Parameter::F(Format::FU)),
         b"IR" | b"IN" | b"IU" => Some(Parameter::I),
         b"OR" | b"ON" | b"OU" => Some(Parameter::O),
-        [b'A', b'=', rest @ ..] => sizes(rest).map(Parameter::A),
+        [b'A', b'=', rest @ ..] => sizes(rest).or_else(|| keyed(rest)).map(Parameter::A),
         [b'B', b'=', rest @ ..] => sizes(rest).map(Parameter::B),
         [b'R', rest @ ..] => number(rest).map(Parameter::R),
         _ => None,
@@ -117,21 +135,26 @@ pub fn u_operand(operand: &[u8]) -> Option<Vec<Parameter>> {
     between_commas(operand).into_iter().map(parameter).collect()
 }
 
-/// `r,s,t`, `r,(P,n,m),t`, `r,(U,n,m),t` or `CV`.
+/// `r,s,t`, `r,(P,n,m),t`, `r,(U,n,m),t`, each also with `(K,r)` in place of r, or `CV`.
 fn item(text: &[u8]) -> Option<Item> {
     if text == b"CV" {
         return Some(Item::CV);
     }
     let parts: Vec<&[u8]> = text.split(|byte| *byte == b',').collect();
-    let (step, r, input, output, t) = match parts[..] {
-        [r, s, t] => (Step::Copy, r, s, s, t),
-        [r, b"(P", n, m, t] => (Step::Pack, r, n, m.strip_suffix(b")")?, t),
-        [r, b"(U", n, m, t] => (Step::Unpack, r, n, m.strip_suffix(b")")?, t),
+    let (part, r, rest) = match &parts[..] {
+        [b"(K", r, rest @ ..] => (Part::Key, r.strip_suffix(b")")?, rest),
+        [r, rest @ ..] => (Part::Data, *r, rest),
+        [] => return None,
+    };
+    let (step, input, output, t) = match *rest {
+        [s, t] => (Step::Copy, s, s, t),
+        [b"(P", n, m, t] => (Step::Pack, n, m.strip_suffix(b")")?, t),
+        [b"(U", n, m, t] => (Step::Unpack, n, m.strip_suffix(b")")?, t),
         _ => return None,
     };
     let (r, t) = (number(r)?, number(t)?);
     let (input, output) = (number(input)?, number(output)?);
-    Some(Item::Field(Field { step, r, input, output, t }))
+    Some(Item::Field(Field { step, part, r, input, output, t }))
 }
 
 /// The texts between the slashes.

@@ -4,6 +4,7 @@
 //! what value stands in an output half and from which input half it was taken.
 
 use crate::grammar::{Field, Step};
+use crate::parts::Parts;
 
 /// Half 2i is the high half of byte i, half 2i+1 the low.
 pub fn halves(bytes: &[u8]) -> Vec<u8> {
@@ -54,10 +55,10 @@ pub fn unpack(src: &[u8], m: usize) -> Vec<u8> {
     bytes(&unpack_halves(&halves(src), m, |value| value))
 }
 
-/// The halves that a field writes, from the halves of the input record.
-fn written<H: Copy>(field: &Field, record: &[H], made: impl Fn(u8) -> H) -> Vec<H> {
+/// The halves that a field writes, from the halves of the part that it reads.
+fn written<H: Copy>(field: &Field, record: Parts<H>, made: impl Fn(u8) -> H) -> Vec<H> {
     let start = 2 * (field.r - 1);
-    let read = &record[start..start + 2 * field.input];
+    let read = &record.of(field.part)[start..start + 2 * field.input];
     match field.step {
         Step::Copy => read.to_vec(),
         Step::Pack => pack_halves(read, field.output, made),
@@ -69,7 +70,7 @@ fn written<H: Copy>(field: &Field, record: &[H], made: impl Fn(u8) -> H) -> Vec<
 pub fn finished<H: Copy>(
     fields: &[Field],
     n: usize,
-    record: &[H],
+    record: Parts<H>,
     made: impl Fn(u8) -> H + Copy,
 ) -> Vec<H> {
     let mut output: Vec<H> = (0..n).flat_map(|_| [made(4), made(0)]).collect();

@@ -1,4 +1,4 @@
-//! A second writing of document 01 ("the paper") and orders 1 to 3 of document 02, to compare other definitions with.
+//! A second writing of document 01 ("the paper") and orders 1 to 3 and 5 of document 02, to compare other definitions with.
 //!
 //! One module for each part of the paper. Nothing here is made to be fast.
 
@@ -9,6 +9,7 @@ pub mod deck;
 pub mod grammar;
 pub mod halves;
 pub mod limits;
+pub mod parts;
 pub mod permitted;
 pub mod plan;
 pub mod reel;

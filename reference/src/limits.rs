@@ -65,16 +65,21 @@ fn field_65(asked: &Asked) -> Option<usize> {
 
 type Limit = RangeInclusive<usize>;
 
-const SHORT: Limit = 1..=4_096;
+/// The bytes of the longest record with n, or with key and data.
+const LONGEST: usize = 4_096;
+
+const SHORT: Limit = 1..=LONGEST;
 const LONG: Limit = 1..=32_760;
 const DIGITS: Limit = 1..=16;
 
-/// The limits of the numbers of a parameter, in the order in which they stand.
+/// The limits of the numbers of a parameter, in the order in which they stand. Key and data together have at most 4,096 bytes:
+/// that is asked of D, which has at most what K leaves.
 fn of_parameter(parameter: &Parameter, format: Format) -> Vec<Limit> {
     let single = if format == Format::FV { 9..=32_760 } else { LONG };
     match parameter {
         Parameter::A(Sizes::One(_)) | Parameter::B(Sizes::One(_)) => vec![single],
         Parameter::A(Sizes::Two(..)) | Parameter::B(Sizes::Two(..)) => vec![SHORT, LONG],
+        Parameter::A(Sizes::Keyed(k, _)) | Parameter::B(Sizes::Keyed(k, _)) => vec![SHORT, 1..=LONGEST.saturating_sub(*k)],
         Parameter::R(_) => vec![1..=65_536],
         Parameter::T(_) | Parameter::F(_) | Parameter::I | Parameter::O => vec![],
     }

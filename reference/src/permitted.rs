@@ -1,6 +1,6 @@
 //! The permitted values of each half of the first n bytes, as sets of 16 marks.
 
-use crate::grammar::{Field, Step};
+use crate::grammar::{Field, Part, Step};
 
 /// Bit v is set if the value v is permitted.
 pub type Values = u16;
@@ -24,16 +24,21 @@ fn of_field(field: &Field, half: usize) -> Values {
     }
 }
 
-/// The values permitted in each half of the first `n` bytes: those that all fields permit.
-pub fn permitted(fields: &[Field], n: usize) -> Vec<Values> {
-    let mut values = vec![ANY; 2 * n];
-    for field in fields {
+/// The values permitted in each half of the first `length` bytes of a part: those that all fields permit that read it.
+fn in_part(fields: &[Field], part: Part, length: usize) -> Vec<Values> {
+    let mut values = vec![ANY; 2 * length];
+    for field in fields.iter().filter(|field| field.part == part) {
         let start = 2 * (field.r - 1);
         for half in 0..2 * field.input {
             values[start + half] &= of_field(field, half);
         }
     }
     values
+}
+
+/// The values permitted in each half, of a key of `key` bytes and then of the first `data` bytes of the data.
+pub fn permitted(fields: &[Field], key: usize, data: usize) -> Vec<Values> {
+    [in_part(fields, Part::Key, key), in_part(fields, Part::Data, data)].concat()
 }
 
 /// Whether every half of `halves` that has permitted values holds one of them.

@@ -1,9 +1,9 @@
 //! The plan of a deck: its refusals (9 and 10 here), keeping, lost place and fields.
 
-use crate::grammar::{Field, Format, Item, Mode, Sizes, Step};
+use crate::grammar::{Field, Format, Item, Mode, Part, Sizes, Step};
 use crate::limits::{items, Asked};
 use crate::permitted::{permitted, Values};
-use crate::{combinations, deck, grammar, halves, limits, refuse_at, Refused};
+use crate::{combinations, deck, grammar, halves, limits, parts, refuse_at, Refused};
 
 /// An accepted deck.
 #[derive(Clone, Debug)]
@@ -15,23 +15,25 @@ pub struct Plan {
     pub first: usize,
     pub fields: Vec<Field>,
     pub cv: bool,
-    /// The permitted values of the first n bytes; none in TC and TR.
+    /// The permitted values of the first n bytes, of key and data joined; none in TC and TR.
     pub values: Vec<Values>,
 }
 
-/// The longest block that sizes allow: m, or g.
+/// The longest block that sizes allow: m, or g; key and data, which are one record, are one block too.
 pub fn longest_block(sizes: Sizes) -> usize {
     match sizes {
         Sizes::One(g) => g,
         Sizes::Two(_, m) => m,
+        Sizes::Keyed(k, d) => k + d,
     }
 }
 
-/// The record length n; 0 where there is no such number.
+/// The record length n, of key and data together; 0 where there is no such number.
 pub fn record_length(sizes: Sizes) -> usize {
     match sizes {
         Sizes::One(_) => 0,
         Sizes::Two(n, _) => n,
+        Sizes::Keyed(k, d) => k + d,
     }
 }
 
@@ -42,10 +44,10 @@ impl Plan {
     }
 }
 
-/// The first field that does not lie inside its records.
+/// The first field that does not lie inside its records: where it reads, inside its own part.
 fn field_outside(fields: &[Field], a: Sizes, b: Sizes) -> Option<usize> {
     let outside = |field: &Field| {
-        field.r + field.input - 1 > record_length(a) || field.t + field.output - 1 > record_length(b)
+        field.r + field.input - 1 > parts::length(a, field.part) || field.t + field.output - 1 > record_length(b)
     };
     fields.iter().position(outside).map(|index| index + 1)
 }
@@ -57,8 +59,8 @@ fn judge(asked: &Asked) -> Result<Plan, Refused> {
     let fields: Vec<Field> = all().filter_map(field).collect();
     refuse_at(9, field_outside(&fields, asked.a, asked.b))?;
     let selects = matches!(asked.mode, Mode::TF | Mode::TRF);
-    let length = if selects { record_length(asked.a) } else { 0 };
-    let values = permitted(&fields, length);
+    let length = |part| if selects { parts::length(asked.a, part) } else { 0 };
+    let values = permitted(&fields, length(Part::Key), length(Part::Data));
     refuse_at(10, values.iter().position(|values| *values == 0))?;
     let cv = all().any(|item| item == Item::CV);
     let Asked { mode, format, a, b, first, .. } = *asked;
@@ -80,7 +82,7 @@ pub fn lost(plan: &Plan) -> Option<usize> {
     }
     let n = record_length(plan.a);
     let labels: Vec<Option<usize>> = (0..2 * n).map(Some).collect();
-    let taken = halves::finished(&plan.fields, record_length(plan.b), &labels, |_| None);
+    let taken = halves::finished(&plan.fields, record_length(plan.b), parts::halves_of(plan.a, &labels), |_| None);
     let mut seen = vec![false; 2 * n];
     for half in taken.into_iter().flatten() {
         seen[half] = true;
@@ -120,10 +122,11 @@ impl Planned {
     }
 }
 
-/// One entry of a lent table; `step` is 0 copy, 1 pack, 2 unpack.
+/// One entry of a lent table; `step` is 0 copy, 1 pack, 2 unpack, `part` 0 data, 1 key.
 #[derive(Clone, Copy, Debug, Default, PartialEq, Eq)]
 pub struct Entry {
     pub step: usize,
+    pub part: usize,
     pub r: usize,
     pub input: usize,
     pub output: usize,
@@ -136,7 +139,11 @@ fn entry(field: &Field) -> Entry {
         Step::Pack => 1,
         Step::Unpack => 2,
     };
-    Entry { step, r: field.r, input: field.input, output: field.output, t: field.t }
+    let part = match field.part {
+        Part::Data => 0,
+        Part::Key => 1,
+    };
+    Entry { step, part, r: field.r, input: field.input, output: field.output, t: field.t }
 }
 
 /// The plan of a deck, without a table.

@@ -3,7 +3,7 @@
 use crate::grammar::{Format, Mode};
 use crate::permitted::all_permitted;
 use crate::plan::{accepted, longest_block, record_length, Plan};
-use crate::{blocks, halves, reel, refuse_at, Refused};
+use crate::{blocks, halves, parts, reel, refuse_at, Refused};
 
 /// The answer of a run; `reel` is what was written, nothing if refused.
 #[derive(Clone, Debug, Default, PartialEq, Eq)]
@@ -120,7 +120,8 @@ fn converted(plan: &Plan, data: &[u8]) -> Vec<u8> {
         return data.to_vec();
     }
     let input = halves::halves(data);
-    let output = halves::finished(&plan.fields, record_length(plan.b), &input, |value| value);
+    let record = parts::halves_of(plan.a, &input);
+    let output = halves::finished(&plan.fields, record_length(plan.b), record, |value| value);
     let mut bytes = halves::bytes(&output);
     if plan.cv {
         bytes.extend(&data[record_length(plan.a)..]);

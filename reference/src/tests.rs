@@ -138,7 +138,6 @@ fn columns_of_3() {
     assert_eq!(column("// U TC\n// FS "), (3, 2, 7));
     assert_eq!(column("// U  TC"), (3, 1, 6));
     assert_eq!(column("// U TC, FU"), (3, 1, 9));
-    assert_eq!(column("// U A=(K=1,D=2)"), (3, 1, 9));
     assert_eq!(column("// U FS"), (3, 1, 7));
     assert_eq!(column("// U TC\n// FS 1,1,(K,1)"), (3, 2, 11));
     assert_eq!(column("// U TC,TC\n// FS 1,2,3/\n// FS x"), (3, 2, 13));
@@ -203,8 +202,8 @@ fn fields_64_and_65_and_the_table() {
     assert_eq!(plan_into(FIRST.as_bytes(), &mut table[..1]).place, 2);
     assert_eq!(table, [blank; 3]);
     assert_eq!(plan_into(FIRST.as_bytes(), &mut table), plan(FIRST.as_bytes()));
-    let copy = Entry { step: 0, r: 1, input: 4, output: 4, t: 1 };
-    let pack = Entry { step: 1, r: 5, input: 4, output: 3, t: 5 };
+    let copy = Entry { step: 0, part: 0, r: 1, input: 4, output: 4, t: 1 };
+    let pack = Entry { step: 1, part: 0, r: 5, input: 4, output: 3, t: 5 };
     assert_eq!(table, [copy, pack, blank]);
 }
 
@@ -339,6 +338,162 @@ fn each_reason_and_the_lowest_values() {
     twins_are(&tail("1,1,1"), 1, "0000", "0010");
 }
 
+/// A keyed deck of TRF with these FS cards.
+fn keyed(a: &str, b: &str, fs: &[&str]) -> String {
+    let cards: String = fs.iter().map(|items| format!("// FS {items}\n")).collect();
+    format!("// U TRF,FF,A=({a}),B=({b})\n{cards}// END\n")
+}
+
+#[test]
+fn keyed_decks_of_the_manual() {
+    let d1 = keyed("K=10,D=100", "41,41", &["(K,1),10,1/6,15,11/21,(P,5,3),26/77,(P,3,2),29/80,(P,6,4),31", "28,(P,8,5),35/26,(P,2,2),40"]);
+    assert_eq!(planned(&d1), (0, 0, 0, 20, 7));
+    assert_eq!(planned(&d1.replace("TRF", "TF")), (0, 0, 0, 20, 7));
+    let d2 = keyed("K=10,D=100", "110,440", &["(K,1),10,1/1,100,11"]);
+    assert_eq!(planned(&d2), (0, 0, 1, 0, 2));
+    assert_eq!(planned(&d2.replace("TRF", "TF")), (8, 1, 0, 0, 0));
+    assert_eq!(planned(&d2.replace("TRF", "TF").replace("440", "110")), (0, 0, 1, 0, 2));
+    assert_eq!(column("// U TC,FF,A=(K=10,D=100),B=(K=10,D=100),OY"), (3, 1, 30));
+}
+
+#[test]
+fn columns_of_keys() {
+    assert_eq!(column("// U A=(K=1,2)"), (3, 1, 13));
+    assert_eq!(column("// U A=(K=1)"), (3, 1, 12));
+    assert_eq!(column("// U A=(1,D=2)"), (3, 1, 11));
+    assert_eq!(column("// U A=(D=2,K=1)"), (3, 1, 9));
+    assert_eq!(column("// U A=(k=1,D=2)"), (3, 1, 9));
+    assert_eq!(column("// U A=(K=1,D=2,3)"), (3, 1, 16));
+    assert_eq!(column("// U A=(K=123456,D=2)"), (3, 1, 16));
+    assert_eq!(column("// U A=(K=1,D="), (3, 1, 15));
+    assert_eq!(column("// U TC,B=(K=1,D=2)"), (3, 1, 12));
+    assert_eq!(column("// U TC\n// FS 1,1,(K,1)"), (3, 2, 11));
+    assert_eq!(column("// U TC\n// FS (K,1),1,(K,1)"), (3, 2, 15));
+    assert_eq!(column("// U TC\n// FS (K,1)"), (3, 2, 12));
+    assert_eq!(column("// U TC\n// FS (K,1,1),1"), (3, 2, 11));
+    assert_eq!(column("// U TC\n// FS (D,1),1,1"), (3, 2, 8));
+    assert_eq!(column("// U TC\n// FS (K,1)/CV"), (3, 2, 12));
+    assert_eq!(column("// U A=(K=1,D=2),TF,A=(3,3)"), (4, 1, 21));
+    assert_eq!(column("// U A=(3,3),A=(K=1,D=2)"), (4, 1, 14));
+}
+
+#[test]
+fn limits_of_keys() {
+    let a = |sizes: &str| column(&format!("// U TF,FF,A=({sizes}),B=(1,1)\n// FS (K,1),1,1"));
+    assert_eq!(refusal(&keyed("K=1,D=4095", "1,1", &["(K,1),1,1"])), (0, 0));
+    assert_eq!(refusal(&keyed("K=4095,D=1", "1,1", &["(K,1),1,1"])), (0, 0));
+    assert_eq!(a("K=1,D=4096"), (7, 1, 21));
+    assert_eq!(a("K=4095,D=00002"), (7, 1, 24));
+    assert_eq!(a("K=4096,D=1"), (7, 1, 24));
+    assert_eq!(a("K=4096,D=0"), (7, 1, 24));
+    assert_eq!(a("K=4097,D=1"), (7, 1, 17));
+    assert_eq!(a("K=00000,D=4097"), (7, 1, 17));
+    assert_eq!(a("K=1,D=0"), (7, 1, 21));
+    assert_eq!(a("K=1,D=99999"), (7, 1, 21));
+    assert_eq!(column("// U B=(0),A=(K=0,D=0),TC,FU"), (7, 1, 9));
+    assert_eq!(column("// U A=(K=1,D=4096),B=(0),TC,FU"), (7, 1, 15));
+    assert_eq!(column("// U A=(1,1),B=(1,1),TF,FF\n// FS (K,4097),1,1"), (7, 2, 10));
+    assert_eq!(column("// U A=(1,1),B=(1,1),TF,FF\n// FS (K,0),(P,0,1),1"), (7, 2, 10));
+}
+
+#[test]
+fn combinations_with_keys() {
+    let u = |operand: &str, fs: &[&str]| {
+        let cards: String = fs.iter().map(|items| format!("// FS {items}\n")).collect();
+        refusal(&format!("// U {operand}\n{cards}// END\n"))
+    };
+    for operand in ["TC,FF", "TR,FF", "TF,FV", "TRF,FV", "TC,FV", "TC,FU", "TF,FU"] {
+        assert_eq!(u(&format!("{operand},A=(K=1,D=2),B=(3,11)"), &["1,1,1", "CV"]), (8, 1));
+    }
+    assert_eq!(u("TF,FF,A=(K=1,D=2),B=(3,3)", &["1,1,1"]), (0, 0));
+    assert_eq!(u("TF,FF,A=(K=1,D=2),B=(3,6)", &["1,1,1"]), (8, 1));
+    assert_eq!(u("TRF,FF,A=(K=1,D=2),B=(3,6)", &["1,1,1"]), (0, 0));
+    assert_eq!(u("TRF,FF,A=(K=1,D=2),B=(3,7)", &["1,1,1"]), (8, 1));
+    assert_eq!(u("TRF,FF,A=(K=1,D=2),B=(3)", &["1,1,1"]), (8, 1));
+    assert_eq!(u("TRF,FF,A=(K=1,D=2),B=(3,6)", &[]), (8, 1));
+    assert_eq!(u("TRF,FF,A=(K=1,D=2),B=(3,6)", &["(K,1),1,1", "CV"]), (8, 3));
+    assert_eq!(u("TF,FF,A=(3,3),B=(3,3)", &["1,1,1", "(K,1),1,1", "CV"]), (8, 3));
+    assert_eq!(u("TF,FF,A=(3,3),B=(3,3)", &["1,1,1", "CV", "(K,1),1,1"]), (8, 3));
+    assert_eq!(u("TF,FF,A=(3,4),B=(3,3)", &["(K,1),1,1"]), (8, 1));
+    assert_eq!(u("TF,FV,A=(3,11),B=(3,11)", &["CV", "1,1,1/(K,1),1,1"]), (8, 3));
+    assert_eq!(u("TR,FF,A=(3,3),B=(3,3)", &["1,1,1", "(K,1),1,1"]), (8, 2));
+    assert_eq!(u("TC,FU,A=(3),B=(3)", &["1,1,1", "(K,1),1,1"]), (8, 2));
+}
+
+#[test]
+fn fields_past_their_part() {
+    let fields = |fs: &str| refusal(&keyed("K=2,D=3", "4,4", &[fs]));
+    assert_eq!(fields("(K,1),2,1/1,3,1"), (0, 0));
+    assert_eq!(fields("(K,1),3,1"), (9, 1));
+    assert_eq!(fields("(K,2),1,1/(K,3),1,1"), (9, 2));
+    assert_eq!(fields("4,1,1"), (9, 1));
+    assert_eq!(fields("3,1,1/2,3,1"), (9, 2));
+    assert_eq!(fields("(K,2),(P,1,4),1/(K,2),(P,1,4),2"), (9, 2));
+    assert_eq!(fields("(K,2),(U,2,1),1"), (9, 1));
+    assert_eq!(fields("(K,1),(P,2,2),3/3,(U,2,1),1"), (9, 2));
+    let least = |a: &str, fs: &str| refusal(&keyed(a, "1,1", &[fs]));
+    assert_eq!(least("K=4095,D=1", "(K,4095),1,1/1,1,1"), (0, 0));
+    assert_eq!(least("K=4095,D=1", "(K,4096),1,1"), (9, 1));
+    assert_eq!(least("K=4095,D=1", "(K,1),1,1/2,1,1"), (9, 2));
+    assert_eq!(least("K=1,D=4095", "4095,1,1/(K,1),1,1"), (0, 0));
+    assert_eq!(least("K=1,D=4095", "4096,1,1"), (9, 1));
+}
+
+#[test]
+fn halves_count_through_the_key() {
+    let lost = |fs: &str| {
+        let p = planned(&keyed("K=2,D=2", "4,4", &[fs]));
+        (p.0, p.1, p.2, p.3)
+    };
+    assert_eq!(lost("(K,1),2,1/1,2,3"), (0, 0, 1, 0));
+    assert_eq!(lost("1,2,3"), (0, 0, 0, 0));
+    assert_eq!(lost("(K,1),1,1/1,2,3"), (0, 0, 0, 2));
+    assert_eq!(lost("(K,1),2,1"), (0, 0, 0, 4));
+    assert_eq!(lost("(K,1),2,1/1,1,3"), (0, 0, 0, 6));
+    assert_eq!(lost("(K,1),2,1/1,2,3/1,1,1"), (0, 0, 0, 0));
+    assert_eq!(lost("(K,1),(P,2,1),1/1,2,2"), (0, 0, 0, 1));
+    assert_eq!(lost("(K,1),(P,2,1),1/1,2,2/(K,1),1,4"), (0, 0, 1, 0));
+    assert_eq!(lost("(K,1),2,1/1,(P,2,1),3"), (0, 0, 0, 5));
+    assert_eq!(lost("(K,1),(P,2,2),1/1,(U,1,1),3"), (0, 0, 0, 6));
+    assert_eq!(lost("(K,1),(P,2,2),1/(K,1),(U,1,1),3"), (10, 0, 0, 0));
+    assert_eq!(lost("1,(P,2,2),1/2,(U,1,1),3"), (10, 6, 0, 0));
+}
+
+#[test]
+fn parts_in_the_table() {
+    let deck = keyed("K=9,D=9", "20,20", &["(K,2),3,1/2,3,4/(K,4),(P,5,3),7", "4,(P,5,3),7/(K,1),(U,1,2),10"]);
+    let mut table = [Entry { part: 255, ..Entry::default() }; 6];
+    assert_eq!(plan_into(deck.as_bytes(), &mut table[..4]), Planned { refusal: 15, place: 5, column: 0, keeping: 0, lost: 0, fields: 0 });
+    assert!(table.iter().all(|entry| entry.part == 255));
+    assert_eq!(plan_into(deck.as_bytes(), &mut table).fields, 5);
+    let entry = |step, part, r, input, output, t| Entry { step, part, r, input, output, t };
+    assert_eq!(table[..5], [entry(0, 1, 2, 3, 3, 1), entry(0, 0, 2, 3, 3, 4), entry(1, 1, 4, 5, 3, 7), entry(1, 0, 4, 5, 3, 7), entry(2, 1, 1, 1, 2, 10)]);
+    assert_eq!(table[5].part, 255);
+}
+
+#[test]
+fn keyed_blocks_are_one_record() {
+    let deck = |mode: &str, b: &str| keyed("K=2,D=4", b, &["1,(P,4,3),3/(K,1),2,1"]).replace("TRF", mode);
+    let reel = "00000002 00000010 00000016 0000001C C1C2F1F2F3C4 C3C4F5F6F7D8";
+    finished(&deck("TF", "5,5"), reel, 2, 2, "00000002 00000010 00000015 0000001A C1C201234C C3C405678D");
+    finished(&deck("TRF", "5,10"), reel, 2, 1, "00000001 0000000C 00000016 C1C201234C C3C405678D");
+    finished(&deck("TRF", "5,10").replace("B=(5,10)", "B=(5,10),R2"), reel, 1, 1, "00000001 0000000C 00000011 C3C405678D");
+    refused(&deck("TRF", "5,10"), "00000001 0000000C 00000018 C1C2F1F2F3C4 C3C4F5F6F7D8", 12, 1);
+    refused(&deck("TRF", "5,10"), "00000002 00000010 00000016 0000001B C1C2F1F2F3C4 C3C4F5F6F7", 12, 2);
+    refused(&deck("TRF", "5,10"), "00000001 0000000C 00000013 C1C2F1F2F3C4C4", 12, 1);
+    refused(&deck("TRF", "5,10"), "00000002 00000010 00000016 0000001C C1C2F1F2F3C4 C3C4F5E6F7D8", 13, 2);
+}
+
+#[test]
+fn twins_with_their_keys() {
+    twins_are(&keyed("K=2,D=1", "2,2", &["(K,1),1,1/1,1,2"]), 1, "0000 00", "0010 00");
+    twins_are(&keyed("K=2,D=1", "2,2", &["(K,1),(P,2,1),1/1,1,2"]), 2, "F0A0 00", "F1A0 00");
+    twins_are(&keyed("K=1,D=2", "3,3", &["(K,1),1,1/1,2,2/2,1,1"]), 3, "00 0000", "10 0000");
+    twins_are(&keyed("K=1,D=2", "2,2", &["(K,1),1,1/1,1,2"]), 1, "00 0000", "00 0010");
+    let keeping = Twins { refusal: 16, ..Twins::default() };
+    assert_eq!(twins(keyed("K=1,D=1", "2,2", &["(K,1),1,2/1,1,1"]).as_bytes(), 0), keeping);
+}
+
 #[test]
 fn keeping_is_what_the_outputs_show() {
     let items = ["1,1,1", "2,2,2", "3,1,1", "1,(P,3,2),2", "1,(P,2,1),4", "2,(P,2,3),1",
@@ -357,7 +512,7 @@ fn keeping_is_what_the_outputs_show() {
 
 /// The lowest half of which another permitted value gives the same output record.
 fn lost_by_trying(plan: &plan::Plan) -> Option<usize> {
-    let output = |record: &[u8]| halves::finished(&plan.fields, 4, record, |value| value);
+    let output = |record: &[u8]| halves::finished(&plan.fields, 4, parts::halves_of(plan.a, record), |value| value);
     let base: Vec<u8> = plan.values.iter().map(|v| v.trailing_zeros() as u8).collect();
     (0..base.len()).find(|half| {
         let mut other = base.clone();

@@ -1,9 +1,9 @@
 //! The twins of a plan that loses: two input records that it converts alike (document 02, order 3).
 
-use crate::grammar::Field;
+use crate::grammar::{Field, Part};
 use crate::permitted::Values;
 use crate::plan::{accepted, lost, record_length, Plan};
-use crate::{halves, refuse_at, Refused};
+use crate::{halves, parts, refuse_at, Refused};
 
 /// The answer of twins; `records` is what was written, nothing if refused.
 #[derive(Clone, Debug, Default, PartialEq, Eq)]
@@ -23,7 +23,7 @@ fn value(values: Values, below: usize) -> u8 {
     rising.nth(below).expect("a permitted value")
 }
 
-/// Both records, data only, one behind the other: equal everywhere but in the lost half; for the tail a byte 00 follows the
+/// Both records, one behind the other, data only, but with their keys where they have any: equal everywhere but in the lost half; for the tail a byte 00 follows the
 /// second.
 fn records(plan: &Plan, lost: usize) -> Vec<u8> {
     let mut all: Vec<u8> = plan.values.iter().map(|values| value(*values, 0)).collect();
@@ -35,16 +35,24 @@ fn records(plan: &Plan, lost: usize) -> Vec<u8> {
     [first, halves::bytes(&all)].concat()
 }
 
-/// Whether the input of a field contains a half of the record.
-fn reads(field: &Field, half: usize) -> bool {
+/// The part in which a half of the record lies, and the position of its byte there, from 1.
+fn position(plan: &Plan, half: usize) -> (Part, usize) {
     let byte = half / 2 + 1;
-    (field.r..field.r + field.input).contains(&byte)
+    let key = parts::length(plan.a, Part::Key);
+    if byte <= key { (Part::Key, byte) } else { (Part::Data, byte - key) }
+}
+
+/// Whether the input of a field contains a half of the record.
+fn reads(plan: &Plan, field: &Field, half: usize) -> bool {
+    let (part, position) = position(plan, half);
+    field.part == part && (field.r..field.r + field.input).contains(&position)
 }
 
 /// Whether a field's own output, taken alone, holds a half of the record.
 fn holds(plan: &Plan, field: Field, half: usize) -> bool {
     let labels: Vec<Option<usize>> = (0..plan.values.len()).map(Some).collect();
-    let alone = halves::finished(&[field], record_length(plan.b), &labels, |_| None);
+    let record = parts::halves_of(plan.a, &labels);
+    let alone = halves::finished(&[field], record_length(plan.b), record, |_| None);
     alone.contains(&Some(half))
 }
 
@@ -53,7 +61,7 @@ fn reason(plan: &Plan, lost: usize) -> usize {
     if lost == 2 * record_length(plan.a) {
         return 4;
     }
-    match plan.fields.iter().rfind(|field| reads(field, lost)) {
+    match plan.fields.iter().rfind(|field| reads(plan, field, lost)) {
         None => 1,
         Some(field) if holds(plan, *field, lost) => 3,
         Some(_) => 2,

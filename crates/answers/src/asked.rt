@@ -42,21 +42,45 @@ fn tell_kind(kind: Kind) {
     }
 }
 
-fn tell_field(field: Field, card: usize) {
+// What A says: key and data are told apart again.
+fn tell_input(input: Size, key: usize) {
+    let n = combinations::record_length(input);
+    if key == 0 || n < key {
+        tell_size(b" A=", input);
+        return;
+    }
+    say::labelled(b" A=K=", key);
+    say::labelled(b",D=", n - key);
+}
+
+// Where a field begins, as on its card; one that is taken from the key and runs past it stands past every record.
+fn tell_place(r: usize, key: usize) {
+    if r == 8192 {
+        say::words(b":past");
+        return;
+    }
+    if r <= key {
+        say::labelled(b":K", r);
+        return;
+    }
+    say::labelled(b":", r - key);
+}
+
+fn tell_field(field: Field, key: usize, card: usize) {
     let kind = field.kind;
     tell_kind(kind);
-    say::labelled(b":", field.r);
+    tell_place(field.r, key);
     say::labelled(b",", field.input);
     say::labelled(b",", field.output);
     say::labelled(b",", field.t);
     say::labelled(b"@", card);
 }
 
-fn tell_fields(deck: &[u8], fields: &[u16]) {
+fn tell_fields(deck: &[u8], fields: &[u16], key: usize) {
     let count = fields.len() / 5;
     let mut i = 0;
     while i < count {
-        tell_field(rows::field_at(fields, i), cards::field_card(deck, i));
+        tell_field(rows::field_at(fields, i), key, cards::field_card(deck, i));
         i += 1;
     }
 }
@@ -68,11 +92,11 @@ pub(crate) fn tell(deck: &[u8], asked: Asked, fields: &[u16]) {
     let output = asked.output;
     tell_mode(mode);
     tell_format(format);
-    tell_size(b" A=", input);
+    tell_input(input, asked.key);
     tell_size(b" B=", output);
     say::labelled(b" R=", asked.first);
     say::labelled(b" fs=", asked.fs);
     say::labelled(b" cv=", asked.cv);
     say::labelled(b" ", asked.count);
-    tell_fields(deck, fields);
+    tell_fields(deck, fields, asked.key);
 }

@@ -37,6 +37,7 @@ fn mark(i: usize) -> Entry
 {
     Entry {
         kind: ((i + 7) % 256) as u8,
+        part: 0,
         r: narrow(i + 1000),
         input: narrow(i + 2000),
         output: narrow(i + 3000),
@@ -58,7 +59,9 @@ fn with_entry(digest: usize, entry: Entry) -> usize
     requires { ⌜ digest < 2147483647 ⌝ }
     ensures { λ r. ⌜ r < 2147483647 ⌝ }
 {
-    let kind = digest::with_byte(digest, entry.kind);
+    // Kind and part as one number, which is the kind where the part is data.
+    let first = (entry.kind as u16) + 256 * (entry.part as u16);
+    let kind = digest::with(digest, first);
     let r = digest::with(kind, entry.r);
     let input = digest::with(r, entry.input);
     let output = digest::with(input, entry.output);

@@ -1,8 +1,8 @@
 //! A case drawn with an aim: the refusal number its faults are meant to give, 0 for none.
 
-use reference::grammar::{Format, Item, Mode, Sizes, Step};
+use reference::grammar::{Format, Item, Mode, Part, Sizes, Step};
 use reference::limits::{items, Asked};
-use reference::plan::{accepted, Plan};
+use reference::plan::{accepted, record_length, Plan};
 use reference::{deck, grammar, limits, run};
 
 use crate::chance::Chance;
@@ -157,7 +157,7 @@ fn asked(text: &[u8]) -> Option<Asked> {
 /// Whether a judge would have to walk over very many halves for this deck.
 pub fn heavy(text: &[u8]) -> bool {
     let Some(asked) = asked(text) else { return false };
-    let long = |sizes| matches!(sizes, Sizes::Two(n, _) if n > 64);
+    let long = |sizes| record_length(sizes) > 64;
     let early = accepted(text).err().is_some_and(|refused| refused.number < 10);
     let selects = matches!(asked.mode, Mode::TF | Mode::TRF);
     !early && selects && (long(asked.a) || long(asked.b))
@@ -184,6 +184,8 @@ pub fn marks(text: &[u8]) -> Vec<&'static str> {
         (step(Step::Pack), "pack"),
         (step(Step::Unpack), "unpack"),
         (all.contains(&Item::CV), "CV"),
+        (matches!(asked.a, Sizes::Keyed(..)), "keys"),
+        (all.iter().any(|i| matches!(i, Item::Field(f) if f.part == Part::Key)), "a field of the key"),
         (asked.first > 1, "R over 1"),
         (asked.fs.len() > 1, "several FS"),
     ];

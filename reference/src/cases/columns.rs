@@ -3,7 +3,7 @@
 use reference::{deck, grammar, limits, Refused};
 
 use crate::chance::Chance;
-use crate::draft::{self, anywhere, Draft};
+use crate::draft::{self, anywhere_in, Draft, Lengths};
 use crate::text::{self, CardText, DeckText};
 use crate::{aim, faults};
 
@@ -11,7 +11,7 @@ use crate::{aim, faults};
 fn base(chance: &mut Chance) -> Draft {
     let mut draft = draft::draft(chance);
     if draft.pieces.is_empty() && !chance.one_in(4) {
-        draft.pieces = (0..chance.range(1, 8)).map(|_| anywhere(chance, 20, 20)).collect();
+        draft.pieces = (0..chance.range(1, 8)).map(|_| anywhere_in(chance, Lengths { key: 20, data: 20 }, 20)).collect();
     }
     if chance.one_in(2) {
         draft.first = Some(chance.range(1, 9));
@@ -39,7 +39,7 @@ fn damage(chance: &mut Chance, card: &mut CardText) {
     let mut operand = joined(card).into_bytes();
     for _ in 0..chance.range(1, 3) {
         let at = chance.below(operand.len() + 1);
-        let byte = chance.pick(b"TCFRVUABINOKPXS=()0123456789,,// ;-~");
+        let byte = chance.pick(b"TCFRVUABINOKDPXS=()0123456789,,// ;-~");
         match chance.below(4) {
             0 if at < operand.len() => operand[at] = byte,
             1 => operand.insert(at, byte),

@@ -2,10 +2,10 @@
 
 use crate::chance::Chance;
 
-/// An item of an FS card; `step` is `C` (copy), `P` or `U`.
+/// An item of an FS card; `step` is `C` (copy), `P` or `U`, `key` says that it is taken from the key.
 #[derive(Clone, Debug)]
 pub enum Piece {
-    Field { step: char, r: usize, input: usize, output: usize, t: usize },
+    Field { step: char, key: bool, r: usize, input: usize, output: usize, t: usize },
     Cv,
 }
 
@@ -13,6 +13,8 @@ pub enum Piece {
 pub struct Draft {
     pub mode: &'static str,
     pub format: &'static str,
+    /// A is `(K=k,D=d)`, and its two numbers are those.
+    pub keyed: bool,
     pub a: Vec<usize>,
     pub b: Vec<usize>,
     pub first: Option<usize>,
@@ -25,10 +27,46 @@ impl Draft {
     pub fn selects(&self) -> bool {
         self.mode == "TF" || self.mode == "TRF"
     }
+
+    /// The lengths of the parts that its fields can read.
+    pub fn lengths(&self) -> Lengths {
+        if self.keyed { Lengths { key: self.a[0], data: self.a[1] } } else { Lengths { key: 0, data: self.a[0] } }
+    }
 }
 
+/// The lengths of key and data; without keys all of a record is data.
+#[derive(Clone, Copy, Debug)]
+pub struct Lengths {
+    pub key: usize,
+    pub data: usize,
+}
+
+impl Lengths {
+    pub fn of(self, key: bool) -> usize {
+        if key { self.key } else { self.data }
+    }
+
+    pub fn both(self) -> usize {
+        self.key + self.data
+    }
+
+    /// The key or the data; where there are no keys, the data.
+    pub fn any_part(self, chance: &mut Chance) -> bool {
+        self.key > 0 && (self.data == 0 || chance.one_in(2))
+    }
+}
+
+/// A field of the data.
 pub fn field(step: char, r: usize, input: usize, output: usize, t: usize) -> Piece {
-    Piece::Field { step, r, input, output, t }
+    Piece::Field { step, key: false, r, input, output, t }
+}
+
+/// A field taken from the key, or from the data, at the same position; CV is neither.
+pub fn taken_from(part_is_key: bool, mut piece: Piece) -> Piece {
+    if let Piece::Field { key, .. } = &mut piece {
+        *key = part_is_key;
+    }
+    piece
 }
 
 /// Disjoint runs of the input, laid out one behind another; answers the bytes used.
@@ -66,9 +104,15 @@ pub fn anywhere(chance: &mut Chance, n: usize, p: usize) -> Piece {
 /// A copy of what another field reads, to rescue it, behind `t`.
 fn rescue(chance: &mut Chance, pieces: &[Piece], t: usize) -> Option<Piece> {
     match chance.pick(pieces) {
-        Piece::Field { r, input, .. } => Some(field('C', r, input, input, t)),
+        Piece::Field { key, r, input, .. } => Some(taken_from(key, field('C', r, input, input, t))),
         Piece::Cv => None,
     }
+}
+
+/// Any field that lies inside its part and an output of `p` bytes.
+pub fn anywhere_in(chance: &mut Chance, lengths: Lengths, p: usize) -> Piece {
+    let key = lengths.any_part(chance);
+    taken_from(key, anywhere(chance, lengths.of(key), p))
 }
 
 /// Pieces that fit an input of `n` bytes, and the output length that holds them.
@@ -99,6 +143,26 @@ fn pieces(chance: &mut Chance, n: usize) -> (Vec<Piece>, usize) {
         chance.shuffle(&mut pieces);
     }
     (pieces, p)
+}
+
+/// Keyed input: pieces of the key and pieces of the data, mostly behind one another in the output, else over one another.
+fn keyed(chance: &mut Chance, draft: &mut Draft) {
+    let (k, d) = (chance.range(1, 8), chance.range(1, 10));
+    let (of_key, p) = pieces(chance, k);
+    let (mut of_data, q) = pieces(chance, d);
+    let behind = if chance.one_in(4) { chance.below(p + 1) } else { p };
+    for piece in &mut of_data {
+        if let Piece::Field { t, .. } = piece {
+            *t += behind;
+        }
+    }
+    let mut all: Vec<Piece> = of_key.into_iter().map(|piece| taken_from(true, piece)).chain(of_data).collect();
+    if chance.one_in(3) {
+        chance.shuffle(&mut all);
+    }
+    let length = p.max(behind + q);
+    let times = if draft.mode == "TF" { 1 } else { chance.range(1, 4) };
+    (draft.keyed, draft.a, draft.b, draft.pieces) = (true, vec![k, d], vec![length, length * times], all);
 }
 
 fn fixed(chance: &mut Chance, draft: &mut Draft) {
@@ -150,8 +214,9 @@ pub fn draft(chance: &mut Chance) -> Draft {
     let (a, b) = (Vec::new(), Vec::new());
     let one_a_card = chance.one_in(8);
     let mut draft =
-        Draft { mode, format, a, b, first: None, pieces: Vec::new(), one_a_card };
+        Draft { mode, format, keyed: false, a, b, first: None, pieces: Vec::new(), one_a_card };
     match format {
+        "FF" if draft.selects() && chance.one_in(3) => keyed(chance, &mut draft),
         "FF" => fixed(chance, &mut draft),
         "FV" => variable(chance, &mut draft),
         _ => {

@@ -1,7 +1,7 @@
 //! Faults of a draft: too many fields, limits, combinations, fields outside, empty halves.
 
 use crate::chance::Chance;
-use crate::draft::{anywhere, field, Draft, Piece};
+use crate::draft::{anywhere, anywhere_in, field, taken_from, Draft, Piece};
 
 /// Edges of the limits, each with the number next to it.
 const EDGES: [usize; 20] = [
@@ -14,9 +14,10 @@ pub fn many(chance: &mut Chance, draft: &mut Draft) {
     let count = chance.pick(&[62, 63, 64, 64, 65, 65, 65, 65, 66, 70]);
     draft.one_a_card = count < 64 || chance.one_in(12);
     while draft.pieces.len() < count {
-        let (r, t) = (chance.range(1, draft.a[0].min(9)), chance.range(1, draft.b[0].min(9)));
+        let key = draft.lengths().any_part(chance);
+        let (r, t) = (chance.range(1, draft.lengths().of(key).min(9)), chance.range(1, draft.b[0].min(9)));
         let at = chance.below(draft.pieces.len() + 1);
-        draft.pieces.insert(at, field('C', r, 1, 1, t));
+        draft.pieces.insert(at, taken_from(key, field('C', r, 1, 1, t)));
     }
 }
 
@@ -25,7 +26,7 @@ fn numbers(draft: &mut Draft) -> Vec<&mut usize> {
     let mut numbers: Vec<&mut usize> = draft.a.iter_mut().chain(&mut draft.b).collect();
     numbers.extend(draft.first.as_mut());
     for piece in &mut draft.pieces {
-        if let Piece::Field { step, r, input, output, t } = piece {
+        if let Piece::Field { step, r, input, output, t, .. } = piece {
             numbers.extend([r, input, t]);
             if *step != 'C' {
                 numbers.push(output);
@@ -44,10 +45,21 @@ fn size_limit(chance: &mut Chance, draft: &mut Draft) {
     }
 }
 
+/// Key and data of together 4,096 bytes, or of one more or less.
+fn key_limit(chance: &mut Chance, draft: &mut Draft) {
+    let total = chance.pick(&[4_095, 4_096, 4_096, 4_097, 4_097]);
+    let some = chance.range(1, total - 1);
+    let k = chance.pick(&[1, 2, 2_048, total - 1, total, some, some]);
+    draft.a = vec![k, total.saturating_sub(k)];
+}
+
 /// A number at, below or over a limit.
 pub fn limit(chance: &mut Chance, draft: &mut Draft) {
     if chance.one_in(4) {
         return size_limit(chance, draft);
+    }
+    if draft.keyed && chance.one_in(2) {
+        return key_limit(chance, draft);
     }
     if chance.one_in(4) {
         draft.first = Some(1);
@@ -63,6 +75,9 @@ pub fn limit(chance: &mut Chance, draft: &mut Draft) {
 
 /// Both A and B at a limit, so that only the limit decides (TC and TR; else by the fields).
 pub fn both_at_limit(chance: &mut Chance, draft: &mut Draft) {
+    if draft.keyed {
+        return key_limit(chance, draft);
+    }
     let long = chance.pick(&[32_759, 32_760, 32_760, 32_761]);
     let short = chance.pick(&[4_095, 4_096, 4_096, 4_097]);
     let small = chance.pick(&[8, 9, 10]);
@@ -88,9 +103,10 @@ fn resize(chance: &mut Chance, draft: &mut Draft) {
     }
 }
 
-/// The other count of numbers in A, B or both.
+/// The other count of numbers in A, B or both; A without a key.
 fn recount(chance: &mut Chance, draft: &mut Draft) {
     let which = chance.below(3);
+    draft.keyed = draft.keyed && which == 1;
     for (number, sizes) in [&mut draft.a, &mut draft.b].into_iter().enumerate() {
         if which == 2 || which == number {
             *sizes = if sizes.len() == 1 { vec![chance.range(1, 9), sizes[0]] } else { vec![sizes[1]] };
@@ -106,9 +122,23 @@ fn tight(chance: &mut Chance, draft: &mut Draft) {
     }
 }
 
+/// A keyed A made plain, with its fields of the key left; a plain A made keyed, or a field of a key that there is not.
+fn rekey(chance: &mut Chance, draft: &mut Draft) {
+    if draft.keyed {
+        let n = draft.lengths().both();
+        (draft.keyed, draft.a) = (false, vec![n, n * chance.range(1, 2)]);
+    } else if chance.one_in(3) && draft.a.len() == 2 {
+        draft.keyed = true;
+    } else {
+        let added = taken_from(true, anywhere(chance, 4, 4));
+        let at = chance.below(draft.pieces.len() + 1);
+        draft.pieces.insert(at, added);
+    }
+}
+
 /// A change of a combination.
 pub fn combination(chance: &mut Chance, draft: &mut Draft) {
-    match chance.below(11) {
+    match chance.below(14) {
         0 => draft.mode = chance.pick(&["TC", "TF", "TR", "TRF"]),
         1 => draft.format = chance.pick(&["FF", "FV", "FU"]),
         2 => recount(chance, draft),
@@ -123,21 +153,22 @@ pub fn combination(chance: &mut Chance, draft: &mut Draft) {
             let added = anywhere(chance, 4, 4);
             draft.pieces.push(added);
         }
+        10..=12 => rekey(chance, draft),
         _ => draft.first = Some(chance.pick(&[1, 1, 2, 3, 65_536])),
     }
 }
 
-/// A field that ends at, or one past, the end of its record.
+/// A field that ends at, or one past, the end of its record, or of its part.
 pub fn outside(chance: &mut Chance, draft: &mut Draft) {
     let past = chance.pick(&[1, 2, 2, 2, 3, 40]);
-    let (n, p) = (draft.a[0], draft.b[0]);
+    let (lengths, p) = (draft.lengths(), draft.b[0]);
     let all = draft.pieces.len();
     let times = chance.pick(&[1, 1, 2]);
     for _ in 0..times {
         let at = chance.below(all);
-        if let Some(Piece::Field { r, input, output, t, .. }) = draft.pieces.get_mut(at) {
+        if let Some(Piece::Field { key, r, input, output, t, .. }) = draft.pieces.get_mut(at) {
             if chance.one_in(2) {
-                *r = (n + past).saturating_sub(*input);
+                *r = (lengths.of(*key) + past).saturating_sub(*input);
             } else {
                 *t = (p + past).saturating_sub(*output);
             }
@@ -147,9 +178,9 @@ pub fn outside(chance: &mut Chance, draft: &mut Draft) {
 
 /// Packs and unpacks added over halves that are read already.
 pub fn conflict(chance: &mut Chance, draft: &mut Draft) {
-    let (n, p) = (draft.a[0], draft.b[0]);
+    let (lengths, p) = (draft.lengths(), draft.b[0]);
     for _ in 0..chance.range(1, 3) {
-        let mut added = anywhere(chance, n, p);
+        let mut added = anywhere_in(chance, lengths, p);
         if let Piece::Field { step, .. } = &mut added {
             *step = if *step == 'P' { 'P' } else { 'U' };
         }

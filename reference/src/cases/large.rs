@@ -3,8 +3,16 @@
 use reference::plan::accepted;
 
 use crate::chance::Chance;
-use crate::draft::{field, Draft};
+use crate::draft::{field, taken_from, Draft, Piece};
 use crate::{aim, reels};
+
+/// Fields at the ends of a part of `n` bytes and of an output of `p`.
+fn ends(chance: &mut Chance, n: usize, p: usize) -> Vec<Piece> {
+    let size = chance.range(1, n.min(p));
+    let copies = [field('C', n + 1 - size, size, size, 1), field('C', 1, 1, 1, p)];
+    let pack = field('P', 1, n.min(16), p.min(9), p + 1 - p.min(9));
+    copies.into_iter().chain([pack]).collect()
+}
 
 /// A draft of long records, fields at their ends.
 fn draft(chance: &mut Chance) -> Draft {
@@ -24,12 +32,18 @@ fn draft(chance: &mut Chance) -> Draft {
         let last = sizes.len() - 1;
         sizes[last] = sizes[last].min(32_760);
     }
-    let size = chance.range(1, n.min(p));
-    let mut pieces = vec![field('C', n + 1 - size, size, size, 1)];
-    pieces.push(field('C', 1, 1, 1, p));
-    pieces.push(field('P', 1, n.min(16), p.min(9), p + 1 - p.min(9)));
-    pieces.truncate(if selects { chance.range(1, 3) } else { 0 });
-    Draft { mode, format, a, b, first: None, pieces, one_a_card: false }
+    let mut pieces = ends(chance, n, p);
+    let keyed = format == "FF" && selects && n > 1 && chance.one_in(2);
+    if keyed {
+        let k = chance.pick(&[1, n / 2, n - 1]);
+        a = vec![k, n - k];
+        b = vec![p, if mode == "TF" { p } else { b[1] }];
+        let of_key = ends(chance, k, p).into_iter().map(|piece| taken_from(true, piece));
+        pieces = of_key.chain(ends(chance, n - k, p)).collect();
+        chance.shuffle(&mut pieces);
+    }
+    pieces.truncate(if selects { chance.range(1, if keyed { 6 } else { 3 }) } else { 0 });
+    Draft { mode, format, keyed, a, b, first: None, pieces, one_a_card: false }
 }
 
 /// A large deck.

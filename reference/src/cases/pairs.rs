@@ -3,15 +3,16 @@
 
 use std::collections::{HashMap, HashSet};
 
-use reference::grammar::{Field, Format, Step};
+use reference::grammar::{Field, Format, Part, Sizes, Step};
 use reference::halves::{finished, halves};
 use reference::permitted::all_permitted;
 use reference::plan::{accepted, lost, record_length, Plan};
-use reference::{plan, reel, run, twins, Twins};
+use reference::parts::halves_of;
+use reference::{plan, plan_into, reel, run, twins, Entry, Twins};
 
 use crate::chance::Chance;
-use crate::draft::Draft;
-use crate::{aim, twins as decks};
+use crate::draft::{Draft, Piece};
+use crate::{aim, draft, reels, twins as decks};
 
 /// A draft's deck with another R, or none.
 fn with_first(chance: &mut Chance, draft: &Draft, first: Option<usize>) -> Vec<u8> {
@@ -37,7 +38,11 @@ fn unlike(one: &[u8], other: &[u8]) -> Vec<usize> {
 
 /// The fields that read a half, in order, each with the count of halves to the right of it in the field's input.
 fn readers(plan: &Plan, half: usize) -> Vec<(Field, usize)> {
-    let start = |field: &Field| 2 * (field.r - 1);
+    let before = |field: &Field| match (plan.a, field.part) {
+        (Sizes::Keyed(k, _), Part::Data) => k,
+        _ => 0,
+    };
+    let start = |field: &Field| 2 * (before(field) + field.r - 1);
     let reads = |field: &&Field| (start(field)..start(field) + 2 * field.input).contains(&half);
     plan.fields.iter().filter(reads).map(|field| (*field, start(field) + 2 * field.input - 1 - half)).collect()
 }
@@ -67,7 +72,7 @@ fn reason_by_places(plan: &Plan, half: usize) -> usize {
 
 /// The reason of a lost half, by what the last field that reads it makes of both twins.
 fn reason_by_output(plan: &Plan, half: usize, one: &[u8], other: &[u8]) -> usize {
-    let written = |field, data| finished(&[field], record_length(plan.b), &halves(data), |value| value);
+    let written = |field, data| finished(&[field], record_length(plan.b), halves_of(plan.a, &halves(data)), |value| value);
     readers(plan, half).last().map_or(1, |(last, _)| if written(*last, one) == written(*last, other) { 2 } else { 3 })
 }
 
@@ -183,7 +188,7 @@ fn least_pair(records: &[Vec<u8>], values: &[u8], converted: &Converted) -> Opti
 
 /// The twins of a plan are the least pair; it keeps, or loses its tail, where all outputs of records of n bytes differ.
 fn twins_are_least(plan: &Plan, records: &[Vec<u8>], values: &[u8], answer: &Twins) {
-    let fields = |record: &[u8]| finished(&plan.fields, record_length(plan.b), record, |value| value);
+    let fields = |record: &[u8]| finished(&plan.fields, record_length(plan.b), halves_of(plan.a, record), |value| value);
     let right = records.iter().filter(|record| all_permitted(&plan.values, record));
     let converted: Converted = right.map(|record| (&record[..], fields(record))).collect();
     let outputs: HashSet<&Vec<u8>> = converted.values().collect();
@@ -220,4 +225,57 @@ fn twins_of_small_plans_are_the_least_of_all_pairs() {
         }
     }
     assert!(reasons.iter().all(|count| *count > 20), "{reasons:?}");
+}
+
+/// A keyed draft as one without keys, whose fields count through the key.
+fn counting_through(draft: &Draft) -> Draft {
+    let (k, n) = (draft.lengths().key, draft.lengths().both());
+    let joined = |piece: &Piece| match *piece {
+        Piece::Field { step, key, r, input, output, t } => draft::field(step, if key { r } else { k + r }, input, output, t),
+        Piece::Cv => Piece::Cv,
+    };
+    let pieces = draft.pieces.iter().map(joined).collect();
+    Draft { keyed: false, a: vec![n, n], pieces, ..draft.clone() }
+}
+
+/// Other tools see key and data joined: without the keys every answer is the same, but for what the table says of parts.
+#[test]
+fn keyed_decks_are_as_decks_that_count_through() {
+    let mut chance = Chance::new(6);
+    let (mut ran, mut of_the_key) = ([0; 16], 0);
+    while ran.iter().sum::<usize>() < 4_000 {
+        let aim = chance.pick(&[0, 10, 12, 12, 13, 15]);
+        let (mut draft, plan_of_it) = aim::base(&mut chance, aim);
+        if !draft.keyed {
+            continue;
+        }
+        if aim == 10 {
+            crate::faults::conflict(&mut chance, &mut draft);
+        }
+        draft.first = chance.pick(&[None, Some(1), Some(2)]);
+        let deck = aim::deck(&mut chance, &draft, &[]);
+        let through = aim::deck(&mut chance, &counting_through(&draft), &[]);
+        let too_long = |deck: &[u8]| plan(deck).refusal == 1; // a comment may make a card longer than 80 bytes
+        if too_long(&deck) || too_long(&through) {
+            continue;
+        }
+        assert_eq!(plan(&deck), plan(&through));
+        let mut tables = [[Entry::default(); 64]; 2];
+        plan_into(&deck, &mut tables[0]);
+        plan_into(&through, &mut tables[1]);
+        for [mut one, other] in tables[0].into_iter().zip(tables[1]).map(<[Entry; 2]>::from) {
+            of_the_key += one.part;
+            assert_eq!(other.part, 0);
+            one.r += if one.part == 0 && one.input > 0 { draft.a[0] } else { 0 };
+            assert_eq!(Entry { part: 0, ..one }, other);
+        }
+        let records = reels::records(&mut chance, &plan_of_it, 80);
+        let reel = aim::reel(&mut chance, &plan_of_it, &records, aim);
+        let room = aim::room(&mut chance, &deck, &reel, aim);
+        let answer = run(&deck, &reel, room);
+        ran[answer.refusal] += 1;
+        assert_eq!(answer, run(&through, &reel, room));
+        assert_eq!(twins(&deck, usize::MAX), twins(&through, usize::MAX));
+    }
+    assert!([0, 10, 12, 13, 15].iter().all(|number| ran[*number] > 100) && of_the_key > 1_000, "{ran:?} {of_the_key}");
 }

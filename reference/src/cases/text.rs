@@ -25,6 +25,15 @@ fn sizes(chance: &mut Chance, name: &str, sizes: &[usize]) -> String {
     format!("{name}=({})", numbers.join(","))
 }
 
+/// A, which may have a key.
+fn input_sizes(chance: &mut Chance, draft: &Draft) -> String {
+    if !draft.keyed {
+        return sizes(chance, "A", &draft.a);
+    }
+    let (k, d) = (number(chance, draft.a[0]), number(chance, draft.a[1]));
+    format!("A=(K={k},D={d})")
+}
+
 fn comment(chance: &mut Chance) -> String {
     if !chance.one_in(5) {
         return String::new();
@@ -34,7 +43,7 @@ fn comment(chance: &mut Chance) -> String {
 
 fn u_card(chance: &mut Chance, draft: &Draft) -> CardText {
     let mut parts = vec![draft.mode.to_string(), draft.format.to_string()];
-    parts.push(sizes(chance, "A", &draft.a));
+    parts.push(input_sizes(chance, draft));
     parts.push(sizes(chance, "B", &draft.b));
     if chance.one_in(6) {
         parts.push(chance.pick(&["IR", "IN", "IU"]).to_string());
@@ -53,13 +62,12 @@ fn u_card(chance: &mut Chance, draft: &Draft) -> CardText {
 }
 
 fn item(chance: &mut Chance, piece: &Piece) -> String {
+    let Piece::Field { step, key, r, input, output, t } = piece else { return "CV".to_string() };
     let mut say = |value: &usize| number(chance, *value);
-    match piece {
-        Piece::Cv => "CV".to_string(),
-        Piece::Field { step: 'C', r, input, t, .. } => format!("{},{},{}", say(r), say(input), say(t)),
-        Piece::Field { step, r, input, output, t } => {
-            format!("{},({step},{},{}),{}", say(r), say(input), say(output), say(t))
-        }
+    let start = if *key { format!("(K,{})", say(r)) } else { say(r) };
+    match step {
+        'C' => format!("{start},{},{}", say(input), say(t)),
+        _ => format!("{start},({step},{},{}),{}", say(input), say(output), say(t)),
     }
 }
 
@@ -155,6 +163,8 @@ fn odd_part(chance: &mut Chance) -> String {
     let odd = [
         "TRFF", "TR1", "T", "TRR1", "OR1", "FX", "fF", "R", "R1.", "R-1", "A=()", "A=(1,)", "A=(,1)",
         "A=(1,2,3)", "A=1", "A(1)", "B=(4)X", "C=(4)", "E=1", "TD", "A=(K=2,D=3)", "CV", "CVV", "cv",
+        "B=(K=2,D=3)", "A=(K=2,3)", "A=(D=3,K=2)", "A=(K=2)", "A=(2,D=3)", "A=(K=,D=3)", "A=(k=2,D=3)", "A=(K=2,D=3,4)",
+        "(K,1),1,1", "(K,1),(P,2,2),1", "1,1,(K,1)", "(K,1,1),1", "(D,1),1,1", "(K1),1,1", "(K,),1,1", "(K,1)1,1",
         "1,1", "1,1,1,1", "1,(X,1),1", "1,(P,1),1", "1,(P,1,1)", "1,(P,1,1,1),1", "1,(Q,2,2),1",
         "1,P,2,2,1", "1,(P,2,2,1", "(K,1)", "1,(p,2,2),1", "1,1,1", "IX", "ORN", "S", "00000,1,1",
     ];
@@ -163,7 +173,7 @@ fn odd_part(chance: &mut Chance) -> String {
 
 /// A parameter or CV that stands twice.
 pub fn double(chance: &mut Chance, cards: &mut DeckText) {
-    let again = ["TC", "TR", "TF", "TRF", "FF", "FV", "FU", "A=(5)", "B=(2,4)", "IR", "ON", "R1", "R02"];
+    let again = ["TC", "TR", "TF", "TRF", "FF", "FV", "FU", "A=(5)", "A=(K=1,D=2)", "B=(2,4)", "IR", "ON", "R1", "R02"];
     if chance.one_in(3) && cards.len() > 2 {
         for _ in 0..chance.pick(&[1, 2, 2, 3]) {
             let card = chance.range(1, cards.len() - 2);

@@ -1,6 +1,6 @@
 //! What the cards of a deck ask for, as words of a line.
 
-use reference::grammar::{Field, Format, Item, Mode, Sizes, Step};
+use reference::grammar::{Field, Format, Item, Mode, Part, Sizes, Step};
 use reference::limits::{items, Asked};
 use reference::{deck, grammar, limits, Refused};
 
@@ -14,17 +14,29 @@ fn sizes(name: &str, sizes: Sizes) -> String {
     match sizes {
         Sizes::One(g) => format!("{name}={g}"),
         Sizes::Two(n, m) => format!("{name}={n},{m}"),
+        Sizes::Keyed(k, d) => format!("{name}=K={k},D={d}"),
     }
 }
 
-fn field(card: usize, field: Field) -> String {
+/// Where a field begins: r, with a K before it where it is taken from the key; a field of the key that runs past it, or for which there is no key, stands past every record.
+fn place(a: Sizes, field: Field) -> String {
+    let Field { r, input, .. } = field;
+    match (field.part, a) {
+        (Part::Data, _) => format!("{r}"),
+        (Part::Key, Sizes::Keyed(k, _)) if r + input - 1 <= k => format!("K{r}"),
+        (Part::Key, _) => "past".to_string(),
+    }
+}
+
+/// A field's letter, its place and its other numbers.
+fn field(a: Sizes, card: usize, field: Field) -> String {
     let letter = match field.step {
         Step::Copy => 'C',
         Step::Pack => 'P',
         Step::Unpack => 'U',
     };
-    let Field { r, input, output, t, .. } = field;
-    format!(" {letter}:{r},{input},{output},{t}@{card}")
+    let Field { input, output, t, .. } = field;
+    format!(" {letter}:{},{input},{output},{t}@{card}", place(a, field))
 }
 
 /// The words after the name, for a deck that is read.
@@ -43,7 +55,7 @@ pub fn said(asked: &Asked) -> String {
     let cv = items(&asked.fs).find(|(_, item)| *item == Item::CV).map_or(0, |(card, _)| card);
     let fields: Vec<String> = items(&asked.fs)
         .filter_map(|(card, item)| match item {
-            Item::Field(one) => Some(field(card, one)),
+            Item::Field(one) => Some(field(asked.a, card, one)),
             Item::CV => None,
         })
         .collect();

@@ -20,7 +20,7 @@ fn digest(numbers: impl IntoIterator<Item = usize>) -> usize {
 
 /// The pattern of a table; no field has such numbers in these places.
 fn table() -> Vec<Entry> {
-    let entry = |i| Entry { step: (i + 7) % 256, r: i + 1000, input: i + 2000, output: i + 3000, t: i + 4000 };
+    let entry = |i| Entry { step: (i + 7) % 256, part: 0, r: i + 1000, input: i + 2000, output: i + 3000, t: i + 4000 };
     (0..ENTRIES).map(entry).collect()
 }
 
@@ -29,8 +29,9 @@ fn output() -> Vec<u8> {
     (0..BYTES).map(|i| (i % 251) as u8).collect()
 }
 
+/// The numbers of an entry; kind and part are one, so that an entry without keys is told as it was before there were any.
 fn numbers(entry: &Entry) -> [usize; 5] {
-    [entry.step, entry.r, entry.input, entry.output, entry.t]
+    [entry.step + 256 * entry.part, entry.r, entry.input, entry.output, entry.t]
 }
 
 fn planned(answer: Planned, digest: &str) -> String {

@@ -6,8 +6,8 @@ use native.Mathlib.Omega.{arith}
 use lib.ListN.{length}
 use lib.Seq.{length-take-le}
 use borrow.Author.Needs.{needs}
-use Rattle.rules.specs.Base.{joined}
-use Rattle.rules.specs.Asked.{fieldsOf}
+use Rattle.terms.specs.Meaning.{laidFields}
+use Rattle.terms.proofs.Laid.{many-laid}
 use Rattle.rows.proofs.RowLaws.{row-none, length-row}
 use Rattle.cards.specs.declared.DeckRead.{DeckRead}
 use Rattle.cards.specs.Promise.{DeckSays}
@@ -20,7 +20,7 @@ front-in : (deck : List ℕ) (r : DeckRead) (row : List ℕ) → DeckSays deck r
 front-in deck r row w z =
     let a = accepted deck r row (w .reads) z in
     let m = a .2 .means in
-    let long : length row ≡ 320 = ap length (a .2 .fields) ∙ length-row (fieldsOf (joined (a .0 .cards))) (omega (arith, m .few, m .count)) in
+    let long : length row ≡ 320 = ap length (a .2 .fields) ∙ length-row (laidFields (a .0)) (omega (arith, m .few, many-laid (r .asked) (a .0) m)) in
     (omega (arith, m .few, long), long)
 
 room-requires : tie.Need-room-requires

@@ -6,10 +6,10 @@ use Rattle.answers.proofs.asked.tell_fields.Statement.{statement}
 use Rattle.answers.proofs.asked.tell_fields.Tie as tie
 
 abbrev Inv-loop : tie.InvT-loop
-Inv-loop deck fields count i₀ i = Unit {0}
+Inv-loop deck fields key count i₀ i = Unit {0}
 
 abbrev μ-loop : tie.MeasureT-loop
-μ-loop deck fields count i₀ i = count - i
+μ-loop deck fields key count i₀ i = count - i
 
 loop-holds : tie.Need-loop-holds Inv-loop μ-loop
 loop-holds c = tt
