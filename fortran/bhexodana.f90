@@ -20,10 +20,13 @@ module bhexodana
     public :: bhx_field, bhx_planned, bhx_ran, bhx_twinned
 
     ! The version of this interface. It rises when an answer or an entry gets another shape, and when one is added.
-    integer, parameter, public :: bhexodana_version = 3
+    integer, parameter, public :: bhexodana_version = 4
 
     ! What a field does: bhx_field%kind.
     integer, parameter, public :: bhx_copy = 0, bhx_pack = 1, bhx_unpack = 2
+
+    ! The part of the input record that a field reads: bhx_field%part. Without keys it is always the data.
+    integer, parameter, public :: bhx_data = 0, bhx_key = 1
 
     ! Why two records become alike: bhx_twinned%reason. No field reads the lost half byte; the last field that reads it has no place for it; a later
     ! field is written over it; or the data past A's n are not carried.
@@ -32,17 +35,19 @@ module bhexodana
     ! A plan has at most so many fields, a reel so many bytes, and twins so many.
     integer, parameter, public :: bhx_most_fields = 64, bhx_most_reel = 65536, bhx_most_twins = 8193
 
-    ! A field of a plan: input bytes of the record from position r on become output bytes of the output record from position t on.
-    ! For a copy both sizes are the same. Positions count from 1.
+    ! A field of a plan: input bytes of its part of the record from position r on become output bytes of the output record from position t on.
+    ! For a copy both sizes are the same. Positions count from 1, r in its part as on the card.
     type, bind(c) :: bhx_field
         integer(c_int8_t) :: kind
+        integer(c_int8_t) :: part
         integer(c_int16_t) :: r
         integer(c_int16_t) :: input
         integer(c_int16_t) :: output
         integer(c_int16_t) :: t
     end type bhx_field
 
-    ! What a plan answers. Where keeping is .false., lost is the lowest half byte that is lost, from 0, or two times A's n for the data past A's n.
+    ! What a plan answers. Where keeping is .false., lost is the lowest half byte that is lost, from 0, through the key first; or two times A's n for
+    ! the data past A's n.
     type :: bhx_planned
         integer(int64) :: refusal = 0
         integer(int64) :: place = 0
@@ -87,7 +92,7 @@ module bhexodana
     end interface run_deck
 
     ! call show_twins(deck, output, answer): two input records that the deck makes one stand in output(1:answer%length); the other bytes stay.
-    ! A plan that keeps has none: refusal 16.
+    ! A plan that keeps has none: refusal 16. With a key each record is key and data joined.
     interface show_twins
         module procedure twins_of_cards, twins_of_text, twins_of_bytes
     end interface show_twins
@@ -134,7 +139,7 @@ module bhexodana
 
     ! Lent where an array is empty: the library takes no null pointer.
     integer(c_int8_t), target, save :: nothing(1) = 0
-    type(bhx_field), target, save :: no_field(1) = bhx_field(0, 0, 0, 0, 0)
+    type(bhx_field), target, save :: no_field(1) = bhx_field(0, 0, 0, 0, 0, 0)
 
 contains
 

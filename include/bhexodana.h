@@ -25,8 +25,8 @@
  *    5  T, F, A or B is missing                                      1
  *    6  a 65th field                                                 its card
  *    7  a number is outside its limits                               card
- *    8  a combination of the cards is not allowed                    1; an FS card in TC or TR: 2; CV outside FV: its card
- *    9  a field lies outside its records                             field, from 1
+ *    8  a combination of the cards is not allowed                    1; an FS card in TC or TR: 2; CV outside FV: its card; (K,r) without a key in A: its card
+ *    9  a field lies outside its records, or outside its part        field, from 1
  *   10  a half byte has no permitted value                           the lowest such half, from 0
  *   11  not a reel                                                   0
  *   12  a block breaks its rule                                      block, from 1
@@ -39,14 +39,23 @@
  *
  *   A plan answers 1 to 10, and 15 where a table is lent; a run answers 1 to 15; twins answer 1 to 10, 15 and 16.
  *
+ *   7: with a key, A=(K=l,D=l), both lengths are 1 to 4,096 and together at most 4,096; a greater total is a fault of D's number.
+ *
+ *   8: a key in A stands only with FF, and with TF or TRF; in TF a block of B then holds one record. (K,r) stands only where A has a key.
+ *
+ *   9: with a key a field reads the key or the data, and lies wholly in it; positions count from 1 in each.
+ *
  *   12: each block obeys its rule by itself, wherever it stands. In FF it is a positive multiple of n bytes, at most m, so short blocks may stand inside a
- *   reel; in FV it has at most m or g bytes and is filled by its records, each with its length, and with fields at least n bytes of data in each; in FU
+ *   reel; with a key it is one record, key and data, of exactly K+D bytes; in FV it has at most m or g bytes and is filled by its records, each with its length, and with fields at least n bytes of data in each; in FU
  *   it has at most g bytes.
+ *
+ *   Half bytes, in 10 and in what a plan loses, are counted from 0, two to a byte. With a key they are numbered through the key first: the byte at position r of
+ *   the data has the half bytes 2(K+r-1) and 2(K+r-1)+1.
  *
  *   The column is that of a byte of the card which the place names, from 1:
  *    3  the first column at which no continuation of the operand could be right; one past its end where the operand stops short
  *    4  the first byte of the second occurrence
- *    7  the number's first digit
+ *    7  the number's first digit; for a total of key and data over 4,096 that of D
  *   For all other refusals it is 0.
  */
 #ifndef BHEXODANA_H
@@ -56,12 +65,16 @@
 #include <stdint.h>
 
 /* The version of this interface. It rises when an answer or an entry gets another shape, and when one is added. */
-#define BHEXODANA_VERSION 3
+#define BHEXODANA_VERSION 4
 
 /* What a field does: bhx_field.kind. */
 #define BHX_COPY 0
 #define BHX_PACK 1
 #define BHX_UNPACK 2
+
+/* The part of the input record that a field reads: bhx_field.part. Without keys it is always the data. */
+#define BHX_DATA 0
+#define BHX_KEY 1
 
 /* Why two records become alike: bhx_twinned.reason. Where several fields read the lost half byte, it is that of the last one which reads it. */
 #define BHX_NEVER_READ 1 /* no field reads the lost half byte */
@@ -82,10 +95,11 @@
 extern "C" {
 #endif
 
-/* A field of a plan: `input` bytes of the record from position r on become `output` bytes of the output record from position t on. */
+/* A field of a plan: `input` bytes of its part of the record from position r on become `output` bytes of the output record from position t on. */
 typedef struct {
     uint8_t kind;    /* BHX_COPY, BHX_PACK or BHX_UNPACK */
-    uint16_t r;      /* first position in the input record, from 1 */
+    uint8_t part;    /* BHX_DATA or BHX_KEY */
+    uint16_t r;      /* first position in that part of the input record, from 1, as on the card */
     uint16_t input;  /* bytes read; for a copy the same as output */
     uint16_t output; /* bytes written */
     uint16_t t;      /* first position in the output record, from 1 */
@@ -97,7 +111,7 @@ typedef struct {
     uint64_t place;   /* where it was refused */
     uint64_t column;  /* for 3, 4 and 7 the byte of the card, from 1; otherwise 0 */
     uint64_t keeping; /* 1 if no two different records that the plan converts have the same output, 0 if some have */
-    uint64_t lost;    /* where keeping is 0: the lowest half byte that is lost, from 0, or two times A's n for the data past A's n */
+    uint64_t lost;    /* where keeping is 0: the lowest half byte that is lost, from 0, through the key first; or two times A's n for the data past A's n */
     uint64_t fields;  /* how many fields the plan has */
 } bhx_planned;
 
@@ -131,8 +145,8 @@ bhx_ran bhx_run(const uint8_t *deck, size_t deck_len, const uint8_t *reel, size_
 
 /*
  * Shows what the plan of a deck loses: two input records that it converts to the same output, one behind the other from the first byte of the output on,
- * which has room for so many bytes. They are data only, A's n bytes each, and differ in the lost half byte alone; where the tail is lost the second is the
- * first and a byte 00 behind it.
+ * which has room for so many bytes. They are data only, A's n bytes each, with a key key and data joined, K+D bytes each, and differ in the lost half byte alone; where the tail is lost
+ * the second is the first and a byte 00 behind it.
  */
 bhx_twinned bhx_twins(const uint8_t *deck, size_t deck_len, uint8_t *out, size_t room);
 

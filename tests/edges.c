@@ -9,9 +9,12 @@
 
 /* The build fails where a layout is another one. */
 #define HOLDS(name, test) typedef char name[(test) ? 1 : -1]
-HOLDS(version, BHEXODANA_VERSION == 3);
+HOLDS(version, BHEXODANA_VERSION == 4);
 HOLDS(field_size, sizeof(bhx_field) == 10);
 HOLDS(field_kind, offsetof(bhx_field, kind) == 0);
+HOLDS(field_part, offsetof(bhx_field, part) == 1);
+HOLDS(field_part_size, sizeof(((bhx_field *)0)->part) == 1);
+HOLDS(parts, BHX_DATA == 0 && BHX_KEY == 1);
 HOLDS(field_r, offsetof(bhx_field, r) == 2);
 HOLDS(field_input, offsetof(bhx_field, input) == 4);
 HOLDS(field_output, offsetof(bhx_field, output) == 6);
@@ -46,6 +49,7 @@ static const char copies[] = "// U TC,FU,A=(9),B=(9)\n// END";
 static const char barren[] = "// U TRF,FF,A=(2,2),B=(3,3)\n// FS 1,(P,2,2),1/1,(U,1,1),3\n// END\n";
 static const char cut[] = "// U TC,FU,A=(5),B=(5\n// END\n";
 static const char twice[] = "// UTT TC,FU,TC,A=(5),B=(5)\n// END\n";
+static const char keyed[] = "// U TRF,FF,A=(K=2,D=4),B=(5,10)\n// FS (K,1),2,1/1,(P,4,3),3\n// END\n";
 static const char small[] = "// U TF,FF,A=(8,8),B=(8,8)\n// FS 1,8,1/1,0,1\n// END\n";
 
 static const uint8_t empty_reel[8] = {0, 0, 0, 0, 0, 0, 0, 8};
@@ -106,15 +110,21 @@ static bhx_planned planned(uint64_t refusal, uint64_t place, uint64_t column, ui
     return p;
 }
 
-static bhx_field field(uint8_t kind, uint16_t r, uint16_t input, uint16_t output, uint16_t t)
+static bhx_field field_of(uint8_t part, uint8_t kind, uint16_t r, uint16_t input, uint16_t output, uint16_t t)
 {
     bhx_field f;
     f.kind = kind;
+    f.part = part;
     f.r = r;
     f.input = input;
     f.output = output;
     f.t = t;
     return f;
+}
+
+static bhx_field field(uint8_t kind, uint16_t r, uint16_t input, uint16_t output, uint16_t t)
+{
+    return field_of(BHX_DATA, kind, r, input, output, t);
 }
 
 static void same_plan(const char *what, bhx_planned p, bhx_planned want)
@@ -171,20 +181,28 @@ static void refuses_twins(const char *what, const char *cards, size_t room, uint
     twinned(what, cards, room, refusal, place, column, 0, empty_reel, 0);
 }
 
+/* Each entry has the part 255 before the call, which no field has: refused leaves it, finished writes 0 or 1 into the first ones. */
 static void plans(const char *what, const char *cards, size_t entries, bhx_planned want, const bhx_field *fields)
 {
     bhx_planned p;
     uint64_t i;
+    size_t n;
     size_t changed = (size_t)want.fields * sizeof(bhx_field);
     bhx_field *table = (bhx_field *)(void *)(lent_table.bytes + GUARD);
     calls++;
     fill(lent_table.bytes, before_table.bytes, sizeof lent_table.bytes);
+    for (n = 0; n < ENTRIES; n++)
+        table[n].part = 255;
+    memcpy(before_table.bytes, lent_table.bytes, sizeof lent_table.bytes);
     p = bhx_plan_into((const uint8_t *)cards, strlen(cards), table, entries);
     same_plan(what, p, want);
     for (i = 0; i < want.fields; i++) {
-        check(table[i].kind == fields[i].kind && table[i].r == fields[i].r && table[i].input == fields[i].input, what);
+        check(table[i].kind == fields[i].kind && table[i].part == fields[i].part && table[i].r == fields[i].r, what);
+        check(table[i].input == fields[i].input, what);
         check(table[i].output == fields[i].output && table[i].t == fields[i].t, what);
     }
+    for (n = (size_t)want.fields; n < ENTRIES; n++)
+        check(table[n].part == 255, what);
     check(stays(lent_table.bytes, before_table.bytes, sizeof lent_table.bytes, lent_table.bytes + GUARD, changed), what);
 }
 
@@ -291,6 +309,50 @@ static void test_many_fields(void)
     plans("65 fields", cards, ENTRIES, over, NULL);
 }
 
+/* A key before the data: the part of each field, blocks of one record, and what is lost counted through the key. */
+static void test_keys(void)
+{
+    static const char lossy[] = "// U TF,FF,A=(K=2,D=1),B=(2,2)\n// FS (K,1),(P,2,1),1/1,1,2\n// END\n";
+    static const char of_data[] = "// U TF,FF,A=(K=2,D=2),B=(4,4)\n// FS (K,1),2,1/1,1,3\n// END\n";
+    static const uint8_t s[28] = {
+        0x00, 0x00, 0x00, 0x02, 0x00, 0x00, 0x00, 0x10, 0x00, 0x00, 0x00, 0x16, 0x00, 0x00, 0x00, 0x1C,
+        0xC1, 0xC2, 0xF1, 0xF2, 0xF3, 0xC4, 0xC3, 0xC4, 0xF5, 0xF6, 0xF7, 0xD8,
+    };
+    static const uint8_t now[22] = {
+        0x00, 0x00, 0x00, 0x01, 0x00, 0x00, 0x00, 0x0C, 0x00, 0x00, 0x00, 0x16,
+        0xC1, 0xC2, 0x01, 0x23, 0x4C, 0xC3, 0xC4, 0x05, 0x67, 0x8D,
+    };
+    static const uint8_t joined[24] = {
+        0x00, 0x00, 0x00, 0x01, 0x00, 0x00, 0x00, 0x0C, 0x00, 0x00, 0x00, 0x18,
+        0xC1, 0xC2, 0xF1, 0xF2, 0xF3, 0xC4, 0xC3, 0xC4, 0xF5, 0xF6, 0xF7, 0xD8,
+    };
+    static const uint8_t digits[6] = {0xF0, 0xA0, 0x00, 0xF1, 0xA0, 0x00};
+    bhx_field two[2], five[5];
+    bhx_planned short_table = planned(15, 5, 0, 0, 0, 0);
+    static const char many[] = "// U TRF,FF,A=(K=9,D=9),B=(20,20)\n// FS (K,2),3,1/2,3,4/(K,4),(P,5,3),7\n// FS 4,(P,5,3),7/(K,1),(U,1,2),10\n// END\n";
+    two[0] = field_of(BHX_KEY, BHX_COPY, 1, 2, 2, 1);
+    two[1] = field(BHX_PACK, 1, 4, 3, 3);
+    five[0] = field_of(BHX_KEY, BHX_COPY, 2, 3, 3, 1);
+    five[1] = field(BHX_COPY, 2, 3, 3, 4);
+    five[2] = field_of(BHX_KEY, BHX_PACK, 4, 5, 3, 7);
+    five[3] = field(BHX_PACK, 4, 5, 3, 7);
+    five[4] = field_of(BHX_KEY, BHX_UNPACK, 1, 1, 2, 10);
+    plans("a key, a table of 2", keyed, 2, planned(0, 0, 0, 1, 0, 2), two);
+    plans("a key, a table of 70", keyed, ENTRIES, planned(0, 0, 0, 1, 0, 2), two);
+    plans("a key, a table of 1", keyed, 1, planned(15, 2, 0, 0, 0, 0), NULL);
+    plans("each kind of either part", many, 64, planned(0, 0, 0, 0, 9, 5), five);
+    plans("each kind of either part, a table of 4", many, 4, short_table, NULL);
+    plain("a byte of the data is lost, counted through the key", of_data, planned(0, 0, 0, 0, 6, 2));
+    plain("a total of 4,097", "// U TF,FF,A=(K=4095,D=2),B=(1,1)\n// FS 1,1,1\n// END", planned(7, 1, 24, 0, 0, 0));
+    plain("a key in B", "// U TF,FF,A=(3,3),B=(K=1,D=2)\n// END", planned(3, 1, 23, 0, 0, 0));
+    plain("a field of a key that A has not", "// U TF,FF,A=(3,3),B=(3,3)\n// FS 1,1,1\n// FS (K,1),1,1\n// END", planned(8, 3, 0, 0, 0, 0));
+    plain("a field past the key", "// U TF,FF,A=(K=2,D=4),B=(3,3)\n// FS (K,2),2,1\n// END", planned(9, 1, 0, 0, 0, 0));
+    runs("a key before the data", keyed, s, sizeof s, ROOM, now, sizeof now, 2, 1);
+    refuses_run("two records of a key in one block", keyed, joined, sizeof joined, ROOM, 12, 1, 0);
+    shows("a digit of the key is dropped", lossy, 6, BHX_DROPPED, digits, 6);
+    refuses_twins("a byte too little for key and data", lossy, 5, 15, 6, 0);
+}
+
 /* Each reason, with the bytes of both records: halves that a field permits only some values of have the lowest, as the zone F and the sign A. */
 static void test_twins(void)
 {
@@ -358,6 +420,7 @@ int main(void)
     test_short_blocks();
     test_plans();
     test_many_fields();
+    test_keys();
     test_twins();
     test_long_twins();
     test_alike();

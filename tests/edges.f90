@@ -18,6 +18,8 @@ program edges
     character(len=*), parameter :: loses(3) = [character(len=40) :: &
         "// UTT TRF,FF,A=(8,16),B=(6,6)", "// FS 1,4,1/5,(P,4,2),5", "// END"]
     integer(int8), parameter :: both(16) = int([0, 0, 0, 0, -16, -16, -16, -96, 0, 0, 0, 0, -15, -16, -16, -96], int8)
+    character(len=*), parameter :: keyed(3) = [character(len=40) :: &
+        "// U TRF,FF,A=(K=2,D=4),B=(5,10)", "// FS (K,1),2,1/1,(P,4,3),3", "// END"]
     integer(int8), parameter :: none(0) = [integer(int8) ::]
     integer :: tested = 0, wrong = 0
     character(len=:), allocatable :: text
@@ -26,6 +28,7 @@ program edges
     call test_plans()
     call test_tables()
     call test_runs()
+    call test_keys()
     call test_twins()
     print "(i0, a, i0, a)", tested, " tests, ", wrong, " wrong"
 
@@ -70,18 +73,19 @@ contains
     subroutine test_tables()
         type(bhx_field) :: table(70), gaps(10)
         type(bhx_planned) :: p
-        table = bhx_field(9, 9, 9, 9, 9)
+        table = bhx_field(9, -1, 9, 9, 9, 9)
         call plan_into(cards, table(1:0), p)
-        call check(same_plan(p, 15, 2, 0, .false., 0, 0) .and. all(table%kind == 9), "a table of 0")
+        call check(same_plan(p, 15, 2, 0, .false., 0, 0) .and. all(table%kind == 9) .and. all(table%part == -1), "a table of 0")
         call plan_into(text, table(1:1), p)
-        call check(same_plan(p, 15, 2, 0, .false., 0, 0) .and. all(table%kind == 9), "a table of 1")
+        call check(same_plan(p, 15, 2, 0, .false., 0, 0) .and. all(table%kind == 9) .and. all(table%part == -1), "a table of 1")
         call plan_into(cards, table, p)
         call check(same_plan(p, 0, 0, 0, .true., 0, 2) .and. all(table(3:)%kind == 9), "a table of 70")
+        call check(all(table(1:2)%part == bhx_data) .and. all(table(3:)%part == -1), "the parts of a table of 70")
         call check(table(1)%kind == bhx_copy .and. table(1)%r == 1 .and. table(1)%input == 4 .and. table(1)%t == 1, &
             "the first entry")
         call check(table(2)%kind == bhx_pack .and. table(2)%input == 4 .and. table(2)%output == 3 .and. table(2)%t == 5, &
             "the second entry")
-        gaps = bhx_field(9, 9, 9, 9, 9)
+        gaps = bhx_field(9, -1, 9, 9, 9, 9)
         call plan_into(transfer(text, none), gaps(1:9:4), p)
         call check(p%refusal == 0 .and. gaps(1)%kind == bhx_copy .and. gaps(5)%kind == bhx_pack, "a table with gaps")
         call check(all(gaps(2:4)%kind == 9) .and. all(gaps(6:)%kind == 9), "what is between the gaps")
@@ -114,6 +118,51 @@ contains
         call check(same_run(r, 0, 0, 0, 30, 2, 2) .and. all(output(1:60:2) == result) .and. all(output(2:60:2) == 77), &
             "arrays with gaps")
     end subroutine test_runs
+
+    ! A key before the data: the part of each field, blocks of one record, and what is lost counted through the key.
+    subroutine test_keys()
+        character(len=*), parameter :: of_data(3) = [character(len=40) :: &
+            "// U TF,FF,A=(K=2,D=2),B=(4,4)", "// FS (K,1),2,1/1,1,3", "// END"]
+        character(len=*), parameter :: lossy(3) = [character(len=40) :: &
+            "// U TF,FF,A=(K=2,D=1),B=(2,2)", "// FS (K,1),(P,2,1),1/1,1,2", "// END"]
+        character(len=*), parameter :: too_long(3) = [character(len=40) :: &
+            "// U TF,FF,A=(K=4095,D=2),B=(1,1)", "// FS 1,1,1", "// END"]
+        character(len=*), parameter :: past(3) = [character(len=40) :: &
+            "// U TF,FF,A=(K=2,D=4),B=(3,3)", "// FS (K,2),2,1", "// END"]
+        integer(int8), parameter :: records(28) = int([0, 0, 0, 2, 0, 0, 0, 16, 0, 0, 0, 22, 0, 0, 0, 28, &
+            -63, -62, -15, -14, -13, -60, -61, -60, -11, -10, -9, -40], int8)
+        integer(int8), parameter :: packed(22) = int([0, 0, 0, 1, 0, 0, 0, 12, 0, 0, 0, 22, &
+            -63, -62, 1, 35, 76, -61, -60, 5, 103, -115], int8)
+        integer(int8) :: output(100)
+        type(bhx_field) :: table(4)
+        type(bhx_planned) :: p
+        type(bhx_ran) :: r
+        type(bhx_twinned) :: t
+        table = bhx_field(9, -1, 9, 9, 9, 9)
+        call plan_into(keyed, table(1:1), p)
+        call check(same_plan(p, 15, 2, 0, .false., 0, 0) .and. all(table%part == -1), "a key, a table of 1")
+        call plan_into(keyed, table, p)
+        call check(same_plan(p, 0, 0, 0, .true., 0, 2) .and. all(table(3:)%part == -1), "a key, a table of 4")
+        call check(table(1)%part == bhx_key .and. table(1)%kind == bhx_copy .and. table(1)%r == 1 .and. table(1)%input == 2 &
+            .and. table(1)%output == 2 .and. table(1)%t == 1, "a field of the key")
+        call check(table(2)%part == bhx_data .and. table(2)%kind == bhx_pack .and. table(2)%r == 1 .and. table(2)%input == 4 &
+            .and. table(2)%output == 3 .and. table(2)%t == 3, "a field of the data")
+        call check(same_plan(plan_deck(of_data), 0, 0, 0, .false., 6, 2), "a byte of the data is lost, counted through the key")
+        call check(same_plan(plan_deck(too_long), 7, 1, 24, .false., 0, 0), "a total of 4,097")
+        call check(same_plan(plan_deck(past), 9, 1, 0, .false., 0, 0), "a field past the key")
+        output = 77
+        call run_deck(keyed, records, output, r)
+        call check(same_run(r, 0, 0, 0, 22, 2, 1) .and. all(output(1:22) == packed) .and. all(output(23:) == 77), &
+            "a key before the data")
+        output = 77
+        call run_deck(too_long, records, output, r)
+        call check(same_run(r, 7, 1, 24, 0, 0, 0) .and. all(output == 77), "a run with a total of 4,097")
+        call show_twins(lossy, output(1:5), t)
+        call check(same_twins(t, 15, 6, 0, 0, 0) .and. all(output == 77), "a byte too little for key and data")
+        call show_twins(lossy, output, t)
+        call check(same_twins(t, 0, 0, 0, bhx_dropped, 6) .and. all(output(1:6) == [-16, -96, 0, -15, -96, 0]) &
+            .and. all(output(7:) == 77), "a digit of the key is dropped")
+    end subroutine test_keys
 
     logical function same_twins(t, refusal, place, column, reason, length)
         type(bhx_twinned), intent(in) :: t
