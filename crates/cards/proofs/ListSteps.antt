@@ -11,7 +11,7 @@ use lib.ListN.{length}
 use borrow.Author.Tests.{ne-eqb}
 use Rattle.rules.specs.Grammar.{CardField, Item, cv}
 use Rattle.rules.specs.Asked.{fieldsOf}
-use Rattle.rules.specs.Plan.{isKey, keyFields}
+use Rattle.rules.specs.Plan.{keyFields}
 use Rattle.rules.proofs.AcceptedLaws.{fields-append}
 use Rattle.terms.specs.Meaning.{firstCard}
 

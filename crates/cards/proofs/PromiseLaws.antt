@@ -5,8 +5,9 @@ use mathlib.Core.List.{List}
 use Prim.Native.Nat.{ℕ, zero, suc, _≤_}
 use native.Mathlib.Omega.{arith}
 use Rattle.rules.specs.Answer.{Refusal, Answer, fine, refuse, refusedAt}
-use Rattle.rules.specs.Grammar.{Size as RuleSize, two, Input as RuleInput, plain, keyed, modeIs, formatIs, outputIs}
+use Rattle.rules.specs.Grammar.{modeIs, formatIs, outputIs}
 use Rattle.rules.specs.Asked.{Asked as RuleAsked, askedOf}
+use Rattle.rules.specs.Plan.{joinedSize}
 use Rattle.rules.specs.Rows.{Done, PlanRows}
 use Rattle.rules.proofs.Given.{Upto}
 use Rattle.rules.proofs.AskedTable.{upto-asked}
@@ -31,11 +32,6 @@ format-once f g e = let q : FormatIs f ≡ FormatIs g = parameter-once (FormatIs
 size-once : (z y : Size) → sizeOf z ≡ sizeOf y → z ≡ y
 size-once z y e = let q : OutputIs z ≡ OutputIs y = parameter-once (OutputIs z) (OutputIs y) (ap (λ x. outputIs x) e) in cc
 
--- the size that A is without keys
-abbrev sizeIn : RuleInput → RuleSize
-sizeIn (plain s) = s
-sizeIn (keyed k d) = two k d
-
 module _ (r q : DeckRead) (one-row other-row : List ℕ) (a : RuleAsked) (x : Accepts r one-row a) (y : Accepts q other-row a) where
   abbrev one : Asked
   one = r .asked
@@ -52,7 +48,7 @@ module _ (r q : DeckRead) (one-row other-row : List ℕ) (a : RuleAsked) (x : Ac
       let u = utilities in
       let m : one .mode ≡ other .mode = mode-once (one .mode) (other .mode) (λ i. u i .mode) in
       let f : one .format ≡ other .format = format-once (one .format) (other .format) (λ i. u i .format) in
-      let n : one .input ≡ other .input = size-once (one .input) (other .input) (λ i. sizeIn (u i .input)) in
+      let n : one .input ≡ other .input = size-once (one .input) (other .input) (λ i. joinedSize (u i .input)) in
       let o : one .output ≡ other .output = size-once (one .output) (other .output) (λ i. u i .output) in
       let c : one .count ≡ other .count = x .means .count ∙ sym (y .means .count) in
       let s : one .fs ≡ other .fs = x .means .fs ∙ sym (y .means .fs) in

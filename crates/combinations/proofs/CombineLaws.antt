@@ -253,11 +253,6 @@ unfolding _>>_
 then-same (fine tt) x y h = h refl
 then-same (refuse r) x y h = refl
 
--- the size that A is without keys
-abbrev sizeIn : Input → Size
-sizeIn (plain s) = s
-sizeIn (keyed k d) = two k d
-
 -- keys are there exactly if the key has a length
 key-told : (f : Format) (i : Input) → InputWithin f i → isKeyed i ≡ not (eqb (keyLength i) 0)
 key-told f (plain s) w = refl
@@ -291,7 +286,7 @@ module _ (zone : ℕ) (x : Asked) (a : RuleAsked) (m : Means x a) (u : UtilityWi
 
   input-is : sizeOf (x .input) ≡ joinedSize i
   unfolding utilityOf throughUtility
-  input-is = ap (λ (v : Utility). sizeIn (v .input)) (m .utility)
+  input-is = ap (λ (v : Utility). joinedSize (v .input)) (m .utility)
 
   output-is : sizeOf (x .output) ≡ a .utility .output
   unfolding utilityOf throughUtility

@@ -1,5 +1,5 @@
 -- From what is read of a deck to its plan: the deck is refused with the number, the place and the column that were read, or it asks for what was read.
-use mathlib.Core.Path.{_≡_, ap, sym, _∙_}
+use mathlib.Core.Path.{_≡_, ap, _∙_}
 use mathlib.Core.List.{List, []}
 use Prim.Native.Nat.{ℕ, _*_, _≤_}
 use native.Mathlib.Omega.{arith}

@@ -9,7 +9,7 @@ use Rattle.rules.specs.Reader.{read, stopped, Reader, isDigit, number}
 use Rattle.rules.specs.Halves.{Kind as RuleKind}
 use Rattle.rules.specs.Grammar.{Size as RuleSize, Input as RuleInput, Parameter as RuleParameter, modeIs, formatIs, inputIs, outputIs, rewindIn, rewindOut, firstIs, Item, field, cv, parameter, item}
 use Rattle.rules.specs.Words.{numberColumns}
-use Rattle.terms.specs.Meaning.{modeOf, formatOf, sizeOf, inputOf, kindOf, fieldOf, cardField}
+use Rattle.terms.specs.Meaning.{modeOf, formatOf, sizeOf, inputOf, kindOf, cardField}
 use Rattle.terms.specs.declared.Size.the-variants.{Two, One}
 use Rattle.terms.specs.declared.Input.the-variants.{Plain, Keyed}
 use Rattle.terms.specs.declared.Kind.{Kind}

@@ -21,7 +21,7 @@ use Rattle.rules.specs.Words.{Worded, uWords, fsWords, againColumn, numb
 use Rattle.rules.specs.Texts.{UText, FsText}
 use Rattle.rules.specs.Columns.{NoWay, RightTo}
 use Rattle.rules.specs.Asked.{grammatical, itemsFrom, cardsOf, letter, distinct, fieldsOf, cvs, sameLetter, cvColumn, upTo, once, Given, given, need, Utility, complete, utilityLimits, fieldLimits, parameterNumbers, fieldColumn, limits, Asked, askedOf}
-use Rattle.rules.specs.Plan.{Plan, assembled, barrenHalf, combined, planOf}
+use Rattle.rules.specs.Plan.{assembled, barrenHalf, combined, planOf}
 use Rattle.rules.specs.Rows.{Operands, Alike, Twice, Complete, Row, Done, GivenBy}
 use Rattle.rules.specs.RunRows.{RowInto, RowRun}
 use Rattle.rules.specs.Run.{runOf}

@@ -1,16 +1,13 @@
 -- Keys: a field inside its own part lies inside the record of key and data joined, where it counts through, and so everything said of fields that count
 -- through is said of it. By the two parts.
-use mathlib.Core.Path.{_≡_, refl, ap, sym, _∙_}
-use mathlib.Core.Logic.{_⊎_, inl, inr}
-use mathlib.Core.Bool.{Bool, true, false, cond, _&&_, _||_, true≢false, false≢true}
-use mathlib.Core.List.{List, [], _∷_, map}
-use Prim.Native.Nat.{ℕ, _+_, _-_, _≤_, _<_}
+use mathlib.Core.Path.{_≡_, refl, ap}
+use mathlib.Core.Bool.{Bool, true, false, true≢false, false≢true}
+use mathlib.Core.List.{List, [], _∷_}
+use Prim.Native.Nat.{ℕ, _-_, _≤_}
 use native.Mathlib.Omega.{arith}
-use lib.Dec.{eqb}
-use borrow.Author.Tests.{eqb-true, eqb-false, ne-eqb}
 use Rattle.rules.specs.Places.{All, noMore, also, Some, this, that}
 use Rattle.rules.specs.Halves.{inputSize, Field}
-use Rattle.rules.specs.Grammar.{Format, Size, two, one, Input, plain, keyed, Part, inData, inKey, CardField}
+use Rattle.rules.specs.Grammar.{Format, two, Input, plain, keyed, Part, inData, inKey, CardField}
 use Rattle.rules.specs.Plan.{recordLength, joinedSize, keyLength, partLength, bytesBefore, through, isKeyed, isKey, keyFields}
 use Rattle.rules.specs.Rows.{SizeWithin, InputWithin, FieldWithin, IsKeyed, with-key, Inside}
 use Rattle.rules.proofs.RecordLaws.{sizes-low}

@@ -1,16 +1,16 @@
 -- A field of a row is inside its records exactly if it is inside its own part on the card, and then it counts through: by the two parts. Where it runs past
 -- its key, it stands past every record.
 use mathlib.Core.Path.{_≡_, refl, ap, sym, _∙_}
-use mathlib.Core.Bool.{Bool, true, false, cond, _&&_, true≢false}
-use Prim.Native.Nat.{ℕ, _+_, _-_, _≤_, _<_}
+use mathlib.Core.Bool.{Bool, true, false, cond, true≢false}
+use Prim.Native.Nat.{ℕ, _+_, _-_, _≤_}
 use native.Mathlib.Omega.{arith}
 use lib.Dec.{leb}
 use lib.ListN.{length, length-map}
-use borrow.Author.Tests.{leb-true, leb-false, le-leb, lt-leb}
+use borrow.Author.Tests.{leb-true, le-leb, lt-leb}
 use Rattle.rules.specs.Base.{joined}
 use Rattle.rules.specs.Asked.{fieldsOf, Asked as RuleAsked}
 use Rattle.rules.specs.Grammar.{Format, Size, Input, plain, keyed, Part, inData, inKey, CardField}
-use Rattle.rules.specs.Halves.{inputSize, outputSize, Field}
+use Rattle.rules.specs.Halves.{inputSize, Field}
 use Rattle.rules.specs.Plan.{recordLength, joinedSize, keyLength, partLength, bytesBefore, through, isKeyed, isKey, inside, insidePart}
 use Rattle.rules.specs.Rows.{InputWithin, FieldWithin}
 use Rattle.rules.proofs.Tests.{and-left}

@@ -7,9 +7,9 @@ use native.Mathlib.Omega.{arith}
 use lib.Dec.{eqb}
 use borrow.Author.Tests.{eqb-true, eqb-false, ne-eqb}
 use Rattle.rules.specs.Base.{joined}
-use Rattle.rules.specs.Grammar.{Size, two, Input, plain, keyed, Item}
+use Rattle.rules.specs.Grammar.{Item}
 use Rattle.rules.specs.Asked.{cvs, Asked as RuleAsked}
-use Rattle.rules.specs.Plan.{assembled}
+use Rattle.rules.specs.Plan.{joinedSize, assembled}
 use Rattle.rules.specs.Keys.{throughUtility}
 use Rattle.rules.proofs.AcceptedLaws.{cvs-append}
 use Rattle.terms.specs.Meaning.{utilityOf, cvCard, Means, planIn}
@@ -28,11 +28,6 @@ cv-said i l (c ∷ cards) = go (cv-said (suc i) (omega arith) cards) (eqb (cvs c
         let n = eqb-false (cvs c) 0 t in
         rw (t, ne-eqb i 0 (λ q. omega arith), ne-eqb (cvs (joined (c ∷ cards))) 0 (λ q. n (omega (arith, cvs-append c (joined cards)))))
 
--- the size that A is without keys
-abbrev sizeIn : Input → Size
-sizeIn (plain s) = s
-sizeIn (keyed k d) = two k d
-
 pub plan-means : (zone : ℕ) (x : Asked) (a : RuleAsked) → Means x a → planIn zone x (assembled zone a .fields) ≡ assembled zone a
 unfolding planIn assembled utilityOf throughUtility
 plan-means zone x a m =
@@ -42,7 +37,7 @@ plan-means zone x a m =
       zone = zone;
       mode = u i .mode;
       format = u i .format;
-      input = sizeIn (u i .input);
+      input = joinedSize (u i .input);
       output = u i .output;
       first = u i .first;
       fields = assembled zone a .fields;

@@ -1,5 +1,4 @@
 -- `cards::laid` meets its contract: its first position is laid, and the rest of the field stays; what it reads is what its kind reads.
-use mathlib.Core.Path.{_≡_}
 use borrow.Author.Needs.{needs}
 use Rattle.terms.specs.Meaning.{fieldOf, cardField, laid}
 use Rattle.rows.proofs.FlatLaws.{input-of}
