@@ -208,7 +208,7 @@ static bool same_entries(void)
 {
     for (size_t i = 0; i < BHX_MOST_FIELDS; i++) {
         const bhx_field a = table_ours[i], b = table_plain[i];
-        if (a.kind != b.kind || a.r != b.r || a.input != b.input || a.output != b.output || a.t != b.t)
+        if (a.kind != b.kind || a.part != b.part || a.r != b.r || a.input != b.input || a.output != b.output || a.t != b.t)
             return false;
     }
     return true;

@@ -721,7 +721,7 @@ bhx_planned plain_plan_into(const uint8_t *deck, size_t deck_len, bhx_field *tab
         return (bhx_planned){15, p.count, 0, 0, 0, 0};
     for (size_t i = 0; i < p.count; i++) {
         const struct field *f = &p.fields[i];
-        table[i] = (bhx_field){f->kind, (uint16_t)f->r, (uint16_t)f->input, (uint16_t)f->output, (uint16_t)f->t};
+        table[i] = (bhx_field){f->kind, BHX_DATA, (uint16_t)f->r, (uint16_t)f->input, (uint16_t)f->output, (uint16_t)f->t};
     }
     return planned(&p);
 }
