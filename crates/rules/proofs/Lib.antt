@@ -16,6 +16,7 @@ pub mod FillLaws
 pub mod FillSteps
 pub mod EvenFilling
 pub mod FitSteps
+pub mod CodedWords
 pub mod BlockWords
 pub mod BlockSizes
 pub mod BlockLaws
@@ -120,3 +121,15 @@ pub mod ColumnTable
 pub mod ColumnSteps
 pub mod EvenLaws
 pub mod EvenOutput
+pub mod SpannedFill
+pub mod SpannedBlocks
+pub mod SpannedTurns
+pub mod SpannedRead
+pub mod SpannedCases
+pub mod SpannedOutcome
+pub mod SpannedSteps
+pub mod SpannedRuns
+pub mod SpannedTable
+pub mod SpannedMeasure
+pub mod SpannedCounts
+pub mod SpannedFV

@@ -1,0 +1,108 @@
+-- The reader of FS gives the records that the blocks hold, exactly if there are such, and there is one list of them; and it gives back the records that
+-- were filled into blocks.
+use mathlib.Core.Path.{_≡_, refl, ap, ap₂, sym, _∙_, subst}
+use mathlib.Core.Logic.{_↔_}
+use mathlib.Core.Bool.{Bool, true, false}
+use mathlib.Core.List.{List, [], _∷_, _++_, map}
+use mathlib.Core.Option.{Option, none, some, Option·none-ne-some, Option·some-injective}
+use Prim.Native.Nat.{ℕ, zero, suc, _+_, _-_, _≤_, _<_}
+use native.Mathlib.Omega.{arith}
+use lib.ListN.{length}
+use Rattle.rules.specs.Base.{joined}
+use Rattle.rules.specs.Answer.{Answer, fine, refused, _>>=_}
+use Rattle.rules.specs.Places.{All, noMore, also, Byte}
+use Rattle.rules.specs.Places.{Both, none-left, both}
+use Rattle.rules.specs.Spanned.{Segment, State, spanOf, segmentsIn, joinFrom, joinIn, finish, onward, spannedFrom, segmented, Spanned, SpanIs, Spans, Turns, no-turn}
+use Rattle.rules.proofs.AllLaws.{all-imply}
+use Rattle.rules.proofs.AnswerLaws.{not-fine, fine-same, bind-fine, fine-bind}
+use Rattle.rules.proofs.SpannedFill.{segmented-spanned}
+use Rattle.rules.proofs.SpannedBlocks.{span-exactly, span-read, spanned-blocks}
+use Rattle.rules.proofs.SpannedTurns.{read-turns, turns-read, turns-once, turns-append, turns-split, turns-exactly}
+
+module _ (g : ℕ) where
+  -- the records that end in each block
+  pub data Held : Option (List ℕ) → List (List ℕ) → List (List (List ℕ)) → Type 0 where
+    no-more : Held none [] []
+    one-more : {now mid : Option (List ℕ)} {b : List ℕ} {bs : List (List ℕ)} {ss : List Segment} {rs : List (List ℕ)} {more : List (List (List ℕ))}
+        → SpanIs g b ss → Turns now ss rs mid → Held mid bs more → Held now (b ∷ bs) (rs ∷ more)
+
+  -- what blocks of segments in turn hold, block by block
+  pub spread : {now : Option (List ℕ)} {bs : List (List ℕ)} {sss : List (List Segment)} → Both (SpanIs g) bs sss → {rs : List (List ℕ)} → Turns now (joined sss) rs none
+      → (recs : List (List (List ℕ))) × Held now bs recs × (joined recs ≡ rs)
+  spread none-left no-turn = ([], no-more, refl)
+  spread (both {y = ss} v h) w =
+      let k = turns-split ss w in
+      let m = spread h (k .second) in
+      (k .front ∷ m .0, one-more v (k .first) (m .1), ap (k .front ++_) (m .2) ∙ sym (k .is))
+
+  -- and back
+  pub gathered : {now : Option (List ℕ)} {bs : List (List ℕ)} {recs : List (List (List ℕ))} → Held now bs recs
+      → (sss : List (List Segment)) × Both (SpanIs g) bs sss × Turns now (joined sss) (joined recs) none
+  gathered no-more = ([], none-left, no-turn)
+  gathered (one-more {ss = ss} v t h) = let k = gathered h in (ss ∷ k .0, both v (k .1), turns-append t (k .2))
+
+  pub held-spans : {bs : List (List ℕ)} {recs : List (List (List ℕ))} → Held none bs recs → Spans g bs (joined recs)
+  held-spans {recs = recs} h =
+      let k = gathered h in
+      let j = turns-exactly (joined (k .0)) (joined recs) .0 (k .2) in
+      record { segments = k .0; blocks = k .1; joins = j .0; most = j .1 }
+
+  pub spans-held : {bs : List (List ℕ)} {rs : List (List ℕ)} → Spans g bs rs → (recs : List (List (List ℕ))) × Held none bs recs × (joined recs ≡ rs)
+  spans-held {rs = rs} w = spread (w .blocks) (turns-exactly (joined (w .segments)) rs .1 (w .joins, w .most))
+
+  -- ---- what the reader gives
+
+  module _ (high : g < 65536) where
+    pub held-read : (i : ℕ) {now : Option (List ℕ)} {bs : List (List ℕ)} {recs : List (List (List ℕ))} → Held now bs recs → spannedFrom g i now bs ≡ fine recs
+    held-read i no-more = refl
+    held-read i (one-more {mid = mid} {b = b} {bs = bs} {ss = ss} {rs = rs} {more = more} v t h) =
+        rw (span-read g high b ss v, turns-read t) (fine-bind (spannedFrom g (suc i) mid bs) (λ more. fine (rs ∷ more)) more (held-read (suc i) h))
+
+    pub read-held : (i : ℕ) (now : Option (List ℕ)) {bs : List (List ℕ)} → All (All Byte) bs → (recs : List (List (List ℕ))) → spannedFrom g i now bs ≡ fine recs → Held now bs recs
+    read-held i none noMore recs e = subst (Held none []) (fine-same [] recs e) no-more
+    read-held i (some c) noMore recs e = absurd (not-fine _ recs e)
+    read-held i now (also {x = b} {xs = bs} a all) recs e = go (λ mid m f. read-held (suc i) mid all m f) (segmentsIn g b) refl
+      where
+        turn : ((mid : Option (List ℕ)) (m : List (List (List ℕ))) → spannedFrom g (suc i) mid bs ≡ fine m → Held mid bs m) → (ss : List Segment) → segmentsIn g b ≡ some ss
+            → (o : Option State) → joinFrom now ss ≡ o → Held now (b ∷ bs) recs
+        turn ih ss s none t = absurd (not-fine _ recs (rw (s, t) at e))
+        turn ih ss s (some x) t =
+            let w = bind-fine (spannedFrom g (suc i) (x .1) bs) (λ more. fine (x .0 ∷ more)) recs (rw (s, t) at e) in
+            subst (Held now (b ∷ bs)) (fine-same (x .0 ∷ w .0) recs (w .2)) (one-more (span-exactly g high b a ss .0 s) (read-turns now ss x t) (ih (x .1) (w .0) (w .1)))
+
+        go : ((mid : Option (List ℕ)) (m : List (List (List ℕ))) → spannedFrom g (suc i) mid bs ≡ fine m → Held mid bs m) → (o : Option (List Segment)) → segmentsIn g b ≡ o
+            → Held now (b ∷ bs) recs
+        go ih none s = absurd (not-fine _ recs (rw s at e))
+        go ih (some ss) s = turn ih ss s (joinFrom now ss) refl
+
+    -- the reader gives records exactly if the blocks hold them
+    pub spans-exactly : {bs : List (List ℕ)} → All (All Byte) bs → (rs : List (List ℕ))
+        → ((recs : List (List (List ℕ))) × (spannedFrom g 1 none bs ≡ fine recs) × (joined recs ≡ rs)) ↔ Spans g bs rs
+    spans-exactly {bs} a rs = (
+      λ w. subst (Spans g bs) (w .2) (held-spans (read-held 1 none a (w .0) (w .1))),
+      λ w. let k = spans-held w in (k .0, held-read 1 (k .1), k .2),
+    )
+
+    -- there is one list of them
+    pub spans-once : (bs : List (List ℕ)) (rs rs′ : List (List ℕ)) → Spans g bs rs → Spans g bs rs′ → rs ≡ rs′
+    spans-once bs rs rs′ w v =
+        let k = spans-held w in
+        let m = spans-held v in
+        sym (k .2) ∙ ap joined (fine-same (k .0) (m .0) (sym (held-read 1 (k .1)) ∙ held-read 1 (m .1))) ∙ m .2
+
+    -- ---- reading back
+
+    -- any filling of records of at most 32,752 bytes holds them
+    pub spanned-spans : 9 ≤ g → {bs : List (List Segment)} {rs : List (List ℕ)} → Spanned g bs rs → All (λ r. length r ≤ 32752) rs → Spans g (map spanOf bs) rs
+    spanned-spans low {bs} w a = record { segments = bs; blocks = each (spanned-blocks g low w); joins = w .joins; most = a }
+      where
+        each : {bs : List (List Segment)} → All (λ c. SpanIs g (spanOf c) c) bs → Both (SpanIs g) (map spanOf bs) bs
+        each noMore = none-left
+        each (also v a) = both v (each a)
+
+    -- what was filled is read back
+    pub segmented-back : 9 ≤ g → {rs : List (List ℕ)} → All (λ r. (1 ≤ length r) × (length r ≤ 32752)) rs
+        → (recs : List (List (List ℕ))) × (spannedFrom g 1 none (map spanOf (segmented g rs)) ≡ fine recs) × (joined recs ≡ rs)
+    segmented-back low a =
+        let k = spans-held (spanned-spans low (segmented-spanned g low (all-imply (λ r h. h .0) a)) (all-imply (λ r h. h .1) a)) in
+        (k .0, held-read 1 (k .1), k .2)
