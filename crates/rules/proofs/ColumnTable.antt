@@ -40,7 +40,7 @@ use Rattle.rules.proofs.NumberColumns.{number-on-low, u-count, outside-
 use Rattle.rules.proofs.AskedTable.{operands-same, operands-of, says-of, not-twice}
 use Rattle.rules.proofs.PlanTable.{plan-table, into-table}
 use Rattle.rules.proofs.RunTable.{run-table}
-use Rattle.rules.proofs.RunColumns.{refuses-reads, Refuses, Plainly, refuses-bind, refuses-then, refuses-unless, refuses-each, refuses-convert}
+use Rattle.rules.proofs.RunColumns.{refuses-reads, Refuses, Plainly, refuses-bind, refuses-then, refuses-unless, refuses-each, refuses-conversion}
 
 pub lowest-zero : Lowest (λ c. c ≡ 0) 0
 lowest-zero = (refl, λ d l e. absurd (not-suc-le-zero l))
@@ -350,7 +350,7 @@ module _ (deck : List ℕ) where
 
   columned-run : (zone room : ℕ) (s : List ℕ) → Columned (runOf zone room deck s)
   unfolding runOf
-  columned-run zone room s = columned-bind (planOf zone deck) _ (columned-plan zone) (λ pl e. refuses-convert ColumnIs room pl s plain-late)
+  columned-run zone room s = columned-bind (planOf zone deck) _ (columned-plan zone) (λ pl e. refuses-conversion ColumnIs room pl s plain-late)
 
 -- ---- the table with columns
 

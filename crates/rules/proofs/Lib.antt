@@ -129,7 +129,10 @@ pub mod SpannedCases
 pub mod SpannedOutcome
 pub mod SpannedSteps
 pub mod SpannedRuns
-pub mod SpannedTable
+pub mod SpannedOut
 pub mod SpannedMeasure
 pub mod SpannedCounts
 pub mod SpannedFV
+pub mod SpannedDeck
+pub mod SpannedLaws
+pub mod SpannedDecks

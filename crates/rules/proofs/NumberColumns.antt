@@ -126,6 +126,7 @@ runs-parameter f {y} ParameterText.TRF e = refl
 runs-parameter f {y} ParameterText.FF e = refl
 runs-parameter f {y} ParameterText.FV e = refl
 runs-parameter f {y} ParameterText.FU e = refl
+runs-parameter f {y} ParameterText.FS e = refl
 runs-parameter f {y} (ParameterText.A= t) e = runs-input f y t
 runs-parameter f {y} (ParameterText.B= t) e = runs-size f y t
 runs-parameter f {y} ParameterText.IR e = refl

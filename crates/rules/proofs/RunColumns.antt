@@ -4,16 +4,17 @@ use mathlib.Core.Path.{_≡_, refl}
 use mathlib.Core.Bool.{Bool, true, false, cond}
 use mathlib.Core.List.{List, [], _∷_}
 use mathlib.Core.Option.{Option, none, some}
-use Prim.Native.Nat.{ℕ, suc, _≤_}
+use Prim.Native.Nat.{ℕ, suc, _-_, _≤_}
 use native.Mathlib.Omega.{arith}
 use lib.ListN.{length}
 use Rattle.rules.specs.Base.{joined}
 use Rattle.rules.specs.Answer.{Refusal, Answer, fine, refuse, refused, _>>=_, _>>_, unless, each, eachRead}
 use Rattle.rules.specs.Reel.{isReel, blocksOf}
-use Rattle.rules.specs.Plan.{Plan}
+use Rattle.rules.specs.Plan.{Plan, isTC, isFS, blockLength}
 use Rattle.rules.specs.Blocks.{recordsIn, recordsFrom, takenFrom}
 use Rattle.rules.specs.Output.{permits}
-use Rattle.rules.specs.Run.{fitting, outputs, outBlocks, ranOf, housed, convert}
+use Rattle.rules.specs.Spanned.{segmentsIn, State, joinIn, onward, spannedFrom}
+use Rattle.rules.specs.Run.{fitting, outputs, outBlocks, ranOf, housed, convert, spannedRun, conversion}
 
 module _ (P : Refusal → Type 0) where
   -- what is refused has P
@@ -57,6 +58,16 @@ module _ (P : Refusal → Type 0) where
       go h none e = rw e (z i)
       go h (some y) e = rw e (refuses-bind (eachRead m reads (suc i) xs) (λ ys. fine (y ∷ ys)) h (λ ys f. tt))
 
+  -- the blocks of FS
+  pub refuses-spans : (g i : ℕ) (now : Option (List ℕ)) (bs : List (List ℕ)) → Plainly 12 → Refuses (spannedFrom g i now bs)
+  refuses-spans g i none [] z = tt
+  refuses-spans g i (some c) [] z = z (i - 1)
+  refuses-spans g i now (b ∷ bs) z = go (joinIn now (segmentsIn g b)) (λ after. refuses-spans g (suc i) after bs z)
+    where
+      go : (o : Option State) → ((after : Option (List ℕ)) → Refuses (spannedFrom g (suc i) after bs)) → Refuses (onward i o (λ after. spannedFrom g (suc i) after bs))
+      go none h = z i
+      go (some x) h = refuses-bind (spannedFrom g (suc i) (x .1) bs) (λ more. fine (x .0 ∷ more)) (h (x .1)) (λ more e. tt)
+
   pub refuses-fine : {A : Type 0} (x : Answer A) (a : A) → x ≡ fine a → Refuses x
   refuses-fine x a e = rw e tt
 
@@ -79,6 +90,24 @@ module _ (P : Refusal → Type 0) where
         refuses-by (refuses-unless _ 11 0 (z 11 (omega arith))) (refuses-reads 12 (recordsIn pl) 1 (blocksOf s) (z 12 (omega arith))) (z 15 (omega arith)) (λ recs e.
         (refuses-each 13 _ (pl .first) _ (z 13 (omega arith)), refuses-each 14 _ (pl .first) _ (z 14 (omega arith))))
 
+    -- in FS
+    pub refuses-spanned : (copies : Bool) (g m first : ℕ) → Refuses (unless (isReel s) 11 0) → Refuses (spannedFrom g 1 none (blocksOf s)) → Plainly 15
+        → Refuses (spannedRun copies g m first room s)
+    unfolding spannedRun housed
+    refuses-spanned copies g m first c11 c12 z15 =
+        refuses-then (unless (isReel s) 11 0) _ c11 (λ e1.
+        refuses-bind (spannedFrom g 1 none (blocksOf s)) _ c12 (λ recs e2.
+        refuses-then _ _ (refuses-unless _ 15 _ z15) (λ e3. tt)))
+
+    pub refuses-conversion : ((m : ℕ) → 11 ≤ m → Plainly m) → Refuses (conversion room pl s)
+    unfolding conversion
+    refuses-conversion z = go (isFS (pl .format))
+      where
+        go : (t : Bool)
+            → Refuses (cond t (spannedRun (isTC (pl .mode)) (blockLength (pl .input)) (blockLength (pl .output)) (pl .first) room s) (convert room pl s))
+        go true = refuses-spanned (isTC (pl .mode)) (blockLength (pl .input)) (blockLength (pl .output)) (pl .first) (refuses-unless _ 11 0 (z 11 (omega arith))) (refuses-spans (blockLength (pl .input)) 1 none (blocksOf s) (z 12 (omega arith))) (z 15 (omega arith))
+        go false = refuses-convert z
+
 -- a run of a plan has no column
-pub convert-column : (room : ℕ) (p : Plan) (s : List ℕ) (r : Refusal) → convert room p s ≡ refuse r → r .column ≡ 0
-convert-column room p s r e = rw e at (refuses-convert (λ r. r .column ≡ 0) room p s (λ m h q. refl))
+pub conversion-column : (room : ℕ) (p : Plan) (s : List ℕ) (r : Refusal) → conversion room p s ≡ refuse r → r .column ≡ 0
+conversion-column room p s r e = rw e at (refuses-conversion (λ r. r .column ≡ 0) room p s (λ m h q. refl))

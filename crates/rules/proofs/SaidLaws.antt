@@ -2,6 +2,7 @@
 -- table says, and where it is fine it is the plan that the deck asks for, with the records of the reel.
 use mathlib.Core.Path.{_≡_, refl, ap, sym, _∙_, subst}
 use mathlib.Core.Logic.{_↔_}
+use mathlib.Core.Bool.{Bool, true, false}
 use mathlib.Core.List.{List, [], _∷_, _++_, map}
 use Prim.Native.Nat.{ℕ, _+_, _-_, _≤_, _<_}
 use native.Mathlib.Omega.{arith}
@@ -14,12 +15,14 @@ use Rattle.rules.specs.Halves.{Kind, copy, pack, unpack, inputSize, outp
 use Rattle.rules.specs.Base.{joined}
 use Rattle.rules.specs.Grammar.{Parameter, Part, inData, inKey, CardField, Item}
 use Rattle.rules.specs.Asked.{Asked, fieldsOf, askedOf}
-use Rattle.rules.specs.Plan.{Plan, combined, assembled, planOf, planAnswer}
-use Rattle.rules.specs.Run.{Ran, runOf, ranOf, outputBlocks}
-use Rattle.rules.specs.Reel.{blocksOf}
+use Rattle.rules.specs.Plan.{Plan, isTC, isFS, blockLength, combined, assembled, planOf, planAnswer}
+use Rattle.rules.specs.Output.{blockOf}
+use Rattle.rules.specs.Run.{Ran, runOf, ranOf, outputBlocks, convert, spannedOut, spannedRun, conversion}
+use Rattle.rules.specs.Reel.{blocksOf, reelOf}
 use Rattle.rules.specs.Rows.{Says, Row, Done, GivenBy}
 use Rattle.rules.specs.ColumnRows.{Column, Lowest, Answered}
-use Rattle.rules.specs.RunRows.{RowInto, RowRun}
+use Rattle.rules.specs.RunRows.{RunWrites, in-blocks, in-segments, RowInto, RowRun}
+use Rattle.rules.specs.Accepted.{Accepted}
 use Rattle.rules.specs.Lent.{zoneF, plan, planInto, Entry, kindNumber, partNumber, entryOf, cardFields, tableAfter, run, runAnswer, outputAfter}
 use Rattle.rules.specs.Said.{PlanSays, KindIs, PartIs, EntryIs, TableSays, Wrote, RunSays}
 use Rattle.rules.proofs.AnswerLaws.{fine-same, refuse-same, not-fine, bind-fine, then-fine, unless-fine}
@@ -32,6 +35,9 @@ use Rattle.rules.proofs.BlocksOutcome.{holds-of}
 use Rattle.rules.proofs.OutBlockWords.{holds-whole, blocks-told}
 use Rattle.rules.proofs.RunTable.{run-finished}
 use Rattle.rules.proofs.RunParts.{finished}
+use Rattle.rules.proofs.SpannedRead.{spans-exactly}
+use Rattle.rules.proofs.SpannedRuns.{finished-span}
+use Rattle.rules.proofs.SpannedOut.{most-A, spans-told}
 use Rattle.rules.proofs.Demand3.{demand3-of}
 
 -- ---- any table
@@ -164,35 +170,70 @@ table-says deck before =
 -- ---- a run
 
 module _ (deck reel : List ℕ) (bytes : All Byte reel) where
-  -- what a finished run wrote
+  -- what the run of a plan wrote, and that there is room for it
+  record Writes (p : Plan) (room : ℕ) (x : Ran) : Type 0 where
+    blocks : List (List ℕ)
+    records : ℕ
+    writes : RunWrites p reel blocks records
+    is : x ≡ record { reel = reelOf blocks; records = records; blocks = length blocks }
+    roomy : length (x .reel) ≤ room
+
+  writes-of : (p : Plan) → planOf zoneF deck ≡ fine p → (room : ℕ) (x : Ran) → conversion room p reel ≡ fine x → Writes p room x
+  unfolding conversion ranOf
+  writes-of p e room x d = go (isFS (p .format)) refl
+    where
+      ok : Accepted p
+      ok = accepted zoneF deck p e
+
+      go : (t : Bool) → isFS (p .format) ≡ t → Writes p room x
+      go false t =
+          let w = finished p room reel x (let c : convert room p reel ≡ fine x = rw t at d in c) in
+          let h = holds-of p ok 1 (all-blocks reel bytes) (w .recs) (w .reads) in
+          let z : p .zone < 16 = rw (zone-of zoneF deck p e) (omega arith) in
+          record {
+            blocks = map (blockOf (p .format)) (outputBlocks p (w .recs));
+            records = length (joined (outputBlocks p (w .recs)));
+            writes = in-blocks t (blocksOf reel, reel-of reel bytes (w .reel), h) (blocks-told p z ok (w .recs) (holds-whole p ok (all-blocks reel bytes) h) (w .fit));
+            is = w .writes ∙ ap (λ (n : ℕ). record { reel = reelOf (map (blockOf (p .format)) (outputBlocks p (w .recs))); records = length (joined (outputBlocks p (w .recs))); blocks = n }) (sym (length-map (outputBlocks p (w .recs)) (blockOf (p .format))));
+            roomy = w .roomy;
+          }
+      go true t =
+          let w = finished-span (isTC (p .mode)) (blockLength (p .input)) (blockLength (p .output)) (p .first) room reel x (let c : spannedRun (isTC (p .mode)) (blockLength (p .input)) (blockLength (p .output)) (p .first) room reel ≡ fine x = rw t at d in c) in
+          let h = spans-exactly (blockLength (p .input)) (omega (arith, most-A p ok t)) (all-blocks reel bytes) (joined (w .recs)) .0 (w .recs, w .reads, refl) in
+          record {
+            blocks = spannedOut (isTC (p .mode)) (blockLength (p .output)) (blocksOf reel) (drop (p .first - 1) (joined (w .recs)));
+            records = length (drop (p .first - 1) (joined (w .recs)));
+            writes = in-segments t (reel-of reel bytes (w .reel)) h (spans-told p ok t (blocksOf reel) (joined (w .recs)) h);
+            is = w .writes;
+            roomy = w .room-most;
+          }
+
+  -- of the deck's plan
+  run-writes : (room : ℕ) (x : Ran) → run room deck reel ≡ fine x → (p : Plan) × (planOf zoneF deck ≡ fine p) × Writes p room x
+  unfolding run runOf
+  run-writes room x d = let s = bind-fine (planOf zoneF deck) _ x d in (s .0, s .1, writes-of (s .0) (s .1) room x (s .2))
+
   wrote-of : (before : List ℕ) (x : Ran) → run (length before) deck reel ≡ fine x → Wrote deck reel before (runAnswer (fine x)) (outputAfter before (fine x))
-  unfolding run runOf ranOf
   wrote-of before x d =
-      let s = bind-fine (planOf zoneF deck) _ x d in
-      let p = s .0 in
-      let ok = accepted zoneF deck p (s .1) in
-      let w = finished p (length before) reel x (s .2) in
-      let h = holds-of p ok 1 (all-blocks reel bytes) (w .recs) (w .reads) in
-      let z : p .zone < 16 = rw (zone-of zoneF deck p (s .1)) (omega arith) in
+      let s = run-writes (length before) x d in
+      let w = s .2 in
       record {
-        p = p;
-        asks = plan-asks zoneF deck Done p (s .1);
-        recs = w .recs;
-        gives = (blocksOf reel, reel-of reel bytes (w .reel), h);
-        outs = outputBlocks p (w .recs);
-        blocks-out = blocks-told p z ok (w .recs) (holds-whole p ok (all-blocks reel bytes) h) (w .fit);
+        p = s .0;
+        asks = plan-asks zoneF deck Done (s .0) (s .1);
+        blocks = w .blocks;
+        records = w .records;
+        writes = w .writes;
         place = refl;
         column = refl;
-        length-is = ap (λ (y : Ran). length (y .reel)) (w .writes);
-        records-are = ap (λ (y : Ran). y .records) (w .writes);
-        blocks-are = ap (λ (y : Ran). y .blocks) (w .writes);
-        front = take-at (x .reel) (drop (length (x .reel)) before) (length (x .reel)) refl ∙ ap (λ (y : Ran). y .reel) (w .writes);
+        length-is = ap (λ (y : Ran). length (y .reel)) (w .is);
+        records-are = ap (λ (y : Ran). y .records) (w .is);
+        blocks-are = ap (λ (y : Ran). y .blocks) (w .is);
+        front = take-at (x .reel) (drop (length (x .reel)) before) (length (x .reel)) refl ∙ ap (λ (y : Ran). y .reel) (w .is);
         rest = drop-at (x .reel) (drop (length (x .reel)) before) (length (x .reel)) refl;
       }
 
   roomy-of : (before : List ℕ) (x : Ran) → run (length before) deck reel ≡ fine x → length (x .reel) ≤ length before
-  unfolding run runOf
-  roomy-of before x d = let s = bind-fine (planOf zoneF deck) _ x d in finished (s .0) (length before) reel x (s .2) .roomy
+  roomy-of before x d = let s = run-writes (length before) x d in s .2 .roomy
 
   run-says-of : (before : List ℕ) (x : Answer Ran) → run (length before) deck reel ≡ x → Answered (RowRun zoneF deck reel (length before)) deck (refusalOf x) (placeOf x) (columnOf x)
       → (refusalOf x ≡ 0 → (y : Ran) × (x ≡ fine y)) → RunSays deck reel before (runAnswer x) (outputAfter before x)

@@ -2,6 +2,7 @@
 -- a block for each block. By the reader of blocks, which asks of a block nothing but the block, and by what is known of finished runs.
 use mathlib.Core.Path.{_≡_, refl, ap, sym, _∙_, subst}
 use mathlib.Core.Logic.{_↔_}
+use mathlib.Core.Bool.{false}
 use mathlib.Core.List.{List, [], _∷_, map}
 use Prim.Native.Nat.{ℕ, zero, suc, _+_, _-_, _*_, _<_, _≤_}
 use native.Mathlib.Omega.{arith}
@@ -11,7 +12,7 @@ use Rattle.rules.specs.Answer.{Answer, fine, refuse}
 use Rattle.rules.specs.Places.{All, noMore, also, Some, this, that, Both, none-left, both, Byte}
 use Rattle.rules.specs.Grammar.{Mode, Format, tf, ff, fu}
 use Rattle.rules.specs.Reel.{isReel, blocksOf}
-use Rattle.rules.specs.Plan.{Plan, planOf, recordLength}
+use Rattle.rules.specs.Plan.{Plan, isFS, planOf, recordLength}
 use Rattle.rules.specs.Blocks.{fixedFrom, dataOf, recordsFrom, takenFrom}
 use Rattle.rules.specs.Output.{outRecord, blockOf, nonEmpty, blocked}
 use Rattle.rules.specs.Run.{Ran, runOf, ranOf, outputs, outputBlocks}
@@ -88,7 +89,7 @@ fixed-good p t b = (to, back)
           },
         )
 
-module _ (zone : ℕ) (deck : List ℕ) (p : Plan) (e : planOf zone deck ≡ fine p) where
+module _ (zone : ℕ) (deck : List ℕ) (p : Plan) (e : planOf zone deck ≡ fine p) (other : isFS (p .format) ≡ false) where
   ok : Accepted p
   ok = accepted zone deck p e
 
@@ -96,7 +97,7 @@ module _ (zone : ℕ) (deck : List ℕ) (p : Plan) (e : planOf zone deck ≡ fin
   pub reel-never : (s : List ℕ) (recs : List (List (List ℕ))) → Gives p s recs → (n : ℕ) → n ≤ 12 → NeverRefused zone deck s n
   reel-never s recs g n l room =
       let r = gives-read p ok s recs g in
-      never-of zone room deck s p e n
+      never-of zone room deck s p e other n
       (refuses-by _ room p s (refuses-fine _ _ tt (fine-unless (isReel s) 11 0 (r .0))) (refuses-fine _ _ recs (r .1)) (λ q z. omega arith)
       (λ recs f. (refuses-each _ 13 _ _ _ (λ q z. omega arith), refuses-each _ 14 _ _ _ (λ q z. omega arith))))
 
@@ -112,7 +113,7 @@ module _ (zone : ℕ) (deck : List ℕ) (p : Plan) (e : planOf zone deck ≡ fin
       go : (x : Answer (List (List (List ℕ)))) → recordsFrom p 1 (blocksOf s) ≡ x → All (GoodBlock p) bs
       go (fine recs) d = subst (All (GoodBlock p)) (reel-blocks s bs r) (holds-good p (holds-of p ok 1 (all-blocks s b) recs d))
       go (refuse x) d =
-          absurd (h 0 (x .place) 0 (the-run zone 0 deck s p e ∙ bad-block 0 p s (x .place) (reel-is s bs r) (refused-block p (blocksOf s) x d)))
+          absurd (h 0 (x .place) 0 (the-run zone 0 deck s p e other ∙ bad-block 0 p s (x .place) (reel-is s bs r) (refused-block p (blocksOf s) x d)))
 
   pub judged-alone : OneByOne zone deck p
   judged-alone =
@@ -122,7 +123,7 @@ module _ (zone : ℕ) (deck : List ℕ) (p : Plan) (e : planOf zone deck ≡ fin
         any-order = λ s bs cs a m r. good-never s cs r (all-imply (among-all a) m);
         copied = λ m room s bs r a l.
             let w = good-gives s bs r a in
-            (w .0, w .1, copies zone room deck s p e m (w .0) (w .1) l ∙ ap (λ (k : ℕ). fine (record { reel = s; records = length (joined (w .0)); blocks = k })) (w .2));
+            (w .0, w .1, copies zone room deck s p e other m (w .0) (w .1) l ∙ ap (λ (k : ℕ). fine (record { reel = s; records = length (joined (w .0)); blocks = k })) (w .2));
       }
 
 -- ---- TF
@@ -169,7 +170,7 @@ each-gives p ok m {bs} {recs} h =
 
 -- ---- a finished run
 
-module _ (zone room : ℕ) (z : zone < 16) (deck s : List ℕ) (p : Plan) (x : Ran) (e : planOf zone deck ≡ fine p) (a : All Byte s) (d : runOf zone room deck s ≡ fine x) where
+module _ (zone room : ℕ) (z : zone < 16) (deck s : List ℕ) (p : Plan) (x : Ran) (e : planOf zone deck ≡ fine p) (other : isFS (p .format) ≡ false) (a : All Byte s) (d : runOf zone room deck s ≡ fine x) where
   pub run-gives : RunGives zone p s x
   unfolding ranOf
   run-gives =
@@ -185,7 +186,7 @@ module _ (zone room : ℕ) (z : zone < 16) (deck s : List ℕ) (p : Plan) (x : R
       }
     where
       w : Finished p room s x
-      w = finished p room s x (sym (the-run zone room deck s p e) ∙ d)
+      w = finished p room s x (sym (the-run zone room deck s p e other) ∙ d)
 
       given : Gives p s (w .recs)
       given = reads-give p (accepted zone deck p e) s a (w .reel) (w .recs) (w .reads)
@@ -196,13 +197,14 @@ module _ (zone room : ℕ) (z : zone < 16) (deck s : List ℕ) (p : Plan) (x : R
       back : (deck′ : List ℕ) (q : Plan) → planOf zone deck′ ≡ fine q → Under p q → ReadsBack zone deck′ q x (outputBlocks p (w .recs))
       back deck′ q e′ u =
           let outs = outputBlocks p (w .recs) in
+          let still : isFS (q .format) ≡ false = ap isFS (u .format) ∙ other in
           let g = read-back p q (accepted zone deck p e) (accepted zone deck′ q e′) u room s x a w in
           record {
             gives = g;
             only = read-only p q (accepted zone deck p e) (accepted zone deck′ q e′) u room s x a w;
-            no-11 = reel-never zone deck′ q e′ (x .reel) outs g 11 (omega arith);
-            no-12 = reel-never zone deck′ q e′ (x .reel) outs g 12 (omega arith);
-            copied = λ m room′ l. copies zone room′ deck′ (x .reel) q e′ m outs g l ∙ ap fine (same outs (w .writes));
+            no-11 = reel-never zone deck′ q e′ still (x .reel) outs g 11 (omega arith);
+            no-12 = reel-never zone deck′ q e′ still (x .reel) outs g 12 (omega arith);
+            copied = λ m room′ l. copies zone room′ deck′ (x .reel) q e′ still m outs g l ∙ ap fine (same outs (w .writes));
           }
         where
           same : (outs : List (List (List ℕ))) → x ≡ ranOf p outs → record { reel = x .reel; records = length (joined outs); blocks = length outs } ≡ x

@@ -15,10 +15,10 @@ use Rattle.rules.specs.Answer.{Answer, fine, refuse, Refusal, refused, _
 use Rattle.rules.specs.Places.{All, noMore, also, Byte}
 use Rattle.rules.specs.Places.{Both, none-left, both}
 use Rattle.rules.specs.Reel.{isReel, blocksOf, reelOf}
-use Rattle.rules.specs.Run.{Ran, housed}
+use Rattle.rules.specs.Run.{Ran, housed, spannedOut, spannedRan, spannedRun}
 use Rattle.rules.specs.RunRows.{ReelIs}
 use Rattle.rules.specs.Spanned.{Segment, segment, part, spelled, spanOf, spannedFrom, segmented, Joined, no-segment, ending, going, Spanned, SpanIs, Spans}
-use Rattle.rules.specs.SpannedRun.{spannedOut, spannedRan, spannedRun, GivesSpanned}
+use Rattle.rules.specs.RunRows.{GivesSpanned}
 use Rattle.rules.proofs.Tests.{and-left, and-right}
 use Rattle.rules.proofs.AllLaws.{all-imply, all-drop, all-head}
 use Rattle.rules.proofs.AnswerLaws.{not-fine, fine-same, bind-fine, then-fine, unless-fine}

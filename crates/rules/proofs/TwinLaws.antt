@@ -25,7 +25,7 @@ use Rattle.rules.proofs.AllowedWords.{may-be}
 use Rattle.rules.proofs.RecordLaws.{shape-of}
 use Rattle.rules.proofs.ListedLaws.{length-bytes-listed}
 use Rattle.rules.proofs.KeepingLaws.{lowest-passes, lowest-first, second-passes, second-first, lowests, raiseds, lowest-at, raised-here, alike, lowest-halves, raised-halves}
-use Rattle.rules.proofs.ConvertsLaws.{converted-of, held-least}
+use Rattle.rules.proofs.ConvertsLaws.{converted-of, not-span, held-least}
 use Rattle.rules.proofs.Twins.{lost-missing, plain-halves, LostPair, at-half, at-tail, second-tail, second-half, lost-twins, lost-place}
 use Rattle.rules.proofs.Demand3.{same-first}
 
@@ -98,7 +98,7 @@ module _ (p : Plan) (z : p .zone < 16) (ok : Accepted p) (k : keeps p ≡ false)
   -- ---- no shorter data
 
   long-enough : (t : List ℕ) → converts p t ≡ true → recordLength (p .input) ≤ length t
-  long-enough t c = held-least (shape-of p ok sel) (length t) (converted-of p t c .held)
+  long-enough t c = held-least (shape-of p ok sel) (length t) (converted-of p t (not-span p ok sel) c .held)
 
   module _ (e : lostAt p ≡ inputHalves p) (t u : List ℕ) (ct : converts p t ≡ true) (cu : converts p u ≡ true) (same : outRecord p t ≡ outRecord p u) (apart : t ≡ u → ⊥) where
     -- two records of n bytes that have one output record are one
@@ -110,7 +110,7 @@ module _ (p : Plan) (z : p .zone < 16) (ok : Accepted p) (k : keeps p ≡ false)
             let m = leb-true _ (2 * recordLength (p .input)) b in
             let lt = long-enough t ct in
             let lu = long-enough u cu in
-            let s = same-first p z ok sel e t u (converted-of p t ct) (converted-of p u cu) same in
+            let s = same-first p z ok sel e t u (converted-of p t (not-span p ok sel) ct) (converted-of p u (not-span p ok sel) cu) same in
             absurd (apart (sym (take-all (recordLength (p .input)) t (omega arith)) ∙ s ∙ take-all (recordLength (p .input)) u (omega arith)))
         go false b = omega (arith, leb-false _ (2 * recordLength (p .input)) b)
 

@@ -30,8 +30,8 @@ pub mod RunRows
 pub mod ShortBlocks
 pub mod ColumnRows
 pub mod Taken
+pub mod SpannedWords
 pub mod Spanned
-pub mod SpannedRun
 pub mod Accepted
 pub mod Demand
 pub mod Said

@@ -8,12 +8,12 @@ use Rattle.rules.specs.Base.{joined}
 use Rattle.rules.specs.Places.{Both}
 use Rattle.rules.specs.Halves.{Kind, copy, pack, unpack}
 use Rattle.rules.specs.Grammar.{Parameter, Part, inData, inKey, CardField, Item}
+use Rattle.rules.specs.Reel.{reelOf}
 use Rattle.rules.specs.Asked.{fieldsOf}
 use Rattle.rules.specs.Plan.{Plan, PlanAnswer}
 use Rattle.rules.specs.Rows.{Says, Asks, Row}
 use Rattle.rules.specs.ColumnRows.{Answered}
-use Rattle.rules.specs.InWords.{BlocksOut}
-use Rattle.rules.specs.RunRows.{Gives, outReel, RowRun, RowInto}
+use Rattle.rules.specs.RunRows.{RunWrites, RowRun, RowInto}
 use Rattle.rules.specs.Demand.{Judged}
 use Rattle.rules.specs.Lent.{zoneF, Entry, RunAnswer}
 
@@ -58,22 +58,21 @@ pub record TableSays (deck : List ℕ) (before : List Entry) (n : PlanAnswer) (a
 
 -- ---- a run
 
--- what a finished run wrote: of the deck's plan and the records of the reel, the reel of the output blocks
+-- what a finished run wrote: the reel of the output blocks, of the deck's plan and the records of the reel
 pub record Wrote (deck reel before : List ℕ) (n : RunAnswer) (after : List ℕ) : Type 0 where
   pub p : Plan
   pub asks : Asks zoneF deck p
-  pub recs : List (List (List ℕ))
-  pub gives : Gives p reel recs
-  pub outs : List (List (List ℕ))
-  pub blocks-out : BlocksOut p recs outs
+  pub blocks : List (List ℕ)
+  pub records : ℕ
+  pub writes : RunWrites p reel blocks records
   pub place : n .place ≡ 0
   pub column : n .column ≡ 0
   -- the reel's length, records and blocks
-  pub length-is : n .reelLength ≡ length (outReel p outs)
-  pub records-are : n .records ≡ length (joined outs)
-  pub blocks-are : n .blocks ≡ length outs
+  pub length-is : n .reelLength ≡ length (reelOf blocks)
+  pub records-are : n .records ≡ records
+  pub blocks-are : n .blocks ≡ length blocks
   -- the reel is at the front, and bytes past the length stay
-  pub front : take (n .reelLength) after ≡ outReel p outs
+  pub front : take (n .reelLength) after ≡ reelOf blocks
   pub rest : drop (n .reelLength) after ≡ drop (n .reelLength) before
 
 pub record RunSays (deck reel before : List ℕ) (n : RunAnswer) (after : List ℕ) : Type 0 where

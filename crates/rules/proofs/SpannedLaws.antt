@@ -1,0 +1,182 @@
+-- What document 02 says of FS holds of every deck in FS: which records its plan converts, that it keeps, what a finished run wrote and that it is read back, and that
+-- 10, 13 and 14 do not occur. A filling holds the records that were filled in, and no others; with one number A says no n, so that no half is asked for.
+use mathlib.Core.Path.{_≡_, refl, ap, sym, _∙_, subst}
+use mathlib.Core.Bool.{Bool, true, false, not, true≢false}
+use mathlib.Core.List.{List, [], _∷_, map}
+use mathlib.Core.Option.{none}
+use Prim.Native.Nat.{ℕ, _-_, _*_, _≤_, _<_}
+use native.Mathlib.Omega.{arith}
+use lib.Dec.{eqb}
+use lib.ListN.{length, drop}
+use borrow.Author.Tests.{le-leb}
+use Rattle.rules.specs.Base.{isEmpty, joined}
+use Rattle.rules.specs.Answer.{fine, refusedAt, _>>_, unless}
+use Rattle.rules.specs.Places.{All, Byte}
+use Rattle.rules.specs.Grammar.{Mode, tr, Size}
+use Rattle.rules.specs.Permitted.{choices, firstOf}
+use Rattle.rules.specs.Asked.{askedOf}
+use Rattle.rules.specs.Plan.{Plan, planOf, isTC, isFS, recordLength, blockLength, inputHalves, allowed, barrenHalf, combined, assembled, sound, keeps}
+use Rattle.rules.specs.Output.{converts}
+use Rattle.rules.specs.Spanned.{spanOf, segmented, spannedFrom, Spans}
+use Rattle.rules.specs.Reel.{isReel, blocksOf, reelOf}
+use Rattle.rules.specs.Run.{Ran, housed, spannedOut, spannedRan, spannedRun, runOf}
+use Rattle.rules.specs.RunRows.{GivesSpanned, RunWrites, in-blocks, in-segments, Row15}
+use Rattle.rules.specs.Rows.{Done as NoMore, IsOne, one-number}
+use Rattle.rules.specs.Demand.{Keeping}
+use Rattle.rules.specs.Accepted.{Accepted}
+use Rattle.rules.specs.SpannedWords.{SpannedGives, SpannedDeck, Never10}
+use Rattle.rules.proofs.Tests.{and-left}
+use Rattle.rules.proofs.AnswerLaws.{fine-then, fine-bind, fine-unless, unless-fine}
+use Rattle.rules.proofs.RunColumns.{Refuses, refuses-then, refuses-unless, refuses-each, refuses-fine}
+use Rattle.rules.proofs.LimitLaws.{is-TC, required-exactly}
+use Rattle.rules.proofs.AcceptedLaws.{accepted, zone-of}
+use Rattle.rules.proofs.RunParts.{the-span}
+use Rattle.rules.proofs.PlanTable.{asks-once}
+use Rattle.rules.proofs.RunTable.{run-table}
+use Rattle.rules.proofs.Demand3.{kept-plan}
+use Rattle.rules.proofs.SpannedRuns.{span-input, gives-once, converts-span, out-most}
+use Rattle.rules.proofs.SpannedOut.{low-A, low-B, most-A, most-B, not-selects, spans-only}
+use Rattle.rules.proofs.SpannedDeck.{gives-read, converts-any, any-converts, Done, done, never-late, span-never, copied-span, back-span}
+
+module _ (zone : ℕ) (deck : List ℕ) (p : Plan) (e : planOf zone deck ≡ fine p) (t : isFS (p .format) ≡ true) where
+  ok : Accepted p
+  ok = accepted zone deck p e
+
+  abbrev A : ℕ
+  A = blockLength (p .input)
+
+  abbrev B : ℕ
+  B = blockLength (p .output)
+
+  low : 9 ≤ A
+  low = low-A p ok t
+
+  low′ : 9 ≤ B
+  low′ = low-B p ok t
+
+  high : A < 65536
+  high = omega (arith, most-A p ok t)
+
+  high′ : B < 65536
+  high′ = omega (arith, most-B p ok t)
+
+  -- ---- a finished run
+
+  module _ (room : ℕ) (s : List ℕ) (a : All Byte s) (x : Ran) (w : Done zone deck p e t room s x) where
+    abbrev taken : List (List ℕ)
+    taken = drop (p .first - 1) (joined (w .recs))
+
+    input : GivesSpanned A s (joined (w .recs))
+    input = span-input A B low high low′ high′ (p .first) room s a x (isTC (p .mode)) w
+
+    back-TR : p .mode ≡ tr → GivesSpanned B (x .reel) taken
+    back-TR q = back-span zone deck p e t room s a x (ap isTC q) w
+
+    -- what is written gives records under B
+    under : (rs : List (List ℕ)) × GivesSpanned B (x .reel) rs
+    under = go (isTC (p .mode)) refl
+      where
+        go : (c : Bool) → isTC (p .mode) ≡ c → (rs : List (List ℕ)) × GivesSpanned B (x .reel) rs
+        go true q =
+            let m = is-TC (p .mode) q in (
+              joined (w .recs),
+              subst (λ (z : List ℕ). GivesSpanned B z (joined (w .recs))) (sym (copied-span zone deck p e t room s a x m w))
+              (subst (λ (z : Size). GivesSpanned (blockLength z) s (joined (w .recs))) (ok .required .TC-equal m) input),
+            )
+        go false q = (taken, back-span zone deck p e t room s a x q w)
+
+    -- with TR from R1 on into the same blocks
+    written-again : p .mode ≡ tr → (room′ : ℕ) → length (x .reel) ≤ room′ → spannedRun false B B 1 room′ (x .reel) ≡ fine x
+    unfolding spannedRun housed _>>_ unless
+    written-again q room′ l =
+        let g = gives-read B high′ (x .reel) taken (back-TR q) in
+        let is : x ≡ spannedRan (map spanOf (segmented B taken)) taken
+        = w .writes ∙ ap (λ (m : Mode). spannedRan (spannedOut (isTC m) B (blocksOf s) taken) taken) q in
+        fine-then (unless (isReel (x .reel)) 11 0) _ (fine-unless (isReel (x .reel)) 11 0 (g .0))
+        ∙ fine-bind (spannedFrom B 1 none (blocksOf (x .reel))) _ (g .1) (g .2)
+        ∙ ap (λ (rs : List (List ℕ)). housed room′ (spannedRan (map spanOf (segmented B rs)) rs)) (g .3)
+        ∙ ap (housed room′) (sym is)
+        ∙ rw (le-leb (length (x .reel)) room′ l, le-leb (length (x .reel)) 65536 (w .most)) refl
+
+    says : SpannedGives zone p s x
+    says =
+        record {
+          records = joined (w .recs);
+          gives = input;
+          counted = ap (λ (z : Ran). z .records) (w .writes);
+          TC = λ m. copied-span zone deck p e t room s a x m w;
+          TR = back-TR;
+          only = λ m rs g. gives-once B high′ (x .reel) rs taken g (back-TR m);
+          back = λ deck′ q e′ f n.
+              let g : GivesSpanned (blockLength (q .input)) (x .reel) (under .0) = subst (λ (k : ℕ). GivesSpanned k (x .reel) (under .0)) (sym n) (under .1) in
+              (span-never zone deck′ q e′ (ap isFS f) (x .reel) (under .0) g 11 (omega arith), span-never zone deck′ q e′ (ap isFS f) (x .reel) (under .0) g 12 (omega arith));
+          again = λ m deck′ q e′ f m′ one in-A in-B room′ l.
+              the-span zone room′ deck′ (x .reel) q e′ (ap isFS f)
+              ∙ alike (isTC (q .mode)) (blockLength (q .input)) (blockLength (q .output)) (q .first) room′ (ap isTC m′) in-A in-B one
+              ∙ written-again m room′ l;
+        }
+      where
+        alike : (c : Bool) (g m first room′ : ℕ) → c ≡ false → g ≡ B → m ≡ B → first ≡ 1 → spannedRun c g m first room′ (x .reel) ≡ spannedRun false B B 1 room′ (x .reel)
+        alike c g m first room′ ec eg em ef = rw (ec, eg, em, ef) refl
+
+  -- ---- the deck
+
+  carries-all : keeps p ≡ true
+  unfolding keeps
+  carries-all = rw (not-selects p ok t) refl
+
+  pub spanned-deck : zone < 16 → SpannedDeck zone deck p
+  spanned-deck z =
+      record {
+        converting = λ r. (any-converts zone deck p e t r, λ h. converts-any zone deck p e t r (h .0) (h .1) (h .2));
+        held = λ r b. (
+          λ c. let h = any-converts zone deck p e t r c in (map spanOf (segmented A (r ∷ [])), converts-span A low high r .0 (h .1, h .2)),
+          λ h. let k = converts-span A low high r .1 (h .0) (h .1) in converts-any zone deck p e t r b (k .0) (k .1),
+        );
+        filled = λ r c. let h = any-converts zone deck p e t r c in converts-span B low′ high′ r .0 (h .1, h .2);
+        keeping = kept-plan p (rw (zone-of zone deck p e) z) ok carries-all;
+        no-13 = λ s. never-late zone deck p e t s 13 (omega arith) (omega arith);
+        no-14 = λ s. never-late zone deck p e t s 14 (omega arith) (omega arith);
+        most = most-15;
+        finished = λ room s a x d. says room s a x (done zone deck p e t room s x d);
+      }
+    where
+      most-15 : (room : ℕ) (s : List ℕ) → All Byte s → (q c : ℕ) → runOf zone room deck s ≡ refusedAt 15 q c → q ≤ 851560
+      most-15 room s a q c d = go (run-table zone z deck s a room 15 q .0 (c, d) .0)
+        where
+          go : Row15 zone deck s room q → q ≤ 851560
+          go (pl, asks, blocks, n, w, q-is, l) =
+              let w′ = subst (λ (v : Plan). RunWrites v s blocks n) (asks-once zone deck NoMore p pl e asks) w in
+              omega (arith, q-is, long blocks n w′)
+            where
+              long : (blocks : List (List ℕ)) (n : ℕ) → RunWrites p s blocks n → length (reelOf blocks) ≤ 851560
+              long blocks n (in-blocks o g b) = absurd (true≢false (sym t ∙ o))
+              long blocks n (in-segments {bs = bs} {rs = rs} o r w b) =
+                  omega (arith, ap (λ (z : List (List ℕ)). length (reelOf z)) (spans-only p ok t bs rs w blocks b), out-most (isTC (p .mode)) A B (p .first) low (most-A p ok t) low′ high′ s bs rs r w)
+
+-- ---- no 10
+
+-- with one number there are no first n bytes, so no half that has no permitted value
+no-half : (q : Plan) → IsOne (q .input) → eqb (barrenHalf q) (inputHalves q) ≡ true
+unfolding barrenHalf inputHalves
+no-half q one = go (q .input) one
+  where
+    go : (s : Size) → IsOne s → eqb (firstOf (λ i. eqb (choices (allowed q) i) 0) 0 (2 * recordLength s)) (2 * recordLength s) ≡ true
+    go s one-number = refl
+
+pub never-10 : (zone : ℕ) (deck : List ℕ) → Never10 zone deck
+unfolding planOf combined assembled
+never-10 zone deck a ea f p c d =
+    subst (Refuses (λ r. r .number ≡ 10 → ⊥)) (sym (fine-bind (askedOf deck) (λ a. combined zone a >> fine (assembled zone a)) a ea) ∙ d)
+    (refuses-then _ (combined zone a) (fine (assembled zone a)) asked (λ e. tt)) refl
+  where
+    asked : Refuses (λ r. r .number ≡ 10 → ⊥) (combined zone a)
+    asked =
+        refuses-then _ _ _ (refuses-unless _ _ 8 1 (λ q z. omega arith)) (λ e1.
+        refuses-then _ _ _ (refuses-unless _ _ 8 2 (λ q z. omega arith)) (λ e2.
+        refuses-then _ _ _ (refuses-each _ 8 _ 2 _ (λ q z. omega arith)) (λ e3.
+        refuses-then _ _ _ (refuses-each _ 9 _ 1 _ (λ q z. omega arith)) (λ e4.
+        refuses-fine _ _ tt
+        (fine-unless _ 10 _
+        (no-half (assembled zone a)
+        (required-exactly (assembled zone a) (not (isEmpty (a .cards))) .0 (and-left (sound (assembled zone a) (not (isEmpty (a .cards)))) _ (unless-fine _ 8 1 e1)) .0 .FS-one f .0)))))))
