@@ -12,7 +12,7 @@ use Rattle.rules.specs.Base.{every, joined}
 use Rattle.rules.specs.Places.{Both}
 use Rattle.rules.specs.Answer.{Answer, fine, refused, refusedAt, located, _>>=_, _>>_, unless, each}
 use Rattle.rules.specs.Order.{Operands}
-use Rattle.rules.specs.Grammar.{Format, ff, fv, fu, plain, Parameter, Item}
+use Rattle.rules.specs.Grammar.{Format, ff, fv, fu, fsp, plain, Parameter, Item}
 use Rattle.rules.specs.Texts.{ParameterText, UText, FsText}
 use Rattle.rules.specs.Words.{Worded, uWords, fsWords, valuesOf, againColumn, numberColumns, Limit, outsideColumn, firstOf, outsideAmong}
 use Rattle.rules.specs.Asked.{Cards, letter, distinct, sameLetter, cvs, upTo, cvColumn, once, given, Utility, complete, fieldLimits, utilityLimits, parameterNumbers, fieldColumn, limits, Asked as RuleAsked}
@@ -28,7 +28,7 @@ use Rattle.rules.proofs.CardSteps.{noted, total-fields, upTo-fine}
 use Rattle.rules.proofs.ParameterOutcome.{of-twice, complete-fine}
 use Rattle.rules.proofs.WordedLaws.{u-worded}
 use Rattle.rules.proofs.NumberColumns.{parameter-count, u-count}
-use Rattle.rules.proofs.NumberLimits.{utility-exactly, numbers-fu}
+use Rattle.rules.proofs.NumberLimits.{utility-exactly, numbers-least}
 use Rattle.rules.proofs.WordColumns.{columns-low, outside-none, outside-parts}
 use Rattle.terms.specs.declared.Input.{Input}
 use Rattle.terms.specs.declared.Input.the-variants.{Plain, Keyed}
@@ -170,7 +170,8 @@ module _ (os : Operands) (p : Parameters) (o : Outside) (ws : List (Worded Param
       go : (f : Format) → outsideAmong (parameterNumbers f) first ws ≡ uOutside f o
       go ff = sym (nums .plain)
       go fv = sym (nums .variable)
-      go fu = outside-same (parameterNumbers fu) (parameterNumbers ff) numbers-fu first ws ∙ sym (nums .plain)
+      go fu = outside-same (parameterNumbers fu) (parameterNumbers ff) (numbers-least fu ff refl) first ws ∙ sym (nums .plain)
+      go fsp = outside-same (parameterNumbers fsp) (parameterNumbers fv) (numbers-least fsp fv refl) first ws ∙ sym (nums .variable)
 
   numbers-is : p .twice ≡ 0 → (u : Utility) → complete (given ps) ≡ fine u
       → located (λ q. outsideColumn (numberColumns false first (os .u)) (joined (map (parameterNumbers (u .format)) ps))) (unless (utilityLimits u) 7 1) ≡ columnNoted 7 (uOutside (u .format) o)

@@ -2,7 +2,7 @@
 use mathlib.Core.Bool.{Bool, cond, _&&_}
 use Prim.Native.Nat.{ℕ, _+_}
 use lib.Dec.{leb, eqb}
-use Rattle.rules.specs.Grammar.{Format, ff, fv, fu}
+use Rattle.rules.specs.Grammar.{Format, ff, fv, fu, fsp}
 use Rattle.rules.specs.Asked.{Utility}
 use Rattle.terms.specs.declared.Asked.{Asked}
 use Rattle.terms.specs.declared.Size.{Size}
@@ -31,6 +31,7 @@ abbrev pub uOutside : Format → Outside → ℕ
 uOutside ff o = o .plain
 uOutside fv o = o .variable
 uOutside fu o = o .plain
+uOutside fsp o = o .variable
 
 abbrev pub verdict : ℕ → ℕ → ℕ → Verdict
 verdict number place column = record { number = number; place = place; column = column }

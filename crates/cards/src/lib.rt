@@ -108,6 +108,7 @@ fn least(format: Format) -> usize
         Format::FF => 1,
         Format::FV => 9,
         Format::FU => 1,
+        Format::FS => 9,
     }
 }
 
@@ -705,6 +706,7 @@ fn u_outside(format: Format, outside: Outside) -> usize
         Format::FF => outside.plain,
         Format::FV => outside.variable,
         Format::FU => outside.plain,
+        Format::FS => outside.variable,
     }
 }
 

@@ -12,11 +12,11 @@ use borrow.Author.Tests.{eq-eqb, ne-eqb, le-leb, lt-leb}
 use Rattle.rules.specs.Base.{_⇒_, every, isEmpty, joined}
 use Rattle.rules.specs.Places.{All, noMore, also}
 use Rattle.rules.specs.Answer.{Answer, fine, refuse, refused, refusalOf, placeOf, _>>_, unless, each}
-use Rattle.rules.specs.Grammar.{Mode, tc, tf, tr, trf, Format, ff, fv, fu, Size, two, one, Input, plain, keyed, CardField, Item}
+use Rattle.rules.specs.Grammar.{Mode, tc, tf, tr, trf, Format, ff, fv, fu, fsp, Size, two, one, Input, plain, keyed, CardField, Item}
 use Rattle.rules.specs.Halves.{Kind as RuleKind, copy, pack, unpack, inputSize, outputSize, Field as RuleField}
 use Rattle.rules.specs.Asked.{Utility, Asked as RuleAsked, fieldsOf, cvs}
 use Rattle.rules.specs.Keys.{throughUtility}
-use Rattle.rules.specs.Plan.{isTC, isTF, isTR, isFF, isFV, isFU, selects, numbers, wanted, recordLength, blockLength, whole, equal, roomy, combinations, sound, joinedSize, keyLength, through, isKeyed, keyFits, keyFields, cardFits, inside, insidePart, inputHalves, barrenHalf, combined, assembled, Plan}
+use Rattle.rules.specs.Plan.{isTC, isTF, isTR, isFF, isFV, isFU, isFS, selects, numbers, wanted, recordLength, blockLength, whole, equal, roomy, combinations, sound, joinedSize, keyLength, through, isKeyed, keyFits, keyFields, cardFits, inside, insidePart, inputHalves, barrenHalf, combined, assembled, Plan}
 use Rattle.rules.proofs.AllLaws.{all-at, all-imply}
 use Rattle.rules.proofs.BlockSizes.{all-map}
 use Rattle.rules.proofs.KeyLaws.{joined-within, Named}
@@ -62,7 +62,7 @@ byFormat t f a b =
     (isFF f ⇒ (whole a && whole b))
     && (((isTR t && isFF f) ⇒ eqb (recordLength a) (recordLength b))
     && (((isTF t && isFF f) ⇒ eqb (blockLength a / recordLength a) (blockLength b / recordLength b))
-    && (((isFV f && eqb (numbers a) 2) ⇒ roomy a) && ((isFV f && eqb (numbers b) 2) ⇒ roomy b))))
+    && ((((isFV f && eqb (numbers a) 2) ⇒ roomy a) && ((isFV f && eqb (numbers b) 2) ⇒ roomy b)) && (isFS f ⇒ not (selects t)))))
 
 module _ (a b : Size) where
   fixed-same : (t : Mode) → formatLines t ff a b ≡ byFormat t ff a b
@@ -73,9 +73,9 @@ module _ (a b : Size) where
 
   variable-same : (t : Mode) → numbers a ≡ wanted t fv → numbers b ≡ wanted t fv → formatLines t fv a b ≡ byFormat t fv a b
   variable-same tc p q = rw (ne-eqb (numbers a) 2 (λ e. omega arith), ne-eqb (numbers b) 2 (λ e. omega arith))
-  variable-same tf p q = rw (eq-eqb (numbers a) 2 p, eq-eqb (numbers b) 2 q)
+  variable-same tf p q = rw (eq-eqb (numbers a) 2 p, eq-eqb (numbers b) 2 q) (sym (and-true (roomy a && roomy b)))
   variable-same tr p q = rw (ne-eqb (numbers a) 2 (λ e. omega arith), ne-eqb (numbers b) 2 (λ e. omega arith))
-  variable-same trf p q = rw (eq-eqb (numbers a) 2 p, eq-eqb (numbers b) 2 q)
+  variable-same trf p q = rw (eq-eqb (numbers a) 2 p, eq-eqb (numbers b) 2 q) (sym (and-true (roomy a && roomy b)))
 
   undefined-same : (t : Mode) → formatLines t fu a b ≡ byFormat t fu a b
   undefined-same tc = refl
@@ -83,10 +83,17 @@ module _ (a b : Size) where
   undefined-same tr = refl
   undefined-same trf = refl
 
+  spanned-same : (t : Mode) → formatLines t fsp a b ≡ byFormat t fsp a b
+  spanned-same tc = refl
+  spanned-same tf = refl
+  spanned-same tr = refl
+  spanned-same trf = refl
+
   format-same : (t : Mode) (f : Format) → numbers a ≡ wanted t f → numbers b ≡ wanted t f → formatLines t f a b ≡ byFormat t f a b
   format-same t ff p q = fixed-same t
   format-same t fv p q = variable-same t p q
   format-same t fu p q = undefined-same t
+  format-same t fsp p q = spanned-same t
 
 -- the same tests in another order
 moved : (s n w rest : Bool) → (s && (n && (w && rest))) ≡ (w && (s && (rest && n)))
@@ -97,9 +104,13 @@ moved true false false rest = refl
 moved false n true rest = refl
 moved false n false rest = refl
 
-reordered : (x y s n w r q v : Bool)
-    → ((x && y) && (s && (n && (w && (r && (q && v)))))) ≡ (x && (y && (w && (s && (r && (q && (v && (n && true))))))))
-reordered x y s n w r q v = ap ((x && y) &&_) (moved s n w (r && (q && v))) ∙ simp (and-assoc, and-true)
+reordered : (x z y s n w r q v : Bool)
+    → ((x && y) && (s && (n && (w && (r && (q && (v && z))))))) ≡ (x && (z && (y && (w && (s && (r && (q && (v && (n && true)))))))))
+reordered x true y s n w r q v = rw (and-true v) (ap ((x && y) &&_) (moved s n w (r && (q && v))) ∙ simp (and-assoc, and-true))
+reordered x false y s n w r q v = simp (and-false)
+
+none-left : (x z y : Bool) → ((x && y) && false) ≡ (x && (z && (y && false)))
+none-left x z y = simp (and-false)
 
 -- all lines of place 1 hold as the code asks them exactly if all of the rules' hold
 pub lines-same : (t : Mode) (f : Format) (a b : Size) (first fs : ℕ)
@@ -113,6 +124,7 @@ lines-same t f a b first fs = go (countLine t f a b) refl
         rw (e, copy-same (isTC t) (isFU f) (eqb first 1), where-asked (isTC t) (lengthsEqual a b), where-asked (selects t) (not (eqb fs 0)), format-same a b t f (w .0) (w .1), equal-same a b (w .0 ∙ sym (w .1)))
         (reordered
         (isFU f ⇒ isTC t)
+        (isFS f ⇒ not (selects t))
         (isTC t ⇒ eqb first 1)
         (isTC t ⇒ lengthsEqual a b)
         (selects t ⇒ not (eqb fs 0))
@@ -120,7 +132,7 @@ lines-same t f a b first fs = go (countLine t f a b) refl
         ((isTR t && isFF f) ⇒ eqb (recordLength a) (recordLength b))
         ((isTF t && isFF f) ⇒ eqb (blockLength a / recordLength a) (blockLength b / recordLength b))
         (((isFV f && eqb (numbers a) 2) ⇒ roomy a) && ((isFV f && eqb (numbers b) 2) ⇒ roomy b)))
-    go false e = rw (e, copy-same (isTC t) (isFU f) (eqb first 1)) (and-assoc (isFU f ⇒ isTC t) (isTC t ⇒ eqb first 1) false)
+    go false e = rw (e, copy-same (isTC t) (isFU f) (eqb first 1)) (none-left (isFU f ⇒ isTC t) (isFS f ⇒ not (selects t)) (isTC t ⇒ eqb first 1))
 
 -- ---- the answer of the rules
 

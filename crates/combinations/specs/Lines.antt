@@ -3,14 +3,14 @@ use mathlib.Core.Bool.{Bool, true, false, cond, not, _&&_}
 use mathlib.Core.Path.{_≡_}
 use Prim.Native.Nat.{ℕ, _+_, _/_, _%_, _≤_}
 use lib.Dec.{leb, eqb}
-use Rattle.rules.specs.Grammar.{Mode, tc, tf, tr, trf, Format, ff, fv, fu, Size}
+use Rattle.rules.specs.Grammar.{Mode, tc, tf, tr, trf, Format, ff, fv, fu, fsp, Size}
 use Rattle.rules.specs.Plan.{isTC, isFF, isFU, selects, numbers, wanted, recordLength, blockLength}
 
 -- FU only with TC. TC only with R1
 abbrev pub copyLines : Mode → Format → ℕ → Bool
 copyLines t f first = cond (isTC t) (eqb first 1) (not (isFU f))
 
--- FF: two numbers each. FU: one. FV: two with TF or TRF, else one
+-- FF: two numbers each. FU and FS: one. FV: two with TF or TRF, else one
 abbrev pub countLine : Mode → Format → Size → Size → Bool
 countLine t f a b = eqb (numbers a) (wanted t f) && eqb (numbers b) (wanted t f)
 
@@ -28,11 +28,12 @@ alike trf n m n2 m2 = true
 abbrev pub fixedLines : Mode → ℕ → ℕ → ℕ → ℕ → Bool
 fixedLines t n m n2 m2 = eqb (m % n) 0 && eqb (m2 % n2) 0 && alike t n m n2 m2
 
--- by the format; FV has two numbers with TF or TRF only
+-- by the format; FV has two numbers with TF or TRF only; FS only with TC and TR
 abbrev pub formatLines : Mode → Format → Size → Size → Bool
 formatLines t ff a b = fixedLines t (recordLength a) (blockLength a) (recordLength b) (blockLength b)
 formatLines t fv a b = cond (selects t) (leb (recordLength a + 8) (blockLength a) && leb (recordLength b + 8) (blockLength b)) true
 formatLines t fu a b = true
+formatLines t fsp a b = not (selects t)
 
 -- numbers within their limits
 pub record FormatFair (a b : Size) : Type 0 where

@@ -34,6 +34,7 @@ fn is_ff(format: Format) -> bool
         Format::FF => true,
         Format::FV => false,
         Format::FU => false,
+        Format::FS => false,
     }
 }
 
@@ -44,6 +45,7 @@ fn is_fu(format: Format) -> bool
         Format::FF => false,
         Format::FV => false,
         Format::FU => true,
+        Format::FS => false,
     }
 }
 
@@ -54,6 +56,7 @@ pub fn is_fv(format: Format) -> bool
         Format::FF => false,
         Format::FV => true,
         Format::FU => false,
+        Format::FS => false,
     }
 }
 
@@ -91,6 +94,7 @@ fn wanted(mode: Mode, format: Format) -> usize
             }
             1
         }
+        Format::FS => 1,
     }
 }
 
@@ -126,7 +130,7 @@ fn copies(mode: Mode, format: Format, first: usize) -> bool
     !is_fu(format)
 }
 
-// FF: two numbers each. FU: one. FV: two with TF or TRF, else one.
+// FF: two numbers each. FU and FS: one. FV: two with TF or TRF, else one.
 fn counts(mode: Mode, format: Format, a: Size, b: Size) -> bool
     ensures { λ r. ⌜ r ≡ countLine (modeOf mode) (formatOf format) (sizeOf a) (sizeOf b) ⌝ }
 {
@@ -177,7 +181,7 @@ fn roomy(n: usize, m: usize, n2: usize, m2: usize) -> bool
     n2 + 8 <= m2
 }
 
-// By the format, where as many numbers stand as are wanted.
+// By the format, where as many numbers stand as are wanted. FS only with TC and TR.
 fn by_format(mode: Mode, format: Format, a: Size, b: Size) -> bool
     requires { ⌜ FormatFair (sizeOf a) (sizeOf b) ⌝ }
     requires { ⌜ countLine (modeOf mode) (formatOf format) (sizeOf a) (sizeOf b) ≡ true ⌝ }
@@ -196,6 +200,7 @@ fn by_format(mode: Mode, format: Format, a: Size, b: Size) -> bool
             }
             return true;
         }
+        Format::FS => return !selects(mode),
     }
 }
 

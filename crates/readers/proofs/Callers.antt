@@ -87,6 +87,7 @@ small-parameter ParameterText.TRF = tt
 small-parameter ParameterText.FF = tt
 small-parameter ParameterText.FV = tt
 small-parameter ParameterText.FU = tt
+small-parameter ParameterText.FS = tt
 small-parameter (ParameterText.A= i) = small-input i
 small-parameter (ParameterText.B= z) = small-size z
 small-parameter ParameterText.IR = tt

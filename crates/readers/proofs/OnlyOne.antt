@@ -8,14 +8,14 @@ use native.Mathlib.Omega.{arith}
 use lib.ListN.{length, take, drop, length-drop}
 use Rattle.rules.specs.Reader.{Reader, number}
 use Rattle.rules.specs.Halves.{Kind as RuleKind, copy, pack, unpack, inputSize, outputSize, Field as RuleField}
-use Rattle.rules.specs.Grammar.{Mode as RuleMode, tc, tf, tr, trf, Format as RuleFormat, ff, fv, fu, Size as RuleSize, two, one, Input as RuleInput, plain, keyed, Parameter as RuleParameter, modeIs, formatIs, inputIs, outputIs, rewindIn, rewindOut, firstIs, Part as RulePart, inData, inKey, CardField, field, cv, parameter, item}
+use Rattle.rules.specs.Grammar.{Mode as RuleMode, tc, tf, tr, trf, Format as RuleFormat, ff, fv, fu, fsp, Size as RuleSize, two, one, Input as RuleInput, plain, keyed, Parameter as RuleParameter, modeIs, formatIs, inputIs, outputIs, rewindIn, rewindOut, firstIs, Part as RulePart, inData, inKey, CardField, field, cv, parameter, item}
 use Rattle.rules.specs.Words.{numberColumns}
 use Rattle.rules.proofs.ReaderLaws.{not-read, read-value, read-left}
 use Rattle.terms.specs.Meaning.{modeOf, formatOf, sizeOf, inputOf, kindOf, fieldOf, partOf, cardField}
 use Rattle.terms.specs.declared.Mode.{Mode}
 use Rattle.terms.specs.declared.Mode.the-variants.{TC, TF, TR, TRF}
 use Rattle.terms.specs.declared.Format.{Format}
-use Rattle.terms.specs.declared.Format.the-variants.{FF, FV, FU}
+use Rattle.terms.specs.declared.Format.the-variants.{FF, FV, FU, FS}
 use Rattle.terms.specs.declared.Size.{Size}
 use Rattle.terms.specs.declared.Size.the-variants.{Two, One}
 use Rattle.terms.specs.declared.Input.{Input}
@@ -82,11 +82,13 @@ abbrev formatBack : RuleFormat → Format
 formatBack ff = FF
 formatBack fv = FV
 formatBack fu = FU
+formatBack fsp = FS
 
 format-back : (f : Format) → formatBack (formatOf f) ≡ f
 format-back FF = refl
 format-back FV = refl
 format-back FU = refl
+format-back FS = refl
 
 abbrev sizeBack : RuleSize → Size
 sizeBack (two n m) = Two n m

@@ -79,6 +79,7 @@ parameter-text ParameterText.TRF = (0, refl)
 parameter-text ParameterText.FF = (0, refl)
 parameter-text ParameterText.FV = (0, refl)
 parameter-text ParameterText.FU = (0, refl)
+parameter-text ParameterText.FS = (0, refl)
 parameter-text (ParameterText.A= i) = input-text i
 parameter-text (ParameterText.B= z) = size-text z
 parameter-text ParameterText.IR = (0, refl)

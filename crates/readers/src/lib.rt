@@ -52,6 +52,7 @@ const LETTER_R: usize = b'R' as usize;
 
 const LETTER_T: usize = b'T' as usize;
 
+const LETTER_S: usize = b'S' as usize;
 const LETTER_U: usize = b'U' as usize;
 
 const LETTER_V: usize = b'V' as usize;
@@ -314,7 +315,7 @@ fn mode(s: &[u8]) -> ParameterRead
     }
 }
 
-// `FF`, `FV` or `FU`: the text begins with F.
+// `FF`, `FV`, `FU` or `FS`: the text begins with F.
 fn format(s: &[u8]) -> ParameterRead
     requires { ⌜ getD (now s) 0 256 ≡ 70 ⌝ }
     ensures { λ r. ⌜ ParameterSays (now (s .entry)) r ⌝ }
@@ -333,6 +334,11 @@ fn format(s: &[u8]) -> ParameterRead
         },
         LETTER_U => ParameterRead::IsParameter {
             parameter: UParameter::FormatIs(Format::FU),
+            second: 0,
+            used: 2,
+        },
+        LETTER_S => ParameterRead::IsParameter {
+            parameter: UParameter::FormatIs(Format::FS),
             second: 0,
             used: 2,
         },

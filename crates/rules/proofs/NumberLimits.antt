@@ -7,9 +7,9 @@ use mathlib.Core.List.{List, [], _∷_, map}
 use Prim.Native.Nat.{ℕ}
 use Rattle.rules.specs.Base.{every, joined}
 use Rattle.rules.specs.Places.{noMore, Some, this, that}
-use Rattle.rules.specs.Grammar.{Format, ff, fu, Size, two, one, Input, plain, keyed, Parameter, modeIs, formatIs, inputIs, outputIs, rewindIn, rewindOut, firstIs, Item, field, cv}
-use Rattle.rules.specs.Words.{withinLimits}
-use Rattle.rules.specs.Asked.{Utility, utilityLimits, fieldLimits, parameterNumbers, itemNumbers}
+use Rattle.rules.specs.Grammar.{Format, Size, two, one, Input, plain, keyed, Parameter, modeIs, formatIs, inputIs, outputIs, rewindIn, rewindOut, firstIs, Item, field, cv}
+use Rattle.rules.specs.Words.{limit, withinLimits}
+use Rattle.rules.specs.Asked.{Utility, least, utilityLimits, fieldLimits, parameterNumbers, itemNumbers}
 use Rattle.rules.specs.Rows.{Twice, Complete}
 use Rattle.rules.proofs.Tests.{every-all, all-every}
 use Rattle.rules.proofs.AllLaws.{all-append}
@@ -69,18 +69,18 @@ module _ (us : List Parameter) (u : Utility) (single : Twice us → ⊥) (full :
       go false true e f = utility-meets us u full (every-all withinLimits _ f) ∙ sym f
       go false false e f = e ∙ sym f
 
--- F only matters where it is FV
-pub numbers-fu : (p : Parameter) → parameterNumbers fu p ≡ parameterNumbers ff p
-numbers-fu (modeIs m) = refl
-numbers-fu (formatIs f) = refl
-numbers-fu (inputIs (plain (two n m))) = refl
-numbers-fu (inputIs (plain (one g))) = refl
-numbers-fu (inputIs (keyed k d)) = refl
-numbers-fu (outputIs (two n m)) = refl
-numbers-fu (outputIs (one g)) = refl
-numbers-fu rewindIn = refl
-numbers-fu rewindOut = refl
-numbers-fu (firstIs n) = refl
+-- of F only the least single number matters, which FV and FS have in common, and FF and FU
+pub numbers-least : (f g : Format) → least f ≡ least g → (p : Parameter) → parameterNumbers f p ≡ parameterNumbers g p
+numbers-least f g e (modeIs m) = refl
+numbers-least f g e (formatIs h) = refl
+numbers-least f g e (inputIs (plain (two n m))) = refl
+numbers-least f g e (inputIs (plain (one k))) = ap (λ (l : ℕ). limit l 32760 k ∷ []) e
+numbers-least f g e (inputIs (keyed k d)) = refl
+numbers-least f g e (outputIs (two n m)) = refl
+numbers-least f g e (outputIs (one k)) = ap (λ (l : ℕ). limit l 32760 k ∷ []) e
+numbers-least f g e rewindIn = refl
+numbers-least f g e rewindOut = refl
+numbers-least f g e (firstIs n) = refl
 
 -- ---- an item
 

@@ -6,7 +6,7 @@ use Prim.Native.Nat.{ℕ, suc, _+_, _-_, _≤_}
 use lib.Dec.{leb, eqb}
 use lib.ListN.{length, replicate}
 use Rattle.rules.specs.Base.{joined}
-use Rattle.rules.specs.Grammar.{Mode as RuleMode, tc, tf, tr, trf, Format as RuleFormat, ff, fv, fu, Size as RuleSize, two, one, Input as RuleInput, plain, keyed, Part as RulePart, inData, inKey, CardField, Item}
+use Rattle.rules.specs.Grammar.{Mode as RuleMode, tc, tf, tr, trf, Format as RuleFormat, ff, fv, fu, fsp, Size as RuleSize, two, one, Input as RuleInput, plain, keyed, Part as RulePart, inData, inKey, CardField, Item}
 use Rattle.rules.specs.Halves.{Kind as RuleKind, copy, pack, unpack, inputSize, Field as RuleField}
 use Rattle.rules.specs.Asked.{fieldsOf, cvs, Utility, Asked as RuleAsked}
 use Rattle.rules.specs.Plan.{Plan, recordLength, blockLength, keyLength, keyFields}
@@ -16,7 +16,7 @@ use Rattle.rules.specs.Lent.{Entry as RuleEntry}
 use Rattle.terms.specs.declared.Mode.{Mode}
 use Rattle.terms.specs.declared.Mode.the-variants.{TC, TF, TR, TRF}
 use Rattle.terms.specs.declared.Format.{Format}
-use Rattle.terms.specs.declared.Format.the-variants.{FF, FV, FU}
+use Rattle.terms.specs.declared.Format.the-variants.{FF, FV, FU, FS}
 use Rattle.terms.specs.declared.Size.{Size}
 use Rattle.terms.specs.declared.Size.the-variants.{Two, One}
 use Rattle.terms.specs.declared.Input.{Input}
@@ -40,6 +40,7 @@ abbrev pub formatOf : Format → RuleFormat
 formatOf FF = ff
 formatOf FV = fv
 formatOf FU = fu
+formatOf FS = fsp
 
 abbrev pub sizeOf : Size → RuleSize
 sizeOf (Two n m) = two n m

@@ -8,11 +8,12 @@ pub enum Mode {
     TRF,
 }
 
-// F: fixed, variable, undefined.
+// F: fixed, variable, undefined, spanned.
 pub enum Format {
     FF,
     FV,
     FU,
+    FS,
 }
 
 // A or B: (n,m) or (g).

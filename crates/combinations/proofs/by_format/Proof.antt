@@ -1,4 +1,4 @@
--- In FF the lines of FF; in FV room in A and B where two numbers stand; in FU nothing more.
+-- In FF the lines of FF; in FV room in A and B where two numbers stand; in FU nothing more; FS only where no field is selected.
 use mathlib.Core.Path.{ap, _∙_}
 use Rattle.terms.specs.Meaning.{modeOf, formatOf, sizeOf}
 use Rattle.combinations.proofs.LineLaws.{fixed-fair}
@@ -55,6 +55,15 @@ returns-3 c =
 returns-4 : tie.Need-returns-4
 returns-4 c = rw (c .before .before .enum-told3 .given .1, ← (c .before .selects .ensures), c .if1 .left)
 
+enum-told-4 : tie.Need-enum-told-4
+enum-told-4 c = search needs
+
+selects-requires-2 : tie.Need-selects-requires-2
+selects-requires-2 c κs = search needs
+
+returns-5 : tie.Need-returns-5
+returns-5 c = rw (c .before .enum-told4 .given .1, ← (c .selects2 .ensures))
+
 pub by-format-spec : {M : Type 1} → statement M
 by-format-spec =
     tie.close
@@ -72,4 +81,7 @@ by-format-spec =
     selects-requires
     roomy-requires
     returns-3
-    returns-4)
+    returns-4
+    enum-told-4
+    selects-requires-2
+    returns-5)

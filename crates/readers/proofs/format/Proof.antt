@@ -3,8 +3,8 @@ use mathlib.Core.Path.{refl, sym, _∙_}
 use borrow.Author.Needs.{needs}
 use denote.Ref.{now}
 use native.Mathlib.Omega.{arith}
-use Rattle.rules.specs.Grammar.{formatIs, ff, fv, fu}
-use Rattle.rules.proofs.ChoiceLaws.{byte-inside, parameter-FF, parameter-FV, parameter-FU, parameter-F-else}
+use Rattle.rules.specs.Grammar.{formatIs, ff, fv, fu, fsp}
+use Rattle.rules.proofs.ChoiceLaws.{byte-inside, parameter-FF, parameter-FV, parameter-FU, parameter-FS, parameter-F-else}
 use Rattle.readers.proofs.TextPlaces.{alone}
 use Rattle.readers.proofs.format.Statement.{statement}
 use Rattle.readers.proofs.format.Tie as tie
@@ -37,10 +37,17 @@ returns-4 : tie.Need-returns-4
 returns-4 c =
     let b = c .before .before .before in
     let s = now (b .args .s) in
+    let e = sym (c .before .peek .ensures) ∙ c .match .keys4 in
+    alone s 2 (formatIs fsp) (λ k. refl) (omega (arith, byte-inside s 1 83 e (omega arith)), parameter-FS s (b .pre) e)
+
+returns-5 : tie.Need-returns-5
+returns-5 c =
+    let b = c .before .before .before in
+    let s = now (b .args .s) in
     let e = c .before .peek .ensures in (
       omega (arith, byte-inside s 0 70 (b .pre) (omega arith)),
-      parameter-F-else s (b .pre) (λ z. c .match .rest .0 .0 .1 (e ∙ z)) (λ z. c .match .rest .0 .1 (e ∙ z)) (λ z. c .match .rest .1 (e ∙ z)),
+      parameter-F-else s (b .pre) (λ z. c .match .rest .0 .0 .0 .1 (e ∙ z)) (λ z. c .match .rest .0 .0 .1 (e ∙ z)) (λ z. c .match .rest .0 .1 (e ∙ z)) (λ z. c .match .rest .1 (e ∙ z)),
     )
 
 pub format-spec : {M : Type 1} → statement M
-format-spec = tie.close (tie.spec peek-requires returns returns-2 returns-3 returns-4)
+format-spec = tie.close (tie.spec peek-requires returns returns-2 returns-3 returns-4 returns-5)
