@@ -4,10 +4,11 @@ use mathlib.Core.List.{List}
 use Prim.Native.Nat.{ℕ}
 use Rattle.rules.specs.Halves.{over}
 use Rattle.rules.specs.Output.{lengthWord}
+use Rattle.rules.specs.Spanned.{codedWord}
 use Rattle.rules.specs.Reel.{word}
 use Rattle.rules.specs.ReelPlaces.{wordAt}
 use Rattle.reels.specs.Header.{headerOf, partAt}
-use Rattle.reels.specs.Pieces.{startOf, pieceOf}
+use Rattle.reels.specs.Pieces.{variableStart, startOf, pieceOf, wordedIn}
 use Rattle.reels.specs.Records.{Judged, ReadAs}
 use Rattle.reels.specs.declared.Form.{Form}
 use Rattle.reels.specs.declared.HeaderRead.{HeaderRead}
@@ -32,8 +33,14 @@ only-one-block s i r r′ = only-one
 pub only-one-start : (form : Form) (b : List ℕ) (r r′ : StartRead) → r ≡ startOf form b → r′ ≡ startOf form b → r ≡ r′
 only-one-start form b r r′ = only-one
 
+pub only-one-variable-start : (b : List ℕ) (r r′ : StartRead) → r ≡ variableStart b → r′ ≡ variableStart b → r ≡ r′
+only-one-variable-start b r r′ = only-one
+
 pub only-one-piece : (form : Form) (b : List ℕ) (i : ℕ) (r r′ : PieceRead) → r ≡ pieceOf form b i → r′ ≡ pieceOf form b i → r ≡ r′
 only-one-piece form b i r r′ = only-one
+
+pub only-one-segment : (b : List ℕ) (i : ℕ) (r r′ : PieceRead) → r ≡ wordedIn 3 b i → r′ ≡ wordedIn 3 b i → r ≡ r′
+only-one-segment b i r r′ = only-one
 
 pub only-one-rule : (form : Form) (b : List ℕ) (r r′ : BlockRead) → Judged form b r → Judged form b r′ → r ≡ r′
 only-one-rule form b r r′ j j′ = only-one (j .is) (j′ .is)
@@ -43,6 +50,9 @@ only-one-read-reel form s r r′ w w′ = answer-once r r′ (only-one (w .is) (
 
 pub only-one-put-word : (at value : ℕ) (out x x′ : List ℕ) → x ≡ over at (word value) out → x′ ≡ over at (word value) out → x ≡ x′
 only-one-put-word at value out x x′ = only-one
+
+pub only-one-put-coded-word : (at code length : ℕ) (out x x′ : List ℕ) → x ≡ over at (codedWord code length) out → x′ ≡ over at (codedWord code length) out → x ≡ x′
+only-one-put-coded-word at code length out x x′ = only-one
 
 pub only-one-put-length-word : (at length : ℕ) (out x x′ : List ℕ) → x ≡ over at (lengthWord length) out → x′ ≡ over at (lengthWord length) out → x ≡ x′
 only-one-put-length-word at length out x x′ = only-one

@@ -1,5 +1,5 @@
 -- The pieces of a block as they are read: what each outcome of the tests is, and that the readings one after the other are the pieces of the rules.
-use mathlib.Core.Path.{_≡_, refl, ap, sym, _∙_}
+use mathlib.Core.Path.{_≡_, refl, ap, sym, _∙_, subst}
 use mathlib.Core.Bool.{Bool, true, false, cond}
 use mathlib.Core.List.{List, []}
 use mathlib.Core.Option.{Option, none, some}
@@ -10,13 +10,15 @@ use lib.ListN.{length, drop, getD, length-drop}
 use lib.Seq.{getD-drop}
 use borrow.Author.Tests.{le-leb, lt-leb, lt-ltb, le-ltb, eq-eqb, ne-eqb, leb-true, leb-false, ltb-true, ltb-false}
 use Rattle.rules.specs.Grammar.{Format, ff, fv, fu}
-use Rattle.rules.specs.Blocks.{Piece, wordLength, headed, withPiece, piecesIn}
+use Rattle.rules.specs.Blocks.{Piece, wordLength, headedTo, withPiece, piecesIn}
 use Rattle.rules.specs.Output.{cost}
-use Rattle.rules.specs.ReelPlaces.{piecesAt, pieceFrom, goodFrom, behind, goodStart}
-use Rattle.rules.proofs.BlockWords.{Headed, headed-exactly, wordLength-at}
-use Rattle.rules.proofs.BlockSteps.{headed-short, pieces-start, pieces-end, good-inside, pieces-good, pieces-bad}
+use Rattle.rules.specs.ReelPlaces.{pieceAt, piecesAt, pieceFrom, goodFrom, behind, goodStart}
+use Rattle.rules.proofs.BlockWords.{wordLength-at}
+use Rattle.rules.proofs.CodedWords.{HeadedTo, headedTo-exactly}
+use Rattle.rules.proofs.SpannedSteps.{headedTo-short, walkAt, walkAt-end, walkAt-good, walkAt-bad}
+use Rattle.rules.proofs.BlockSteps.{pieces-start, pieces-end, good-inside, pieces-good, pieces-bad}
 use Rattle.rules.proofs.PieceLaws.{takes-some, pieces-none}
-use Rattle.reels.specs.Pieces.{lengthOf, startIn, variableStart, found, pieceIn, fixedPiece}
+use Rattle.reels.specs.Pieces.{lengthOf, startIn, variableStart, found, pieceIn, wordedIn, fixedPiece}
 use Rattle.reels.specs.declared.LengthRead.the-variants.{Length, NoLength}
 use Rattle.reels.specs.declared.StartRead.{StartRead}
 use Rattle.reels.specs.declared.StartRead.the-variants.{From, NoStart}
@@ -25,69 +27,69 @@ use Rattle.reels.specs.declared.PieceRead.the-variants.{Piece as Found, 
 
 -- ---- the word at a place
 
-no-length : (low : ℕ) (s : List ℕ) → headed low s ≡ false → NoLength ≡ lengthOf low s
+no-length : (top low : ℕ) (s : List ℕ) → headedTo top low s ≡ false → NoLength ≡ lengthOf top low s
 unfolding lengthOf
-no-length low s e = rw e
+no-length top low s e = rw e
 
-not-headed : (low : ℕ) (s : List ℕ) → (Headed low s → ⊥) → NoLength ≡ lengthOf low s
-not-headed low s f = no-length low s (go (headed low s) refl)
+not-headed : (top low : ℕ) (s : List ℕ) → (HeadedTo top low s → ⊥) → NoLength ≡ lengthOf top low s
+not-headed top low s f = no-length top low s (go (headedTo top low s) refl)
   where
-    go : (t : Bool) → headed low s ≡ t → headed low s ≡ false
-    go true t = absurd (f (headed-exactly low s .0 t))
+    go : (t : Bool) → headedTo top low s ≡ t → headedTo top low s ≡ false
+    go true t = absurd (f (headedTo-exactly top low s .0 t))
     go false t = t
 
-module _ (low : ℕ) (b : List ℕ) (i : ℕ) where
+module _ (top low : ℕ) (b : List ℕ) (i : ℕ) where
   -- the ways in which there is no word
-  pub word-short : 4 ≤ low → length b < i + 4 → NoLength ≡ lengthOf low (drop i b)
-  word-short l h = no-length low (drop i b) (headed-short low b i l h)
+  pub word-short : 4 ≤ low → length b < i + 4 → NoLength ≡ lengthOf top low (drop i b)
+  word-short l h = no-length top low (drop i b) (headedTo-short top low b i l h)
 
   module _ (v : ℕ) (says : v ≡ 256 * getD b i 0 + getD b (i + 1) 0) where
-    pub word-low : v < low → NoLength ≡ lengthOf low (drop i b)
-    word-low l = not-headed low (drop i b) (λ h. omega (arith, h .least, wordLength-at b i))
+    pub word-low : v < low → NoLength ≡ lengthOf top low (drop i b)
+    word-low l = not-headed top low (drop i b) (λ h. omega (arith, h .least, wordLength-at b i))
 
-    pub word-high : length b - i < v → NoLength ≡ lengthOf low (drop i b)
-    word-high l = not-headed low (drop i b) (λ h. omega (arith, h .most, wordLength-at b i, length-drop i b))
+    pub word-high : length b - i < v → NoLength ≡ lengthOf top low (drop i b)
+    word-high l = not-headed top low (drop i b) (λ h. omega (arith, h .most, wordLength-at b i, length-drop i b))
 
-    pub word-good : low ≤ v → v ≤ length b - i → getD b (i + 2) 0 ≡ 0 → getD b (i + 3) 0 ≡ 0 → Length v ≡ lengthOf low (drop i b)
+    pub word-good : low ≤ v → v ≤ length b - i → getD b (i + 2) 0 ≤ top → getD b (i + 3) 0 ≡ 0 → Length v ≡ lengthOf top low (drop i b)
     unfolding lengthOf
     word-good l m x y =
-        let h : headed low (drop i b) ≡ true =
-        headed-exactly low (drop i b) .1
+        let h : headedTo top low (drop i b) ≡ true =
+        headedTo-exactly top low (drop i b) .1
         (record {
           least = omega (arith, wordLength-at b i);
           most = omega (arith, wordLength-at b i, length-drop i b);
-          third = getD-drop i b 2 0 ∙ x;
+          third = omega (arith, getD-drop i b 2 0);
           fourth = getD-drop i b 3 0 ∙ y;
         }) in
         rw (h, wordLength-at b i, ← says)
 
-  pub word-third : (getD b (i + 2) 0 ≡ 0 → ⊥) → NoLength ≡ lengthOf low (drop i b)
-  word-third f = not-headed low (drop i b) (λ h. f (sym (getD-drop i b 2 0) ∙ h .third))
+  pub word-third : top < getD b (i + 2) 0 → NoLength ≡ lengthOf top low (drop i b)
+  word-third l = not-headed top low (drop i b) (λ h. omega (arith, h .third, getD-drop i b 2 0))
 
-  pub word-fourth : (getD b (i + 3) 0 ≡ 0 → ⊥) → NoLength ≡ lengthOf low (drop i b)
-  word-fourth f = not-headed low (drop i b) (λ h. f (sym (getD-drop i b 3 0) ∙ h .fourth))
+  pub word-fourth : (getD b (i + 3) 0 ≡ 0 → ⊥) → NoLength ≡ lengthOf top low (drop i b)
+  word-fourth f = not-headed top low (drop i b) (λ h. f (sym (getD-drop i b 3 0) ∙ h .fourth))
 
 -- what a reading says of the word
-pub length-told : (low : ℕ) (s : List ℕ) (v : ℕ) → lengthOf low s ≡ Length v → (headed low s ≡ true) × (v ≡ wordLength s)
+pub length-told : (top low : ℕ) (s : List ℕ) (v : ℕ) → lengthOf top low s ≡ Length v → (headedTo top low s ≡ true) × (v ≡ wordLength s)
 unfolding lengthOf
-length-told low s v e = go (headed low s) refl
+length-told top low s v e = go (headedTo top low s) refl
   where
-    go : (t : Bool) → headed low s ≡ t → (headed low s ≡ true) × (v ≡ wordLength s)
+    go : (t : Bool) → headedTo top low s ≡ t → (headedTo top low s ≡ true) × (v ≡ wordLength s)
     go true t = let e′ : Length (wordLength s) ≡ Length v = rw t at e in (t, cc)
     go false t = let e′ : NoLength ≡ Length v = rw t at e in let z : _≡_ {A = ℕ} 0 1 = cc in absurd (omega arith)
 
-pub none-told : (low : ℕ) (s : List ℕ) → lengthOf low s ≡ NoLength → headed low s ≡ false
+pub none-told : (top low : ℕ) (s : List ℕ) → lengthOf top low s ≡ NoLength → headedTo top low s ≡ false
 unfolding lengthOf
-none-told low s e = go (headed low s) refl
+none-told top low s e = go (headedTo top low s) refl
   where
-    go : (t : Bool) → headed low s ≡ t → headed low s ≡ false
+    go : (t : Bool) → headedTo top low s ≡ t → headedTo top low s ≡ false
     go true t = let e′ : Length (wordLength s) ≡ NoLength = rw t at e in let z : _≡_ {A = ℕ} 0 1 = cc in absurd (omega arith)
     go false t = t
 
-pub length-within : (low : ℕ) (s : List ℕ) (v : ℕ) → lengthOf low s ≡ Length v → (low ≤ v) × (v ≤ length s)
-length-within low s v e =
-    let h = length-told low s v e in
-    let w = headed-exactly low s .0 (h .0) in
+pub length-within : (top low : ℕ) (s : List ℕ) (v : ℕ) → lengthOf top low s ≡ Length v → (low ≤ v) × (v ≤ length s)
+length-within top low s v e =
+    let h = length-told top low s v e in
+    let w = headedTo-exactly top low s .0 (h .0) in
     (omega (arith, w .least, h .1), omega (arith, w .most, h .1))
 
 -- ---- where the pieces begin
@@ -100,18 +102,18 @@ pub start-bad : (f : Format) (b : List ℕ) → goodStart f b ≡ false → NoSt
 unfolding startIn
 start-bad f b e = rw e
 
-pub variable-good : (b : List ℕ) (v : ℕ) → lengthOf 4 b ≡ Length v → v ≡ length b → From (record { at = 4 }) ≡ variableStart b
+pub variable-good : (b : List ℕ) (v : ℕ) → lengthOf 0 4 b ≡ Length v → v ≡ length b → From (record { at = 4 }) ≡ variableStart b
 variable-good b v e l =
-    let h = length-told 4 b v e in
+    let h = length-told 0 4 b v e in
     start-good fv b (rw (h .0) (eq-eqb (wordLength b) (length b) (sym (h .1) ∙ l)))
 
-pub variable-other : (b : List ℕ) (v : ℕ) → lengthOf 4 b ≡ Length v → (v ≡ length b → ⊥) → NoStart ≡ variableStart b
+pub variable-other : (b : List ℕ) (v : ℕ) → lengthOf 0 4 b ≡ Length v → (v ≡ length b → ⊥) → NoStart ≡ variableStart b
 variable-other b v e f =
-    let h = length-told 4 b v e in
+    let h = length-told 0 4 b v e in
     start-bad fv b (rw (h .0) (ne-eqb (wordLength b) (length b) (λ q. f (h .1 ∙ q))))
 
-pub variable-none : (b : List ℕ) → lengthOf 4 b ≡ NoLength → NoStart ≡ variableStart b
-variable-none b e = start-bad fv b (rw (none-told 4 b e))
+pub variable-none : (b : List ℕ) → lengthOf 0 4 b ≡ NoLength → NoStart ≡ variableStart b
+variable-none b e = start-bad fv b (rw (none-told 0 4 b e))
 
 -- ---- the piece at a place
 
@@ -149,22 +151,41 @@ pub fixed-here : (n : ℕ) (b : List ℕ) (i : ℕ) → i < length b → fixedPi
 unfolding fixedPiece pieceIn
 fixed-here n b i l = rw (lt-leb (length b) i l)
 
--- in FV
-pub variable-here : (n : ℕ) (b : List ℕ) (i : ℕ) → pieceIn fv 0 b i ≡ pieceIn fv n b i
-unfolding pieceIn
-variable-here n b i = refl
+-- in FV and in FS: a word and the data behind it
+module _ (top : ℕ) (b : List ℕ) (i : ℕ) where
+  pub worded-end : length b ≤ i → End ≡ wordedIn top b i
+  unfolding wordedIn
+  worded-end l = rw (le-leb (length b) i l)
 
-pub variable-piece : (b : List ℕ) (i v t : ℕ) → i < length b → lengthOf 5 (drop i b) ≡ Length v → t ≡ getD b (i + 2) 0
-    → Found (i + 4) (v - 4) t (record { at = i + v }) ≡ pieceIn fv 0 b i
-variable-piece b i v t l e x =
-    let h = length-told 5 (drop i b) v e in
-    let w = headed-exactly 5 (drop i b) .0 (h .0) in
+  pub worded-good : i < length b → headedTo top 5 (drop i b) ≡ true → found (pieceAt i (drop i b)) ≡ wordedIn top b i
+  unfolding wordedIn
+  worded-good l e = rw (lt-leb (length b) i l, e)
+
+  pub worded-bad : i < length b → headedTo top 5 (drop i b) ≡ false → Bad ≡ wordedIn top b i
+  unfolding wordedIn
+  worded-bad l e = rw (lt-leb (length b) i l, e)
+
+pub variable-piece : (top : ℕ) (b : List ℕ) (i v t : ℕ) → i < length b → lengthOf top 5 (drop i b) ≡ Length v → t ≡ getD b (i + 2) 0
+    → Found (i + 4) (v - 4) t (record { at = i + v }) ≡ wordedIn top b i
+variable-piece top b i v t l e x =
+    let h = length-told top 5 (drop i b) v e in
+    let w = headedTo-exactly top 5 (drop i b) .0 (h .0) in
     let q : i + v ≡ i + 4 + (wordLength (drop i b) - 4) = omega (arith, w .least, h .1) in
     let third : t ≡ getD (drop i b) 2 0 = x ∙ sym (getD-drop i b 2 0) in
-    rw (q, third, h .1) (piece-good fv 0 b i l (h .0) (omega (arith, w .least)))
+    rw (q, third, h .1) (worded-good top b i l (h .0))
 
-pub variable-bad : (b : List ℕ) (i : ℕ) → i < length b → lengthOf 5 (drop i b) ≡ NoLength → Bad ≡ pieceIn fv 0 b i
-variable-bad b i l e = piece-bad fv 0 b i l (none-told 5 (drop i b) e)
+pub variable-bad : (top : ℕ) (b : List ℕ) (i : ℕ) → i < length b → lengthOf top 5 (drop i b) ≡ NoLength → Bad ≡ wordedIn top b i
+variable-bad top b i l e = worded-bad top b i l (none-told top 5 (drop i b) e)
+
+-- in FV the third byte is 0
+pub variable-here : (n : ℕ) (b : List ℕ) (i : ℕ) → i < length b → wordedIn 0 b i ≡ pieceIn fv n b i
+variable-here n b i l = go (headedTo 0 5 (drop i b)) refl
+  where
+    go : (t : Bool) → headedTo 0 5 (drop i b) ≡ t → wordedIn 0 b i ≡ pieceIn fv n b i
+    go true t =
+        let w = headedTo-exactly 0 5 (drop i b) .0 t in
+        sym (worded-good 0 b i l t) ∙ piece-good fv n b i l t (omega (arith, w .least))
+    go false t = sym (worded-bad 0 b i l t) ∙ piece-bad fv n b i l t
 
 -- in FU
 pub undefined-piece : (n : ℕ) (b : List ℕ) (i : ℕ) → i < length b → Found i (length b - i) 0 (record { at = length b }) ≡ pieceIn fu n b i
@@ -214,6 +235,37 @@ piece-further f n b i = go (leb (length b) i) refl
     go : (t : Bool) → leb (length b) i ≡ t → further i (length b) (pieceIn f n b i)
     go true t = rw t (leb-true (length b) i t)
     go false t = here (leb-false (length b) i t) (goodFrom f n b i) refl (ltb i (behind (pieceFrom f n b i))) refl
+
+-- in FV and in FS alike: the readings one after the other are the walk of the rules
+abbrev pub walked : ℕ → List ℕ → PieceRead → Option (List Piece)
+walked top b (Found place size third next) = withPiece (record { place = place; size = size; third = third }) (walkAt top b (next .at))
+walked top b End = some []
+walked top b Bad = none
+
+module _ (top : ℕ) (b : List ℕ) (i : ℕ) where
+  pub walk-read : walkAt top b i ≡ walked top b (wordedIn top b i)
+  walk-read = go (leb (length b) i) refl (headedTo top 5 (drop i b)) refl
+    where
+      go : (t : Bool) → leb (length b) i ≡ t → (u : Bool) → headedTo top 5 (drop i b) ≡ u → walkAt top b i ≡ walked top b (wordedIn top b i)
+      go true t u h = let l = leb-true (length b) i t in walkAt-end top b i l ∙ ap (walked top b) (worded-end top b i l)
+      go false t true h =
+          let l = leb-false (length b) i t in
+          let w = headedTo-exactly top 5 (drop i b) .0 h in
+          let q : i + wordLength (drop i b) ≡ i + 4 + (wordLength (drop i b) - 4) = omega (arith, w .least) in
+          walkAt-good top b i h ∙ ap (λ (n : ℕ). withPiece (pieceAt i (drop i b)) (walkAt top b n)) q ∙ ap (walked top b) (worded-good top b i l h)
+      go false t false h = let l = leb-false (length b) i t in walkAt-bad top b i l h ∙ ap (walked top b) (worded-bad top b i l h)
+
+  pub worded-further : further i (length b) (wordedIn top b i)
+  worded-further = go (leb (length b) i) refl (headedTo top 5 (drop i b)) refl
+    where
+      go : (t : Bool) → leb (length b) i ≡ t → (u : Bool) → headedTo top 5 (drop i b) ≡ u → further i (length b) (wordedIn top b i)
+      go true t u h = let l = leb-true (length b) i t in subst (further i (length b)) (worded-end top b i l) l
+      go false t true h =
+          let l = leb-false (length b) i t in
+          let w = headedTo-exactly top 5 (drop i b) .0 h in
+          let d = length-drop i b in
+          subst (further i (length b)) (worded-good top b i l h) (omega arith, refl, omega (arith, w .least), omega (arith, w .least, w .most))
+      go false t false h = let l = leb-false (length b) i t in subst (further i (length b)) (worded-bad top b i l h) l
 
 -- what the start says of the pieces of a block
 abbrev pub begun : Format → ℕ → List ℕ → StartRead → Option (List Piece)

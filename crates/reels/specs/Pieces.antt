@@ -3,11 +3,11 @@ use mathlib.Core.Bool.{cond, _&&_}
 use mathlib.Core.List.{List}
 use Prim.Native.Nat.{ℕ, _+_}
 use lib.Dec.{ltb, leb}
-use lib.ListN.{length}
+use lib.ListN.{length, drop}
 use Rattle.rules.specs.Grammar.{Format, fv}
-use Rattle.rules.specs.Blocks.{Piece, wordLength, headed}
+use Rattle.rules.specs.Blocks.{Piece, wordLength, headedTo}
 use Rattle.rules.specs.Output.{cost}
-use Rattle.rules.specs.ReelPlaces.{pieceFrom, goodFrom, behind, goodStart}
+use Rattle.rules.specs.ReelPlaces.{pieceAt, pieceFrom, goodFrom, behind, goodStart}
 use Rattle.terms.specs.Meaning.{formatOf}
 use Rattle.reels.specs.declared.Form.{Form}
 use Rattle.reels.specs.declared.LengthRead.{LengthRead}
@@ -17,8 +17,9 @@ use Rattle.reels.specs.declared.StartRead.the-variants.{From, NoStart}
 use Rattle.reels.specs.declared.PieceRead.{PieceRead}
 use Rattle.reels.specs.declared.PieceRead.the-variants.{Piece as Found, End, Bad}
 
-unfoldable pub lengthOf : ℕ → List ℕ → LengthRead
-lengthOf low s = cond (headed low s) (Length (wordLength s)) NoLength
+-- a word whose third byte is at most top
+unfoldable pub lengthOf : ℕ → ℕ → List ℕ → LengthRead
+lengthOf top low s = cond (headedTo top low s) (Length (wordLength s)) NoLength
 
 -- where the pieces begin: at 0, in FV at 4; in FV the block's word is asked
 unfoldable pub startIn : Format → List ℕ → StartRead
@@ -43,8 +44,9 @@ pieceIn f n b i =
 abbrev pub pieceOf : Form → List ℕ → ℕ → PieceRead
 pieceOf form b i = pieceIn (formatOf (form .format)) (form .n) b i
 
-abbrev pub variablePiece : List ℕ → ℕ → PieceRead
-variablePiece b i = pieceIn fv 0 b i
+-- what stands at place i where each piece has a word, whose third byte is at most top: 0 in FV, 3 in FS
+unfoldable pub wordedIn : ℕ → List ℕ → ℕ → PieceRead
+wordedIn top b i = cond (leb (length b) i) End (cond (headedTo top 5 (drop i b)) (found (pieceAt i (drop i b))) Bad)
 
 -- a piece of n bytes from i on, in a block of so many bytes
 unfoldable pub fixedPiece : ℕ → ℕ → ℕ → PieceRead

@@ -1,5 +1,5 @@
 // The header of a reel, its blocks, the pieces of a block, and words in and out.
-// Document 01, "The reel" and "Blocks and records"; refusals 11 and 12.
+// Document 01, "The reel" and "Blocks and records"; refusals 11 and 12. Document 02, order 6: a segment's word differs from a record's in its third byte alone.
 ghost use mathlib.Core.Path.{_≡_};
 ghost use mathlib.Core.List.{[], _∷_};
 ghost use Prim.Native.Nat.{_+_, _≤_, _<_};
@@ -7,16 +7,17 @@ ghost use lib.ListN.{length, drop};
 ghost use Rattle.rules.specs.Halves.{over};
 ghost use Rattle.rules.specs.Blocks.{leastData};
 ghost use Rattle.rules.specs.Output.{lengthWord};
+ghost use Rattle.rules.specs.Spanned.{codedWord};
 ghost use Rattle.rules.specs.Reel.{word};
 ghost use Rattle.rules.specs.ReelPlaces.{wordAt};
 ghost use Rattle.reels.specs.Header.{headerOf, partAt};
 ghost use Rattle.reels.specs.Form.{planBy};
-ghost use Rattle.reels.specs.Pieces.{lengthOf, variableStart, startOf, fixedPiece, variablePiece, pieceOf};
+ghost use Rattle.reels.specs.Pieces.{lengthOf, variableStart, startOf, fixedPiece, wordedIn, pieceOf};
 ghost use Rattle.reels.specs.Records.{Counted, Judged, ReadAs};
 use terms::Format;
 
 // What a header says: a reel of so many blocks, or no reel.
-enum HeaderRead {
+pub enum HeaderRead {
     Reel { blocks: usize },
     NoReel,
 }
@@ -41,7 +42,7 @@ pub fn word(s: &[u8], at: usize) -> usize
 }
 
 // Whether s is a reel, and of how many blocks: every offset is looked at once.
-fn header(s: &[u8]) -> HeaderRead
+pub fn header(s: &[u8]) -> HeaderRead
     ensures { λ r. ⌜ r ≡ headerOf (now (s .entry)) ⌝ }
 {
     let end = s.len();
@@ -135,10 +136,11 @@ enum LengthRead {
     NoLength,
 }
 
-// The word at a place: a length in 2 bytes, of which at least low and no more than there are, and 2 zero bytes.
-fn length_word(b: &[u8], at: usize, low: usize) -> LengthRead
+// The word at a place: a length in 2 bytes, of which at least low and no more than there are, a third byte of at most top (0, and 3 for a segment's code), and a
+// zero byte.
+fn length_word(b: &[u8], at: usize, low: usize, top: u8) -> LengthRead
     requires { ⌜ (at ≤ length (now b)) × (4 ≤ low) ⌝ }
-    ensures { λ r. ⌜ r ≡ lengthOf low (drop at (now (b .entry))) ⌝ }
+    ensures { λ r. ⌜ r ≡ lengthOf top low (drop at (now (b .entry))) ⌝ }
 {
     let left = b.len() - at;
     if left < 4 {
@@ -151,7 +153,7 @@ fn length_word(b: &[u8], at: usize, low: usize) -> LengthRead
     if length > left {
         return LengthRead::NoLength;
     }
-    if b[at + 2] != 0 {
+    if b[at + 2] > top {
         return LengthRead::NoLength;
     }
     if b[at + 3] != 0 {
@@ -176,11 +178,11 @@ pub fn start(form: Form, b: &[u8]) -> StartRead
     }
 }
 
-// In FV.
-fn variable_start(b: &[u8]) -> StartRead
+// In FV, and in FS.
+pub fn variable_start(b: &[u8]) -> StartRead
     ensures { λ r. ⌜ r ≡ variableStart (now (b .entry)) ⌝ }
 {
-    let word = length_word(b, 0, 4);
+    let word = length_word(b, 0, 4, 0);
     match word {
         LengthRead::Length { length } => {
             if length == b.len() {
@@ -206,7 +208,7 @@ pub fn piece(form: Form, b: &[u8], c: Cursor) -> PieceRead
     let format = form.format;
     match format {
         Format::FF => fixed_piece(form.n, at, end),
-        Format::FV => variable_piece(b, at),
+        Format::FV => variable_piece(b, at, 0),
         Format::FU => PieceRead::Piece {
             place: at,
             length: end - at,
@@ -235,12 +237,12 @@ fn fixed_piece(n: usize, at: usize, end: usize) -> PieceRead
     }
 }
 
-// In FV: the data behind the record's word, whose length counts its own 4 bytes.
-fn variable_piece(b: &[u8], at: usize) -> PieceRead
+// In FV, and in FS, where the third byte of the word is a code: the data behind the word, whose length counts its own 4 bytes.
+fn variable_piece(b: &[u8], at: usize, top: u8) -> PieceRead
     requires { ⌜ at < length (now b) ⌝ }
-    ensures { λ r. ⌜ r ≡ variablePiece (now (b .entry)) at ⌝ }
+    ensures { λ r. ⌜ r ≡ wordedIn top (now (b .entry)) at ⌝ }
 {
-    let word = length_word(b, at, 5);
+    let word = length_word(b, at, 5, top);
     match word {
         LengthRead::Length { length } => PieceRead::Piece {
             place: at + 4,
@@ -250,6 +252,16 @@ fn variable_piece(b: &[u8], at: usize) -> PieceRead
         },
         LengthRead::NoLength => PieceRead::Bad,
     }
+}
+
+// The segment at a place: the third byte of its word is its code, 0 to 3.
+pub fn segment(b: &[u8], c: Cursor) -> PieceRead
+    ensures { λ r. ⌜ r ≡ wordedIn 3 (now (b .entry)) (c .at) ⌝ }
+{
+    if c.at >= b.len() {
+        return PieceRead::End;
+    }
+    variable_piece(b, c.at, 3)
 }
 
 // What a block is read as: so many records, or it breaks its rule.
@@ -410,13 +422,22 @@ pub fn put_word(out: &mut [u8], at: usize, value: usize)
     put_four(out, at, a, b, c, d);
 }
 
-// A length of a record or block in FV: 2 bytes, and 2 zero bytes.
+// The word of a segment: its length in 2 bytes, its code, and a zero byte.
+pub fn put_coded_word(out: &mut [u8], at: usize, code: u8, size: usize)
+    requires { ⌜ at + 4 ≤ length (now out) ⌝ }
+    requires { ⌜ size < 65536 ⌝ }
+    ensures { λ _. ⌜ now (out .exit) ≡ over at (codedWord code size) (now (out .entry)) ⌝ }
+{
+    let a = (size / 256) as u8;
+    let b = (size % 256) as u8;
+    put_four(out, at, a, b, code, 0);
+}
+
+// A length of a record or block in FV, and of a block in FS: a word of code 0.
 pub fn put_length_word(out: &mut [u8], at: usize, size: usize)
     requires { ⌜ at + 4 ≤ length (now out) ⌝ }
     requires { ⌜ size < 65536 ⌝ }
     ensures { λ _. ⌜ now (out .exit) ≡ over at (lengthWord size) (now (out .entry)) ⌝ }
 {
-    let a = (size / 256) as u8;
-    let b = (size % 256) as u8;
-    put_four(out, at, a, b, 0, 0);
+    put_coded_word(out, at, 0, size);
 }

@@ -10,7 +10,7 @@ sub-left : tie.Need-sub-left
 sub-left c = search needs
 
 returns : tie.Need-returns
-returns c = let a = c .before .before .args in word-short (a .low) (now (a .b)) (a .at) (omega arith) (omega arith)
+returns c = let a = c .before .before .args in word-short (a .top) (a .low) (now (a .b)) (a .at) (omega arith) (omega arith)
 
 shared-slice-read-wide : tie.Need-shared-slice-read-wide
 shared-slice-read-wide c = search needs
@@ -34,10 +34,10 @@ add-length : tie.Need-add-length
 add-length c = search needs
 
 returns-2 : tie.Need-returns-2
-returns-2 c = let a = c .before .before .before .before .before .before .before .args in word-low (a .low) (now (a .b)) (a .at) _ (omega arith) (c .if2 .taken)
+returns-2 c = let a = c .before .before .before .before .before .before .before .args in word-low (a .top) (a .low) (now (a .b)) (a .at) _ (omega arith) (c .if2 .taken)
 
 returns-3 : tie.Need-returns-3
-returns-3 c = let a = c .before .before .before .before .before .before .before .before .args in word-high (a .low) (now (a .b)) (a .at) _ (omega arith) (c .if3 .taken)
+returns-3 c = let a = c .before .before .before .before .before .before .before .before .args in word-high (a .top) (a .low) (now (a .b)) (a .at) _ (omega arith) (c .if3 .taken)
 
 add-if4 : tie.Need-add-if4
 add-if4 c = search needs
@@ -46,7 +46,7 @@ shared-slice-read-if4 : tie.Need-shared-slice-read-if4
 shared-slice-read-if4 c = search needs
 
 returns-4 : tie.Need-returns-4
-returns-4 c = let a = c .before .before .before .before .before .before .before .before .before .before .args in word-third (a .low) (now (a .b)) (a .at) (c .if4 .taken)
+returns-4 c = let a = c .before .before .before .before .before .before .before .before .before .before .args in word-third (a .top) (a .low) (now (a .b)) (a .at) (c .if4 .taken)
 
 add-if5 : tie.Need-add-if5
 add-if5 c = search needs
@@ -55,10 +55,10 @@ shared-slice-read-if5 : tie.Need-shared-slice-read-if5
 shared-slice-read-if5 c = search needs
 
 returns-5 : tie.Need-returns-5
-returns-5 c = let a = c .before .before .before .before .before .before .before .before .before .before .before .before .args in word-fourth (a .low) (now (a .b)) (a .at) (c .if5 .taken)
+returns-5 c = let a = c .before .before .before .before .before .before .before .before .before .before .before .before .args in word-fourth (a .top) (a .low) (now (a .b)) (a .at) (c .if5 .taken)
 
 returns-6 : tie.Need-returns-6
-returns-6 c = let a = c .before .before .before .before .before .before .before .before .before .before .before .before .args in word-good (a .low) (now (a .b)) (a .at) _ (omega arith) (c .before .before .before .before .before .if2 .left) (c .before .before .before .before .if3 .left) (c .before .before .if4 .left) (c .if5 .left)
+returns-6 c = let a = c .before .before .before .before .before .before .before .before .before .before .before .before .args in word-good (a .top) (a .low) (now (a .b)) (a .at) _ (omega arith) (c .before .before .before .before .before .if2 .left) (c .before .before .before .before .if3 .left) (c .before .before .if4 .left) (c .if5 .left)
 
 pub length-word-spec : {M : Type 1} → statement M
 length-word-spec =

@@ -33,7 +33,7 @@ returns-2 : tie.Need-returns-2
 returns-2 c = let a = c .before .before .before .before .before .args in c .fixed-piece .ensures ∙ fixed-here (a .form .n) (now (a .b)) (a .c .at) (c .before .before .before .if1 .left) ∙ ap (λ f. pieceIn (formatOf f) (a .form .n) (now (a .b)) (a .c .at)) (sym (c .before .enum-told .given .1))
 
 returns-3 : tie.Need-returns-3
-returns-3 c = let a = c .before .before .before .before .before .args in c .variable-piece .ensures ∙ variable-here (a .form .n) (now (a .b)) (a .c .at) ∙ ap (λ f. pieceIn (formatOf f) (a .form .n) (now (a .b)) (a .c .at)) (sym (c .before .enum-told2 .given .1))
+returns-3 c = let a = c .before .before .before .before .before .args in c .variable-piece .ensures ∙ variable-here (a .form .n) (now (a .b)) (a .c .at) (c .before .before .before .if1 .left) ∙ ap (λ f. pieceIn (formatOf f) (a .form .n) (now (a .b)) (a .c .at)) (sym (c .before .enum-told2 .given .1))
 
 returns-4 : tie.Need-returns-4
 returns-4 c = let a = c .before .before .before .before .args in undefined-piece (a .form .n) (now (a .b)) (a .c .at) (c .before .before .if1 .left) ∙ ap (λ f. pieceIn (formatOf f) (a .form .n) (now (a .b)) (a .c .at)) (sym (c .enum-told3 .given .1))

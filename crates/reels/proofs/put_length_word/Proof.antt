@@ -1,25 +1,21 @@
--- The two bytes of the length and two zero bytes are its word.
-use mathlib.Core.Path.{_∙_}
 use borrow.Author.Needs.{needs}
-use Rattle.reels.proofs.WordsLaws.{four-length}
 use Rattle.reels.proofs.put_length_word.Statement.{statement}
 use Rattle.reels.proofs.put_length_word.Tie as tie
+use Rattle.reels.proofs.put_length_word.Reads as reads
+use Rattle.reels.proofs.put_length_word.Lts as lts
+use Rattle.reels.proofs.put_coded_word.Reads as put-coded-word-reads
 
-cast-a : tie.Need-cast-a
-cast-a c = search needs
+-- src/lib.rt:442:5
+put-coded-word-requires : tie.Need-put-coded-word-requires
+put-coded-word-requires c κs = search needs
 
-cast-b : tie.Need-cast-b
-cast-b c = search needs
-
-put-four-requires : tie.Need-put-four-requires
-put-four-requires c κs = search needs
-
+-- src/lib.rt:437:1
 same-length : tie.Need-same-length
 same-length c = search needs
 
+-- src/lib.rt:437:1
 returns : tie.Need-returns
-returns c = c .before .before .put-four .ensures ∙ four-length _ _ _
+returns c = ?
 
 pub put-length-word-spec : {M : Type 1} → statement M
-put-length-word-spec =
-    tie.close (tie.spec cast-a cast-b put-four-requires same-length returns)
+put-length-word-spec = tie.close (tie.spec put-coded-word-requires same-length returns)

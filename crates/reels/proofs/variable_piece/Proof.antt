@@ -1,4 +1,4 @@
--- The record's word, and the piece behind it.
+-- The word, and the piece behind it.
 use mathlib.Core.Path.{_≡_, sym, _∙_}
 use Prim.Native.Nat.{_+_, _≤_}
 use native.Mathlib.Omega.{arith}
@@ -11,13 +11,13 @@ use Rattle.reels.proofs.PiecesLaws.{length-within, variable-piece, vari
 use Rattle.reels.proofs.variable_piece.Statement.{statement}
 use Rattle.reels.proofs.variable_piece.Tie as tie
 
-a-word : (c : tie.After-word) → lengthOf 5 (drop (c .before .before .before .before .args .at) (now (c .before .before .before .before .args .b))) ≡ Length (c .word .given .0 .0)
+a-word : (c : tie.After-word) → lengthOf (c .before .before .before .before .args .top) 5 (drop (c .before .before .before .before .args .at) (now (c .before .before .before .before .args .b))) ≡ Length (c .word .given .0 .0)
 a-word c = sym (c .before .before .length-word .ensures) ∙ c .word .given .1
 
 within : (c : tie.After-word) → (5 ≤ c .word .given .0 .0) × (c .before .before .before .before .args .at + c .word .given .0 .0 ≤ length (now (c .before .before .before .before .args .b)))
 within c =
     let a = c .before .before .before .before .args in
-    let w = length-within 5 (drop (a .at) (now (a .b))) _ (a-word c) in
+    let w = length-within (a .top) 5 (drop (a .at) (now (a .b))) _ (a-word c) in
     let p = c .before .before .before .before .pre in
     omega (arith, length-drop (a .at) (now (a .b)))
 
@@ -49,10 +49,10 @@ enum-told : tie.Need-enum-told
 enum-told c = search needs
 
 returns : tie.Need-returns
-returns c = let a = c .before .before .before .before .before .before .before .args in variable-piece (now (a .b)) (a .at) _ _ (c .before .before .before .before .before .before .before .pre) (a-word (c .before .before .before)) (c .wide .ensures .0)
+returns c = let a = c .before .before .before .before .before .before .before .args in variable-piece (a .top) (now (a .b)) (a .at) _ _ (c .before .before .before .before .before .before .before .pre) (a-word (c .before .before .before)) (c .wide .ensures .0)
 
 returns-2 : tie.Need-returns-2
-returns-2 c = let a = c .before .before .before .before .args in variable-bad (now (a .b)) (a .at) (c .before .before .before .before .pre) (sym (c .before .before .length-word .ensures) ∙ c .enum-told .given .1)
+returns-2 c = let a = c .before .before .before .before .args in variable-bad (a .top) (now (a .b)) (a .at) (c .before .before .before .before .pre) (sym (c .before .before .length-word .ensures) ∙ c .enum-told .given .1)
 
 pub variable-piece-spec : {M : Type 1} → statement M
 variable-piece-spec =
