@@ -1,19 +1,15 @@
+-- At the end there is none; else the piece behind a word of code 3 at most.
 use borrow.Author.Needs.{needs}
+use Rattle.reels.proofs.PiecesLaws.{worded-end}
 use Rattle.reels.proofs.segment.Statement.{statement}
 use Rattle.reels.proofs.segment.Tie as tie
-use Rattle.reels.proofs.segment.Reads as reads
-use Rattle.reels.proofs.segment.Lts as lts
-use Rattle.reels.proofs.variable_piece.Reads as variable-piece-reads
 
--- src/lib.rt:262:9
 returns : tie.Need-returns
-returns c = ?
+returns c = worded-end _ _ _ (c .if1 .taken)
 
--- src/lib.rt:264:5
 variable-piece-requires : tie.Need-variable-piece-requires
 variable-piece-requires c κs = search needs
 
--- src/lib.rt:258:1
 returns-2 : tie.Need-returns-2
 returns-2 c = search needs
 
