@@ -19,6 +19,7 @@ use Rattle.rules.proofs.SpannedSteps.{headedTo-short, walkAt, walkAt-end, walkA
 use Rattle.rules.proofs.BlockSteps.{pieces-start, pieces-end, good-inside, pieces-good, pieces-bad}
 use Rattle.rules.proofs.PieceLaws.{takes-some, pieces-none}
 use Rattle.reels.specs.Pieces.{lengthOf, startIn, variableStart, found, pieceIn, wordedIn, fixedPiece}
+use Rattle.reels.specs.declared.Cursor.{Cursor}
 use Rattle.reels.specs.declared.LengthRead.the-variants.{Length, NoLength}
 use Rattle.reels.specs.declared.StartRead.{StartRead}
 use Rattle.reels.specs.declared.StartRead.the-variants.{From, NoStart}
@@ -115,6 +116,21 @@ variable-other b v e f =
 pub variable-none : (b : List ℕ) → lengthOf 0 4 b ≡ NoLength → NoStart ≡ variableStart b
 variable-none b e = start-bad fv b (rw (none-told 0 4 b e))
 
+-- what a reading says of the block's word
+pub start-told : (b : List ℕ) (c : Cursor) → variableStart b ≡ From c → (goodStart fv b ≡ true) × (c .at ≡ 4)
+start-told b c e = go (goodStart fv b) refl
+  where
+    go : (t : Bool) → goodStart fv b ≡ t → (goodStart fv b ≡ true) × (c .at ≡ 4)
+    go true t = let e′ : From (record { at = 4 }) ≡ From c = start-good fv b t ∙ e in let q : record { at = 4 } ≡ c = cc in (t, ap (λ (x : Cursor). x .at) (sym q))
+    go false t = let e′ : NoStart ≡ From c = start-bad fv b t ∙ e in let z : _≡_ {A = ℕ} 0 1 = cc in absurd (omega arith)
+
+pub start-untold : (b : List ℕ) → variableStart b ≡ NoStart → goodStart fv b ≡ false
+start-untold b e = go (goodStart fv b) refl
+  where
+    go : (t : Bool) → goodStart fv b ≡ t → goodStart fv b ≡ false
+    go true t = let e′ : From (record { at = 4 }) ≡ NoStart = start-good fv b t ∙ e in let z : _≡_ {A = ℕ} 0 1 = cc in absurd (omega arith)
+    go false t = t
+
 -- ---- the piece at a place
 
 module _ (f : Format) (n : ℕ) (b : List ℕ) (i : ℕ) where
@@ -176,6 +192,29 @@ variable-piece top b i v t l e x =
 
 pub variable-bad : (top : ℕ) (b : List ℕ) (i : ℕ) → i < length b → lengthOf top 5 (drop i b) ≡ NoLength → Bad ≡ wordedIn top b i
 variable-bad top b i l e = worded-bad top b i l (none-told top 5 (drop i b) e)
+
+-- what a reading says of the word
+module _ (top : ℕ) (b : List ℕ) (i : ℕ) where
+  pub worded-told : (place size third : ℕ) (next : Cursor) → wordedIn top b i ≡ Found place size third next
+      → (i < length b) × (headedTo top 5 (drop i b) ≡ true) × (found (pieceAt i (drop i b)) ≡ Found place size third next)
+  worded-told place size third next e = go (leb (length b) i) refl (headedTo top 5 (drop i b)) refl
+    where
+      go : (t : Bool) → leb (length b) i ≡ t → (u : Bool) → headedTo top 5 (drop i b) ≡ u
+          → (i < length b) × (headedTo top 5 (drop i b) ≡ true) × (found (pieceAt i (drop i b)) ≡ Found place size third next)
+      go true t u h = let z : End ≡ Found place size third next = worded-end top b i (leb-true (length b) i t) ∙ e in let y : _≡_ {A = ℕ} 0 1 = cc in absurd (omega arith)
+      go false t true h = let l = leb-false (length b) i t in (l, h, worded-good top b i l h ∙ e)
+      go false t false h = let z : Bad ≡ Found place size third next = worded-bad top b i (leb-false (length b) i t) h ∙ e in let y : _≡_ {A = ℕ} 0 1 = cc in absurd (omega arith)
+
+  pub worded-untold : wordedIn top b i ≡ Bad → (i < length b) × (headedTo top 5 (drop i b) ≡ false)
+  worded-untold e = go (leb (length b) i) refl (headedTo top 5 (drop i b)) refl
+    where
+      go : (t : Bool) → leb (length b) i ≡ t → (u : Bool) → headedTo top 5 (drop i b) ≡ u → (i < length b) × (headedTo top 5 (drop i b) ≡ false)
+      go true t u h = let z : End ≡ Bad = worded-end top b i (leb-true (length b) i t) ∙ e in let y : _≡_ {A = ℕ} 0 1 = cc in absurd (omega arith)
+      go false t true h =
+          let z : found (pieceAt i (drop i b)) ≡ Bad = worded-good top b i (leb-false (length b) i t) h ∙ e in
+          let y : _≡_ {A = ℕ} 0 1 = cc in
+          absurd (omega arith)
+      go false t false h = (leb-false (length b) i t, h)
 
 -- in FV the third byte is 0
 pub variable-here : (n : ℕ) (b : List ℕ) (i : ℕ) → i < length b → wordedIn 0 b i ≡ pieceIn fv n b i
