@@ -1,0 +1,3 @@
+pub mod TurnsLaws
+pub mod ReadingLaws
+pub mod OnlyOne
