@@ -1,3 +1,4 @@
 pub mod TurnsLaws
 pub mod ReadingLaws
+pub mod SpannedTold
 pub mod OnlyOne

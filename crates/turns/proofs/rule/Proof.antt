@@ -1,6 +1,5 @@
 -- By the tests of the block's length and its own word, and what its segments say.
-use mathlib.Core.Path.{_≡_, sym, _∙_}
-use native.Mathlib.Omega.{arith}
+use mathlib.Core.Path.{sym, _∙_}
 use borrow.Author.Needs.{needs}
 use denote.Ref.{now}
 use Rattle.turns.proofs.TurnsLaws.{rule-long, rule-short, rule-start, start-inside, rule-walked}
