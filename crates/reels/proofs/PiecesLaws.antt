@@ -9,7 +9,7 @@ use lib.Dec.{ltb, leb}
 use lib.ListN.{length, drop, getD, length-drop}
 use lib.Seq.{getD-drop}
 use borrow.Author.Tests.{le-leb, lt-leb, lt-ltb, le-ltb, eq-eqb, ne-eqb, leb-true, leb-false, ltb-true, ltb-false}
-use Rattle.rules.specs.Grammar.{Format, ff, fv, fu}
+use Rattle.rules.specs.Grammar.{Format, ff, fv, fu, fsp}
 use Rattle.rules.specs.Blocks.{Piece, wordLength, headedTo, withPiece, piecesIn}
 use Rattle.rules.specs.Output.{cost}
 use Rattle.rules.specs.ReelPlaces.{pieceAt, piecesAt, pieceFrom, goodFrom, behind, goodStart}
@@ -305,6 +305,10 @@ module _ (top : ℕ) (b : List ℕ) (i : ℕ) where
           let d = length-drop i b in
           subst (further i (length b)) (worded-good top b i l h) (omega arith, refl, omega (arith, w .least), omega (arith, w .least, w .most))
       go false t false h = let l = leb-false (length b) i t in subst (further i (length b)) (worded-bad top b i l h) l
+
+-- in FS no piece is a record by itself
+pub spanned-piece : (n : ℕ) (b : List ℕ) (i : ℕ) → i < length b → Bad ≡ pieceIn fsp n b i
+spanned-piece n b i l = piece-bad fsp n b i l refl
 
 -- what the start says of the pieces of a block
 abbrev pub begun : Format → ℕ → List ℕ → StartRead → Option (List Piece)

@@ -162,7 +162,7 @@ fn length_word(b: &[u8], at: usize, low: usize, top: u8) -> LengthRead
     LengthRead::Length { length }
 }
 
-// Where the pieces of a block begin: in FV behind the block's word, which says the block's length.
+// Where the pieces of a block begin: in FV behind the block's word, which says the block's length. In FS a block has no records by itself (`segment`).
 pub fn start(form: Form, b: &[u8]) -> StartRead
     ensures { λ r. ⌜ r ≡ startOf form (now (b .entry)) ⌝ }
 {
@@ -175,6 +175,7 @@ pub fn start(form: Form, b: &[u8]) -> StartRead
         Format::FU => StartRead::From {
             cursor: Cursor { at: 0 },
         },
+        Format::FS => StartRead::NoStart,
     }
 }
 
@@ -215,6 +216,7 @@ pub fn piece(form: Form, b: &[u8], c: Cursor) -> PieceRead
             third: 0,
             next: Cursor { at: end },
         },
+        Format::FS => PieceRead::Bad,
     }
 }
 
@@ -362,6 +364,7 @@ fn rule(form: Form, b: &[u8]) -> BlockRead
         Format::FF => divided(form, b),
         Format::FV => walked(form, b),
         Format::FU => walked(form, b),
+        Format::FS => walked(form, b),
     }
 }
 

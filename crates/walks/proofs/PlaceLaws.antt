@@ -1,7 +1,7 @@
 -- The blocks of a reel: a part that is not empty lies in the list between its two offsets, behind the last block there is none, and the data of a piece
 -- of a part, and its word, are parts of the reel. By the tests of the two words.
 use mathlib.Core.Path.{_≡_, refl, ap, sym, _∙_}
-use mathlib.Core.Bool.{Bool, true, false}
+use mathlib.Core.Bool.{Bool, true, false, false≢true}
 use mathlib.Core.List.{List}
 use Prim.Native.Nat.{ℕ, suc, _+_, _-_, _*_, _≤_, _<_}
 use native.Mathlib.Omega.{arith}
@@ -9,7 +9,7 @@ use lib.Dec.{leb}
 use lib.ListN.{length, take, drop, getD, length-drop}
 use lib.Seq.{slice, length-slice, take-take, drop-drop, getD-take, getD-drop}
 use borrow.Author.Tests.{leb-true, leb-false}
-use Rattle.rules.specs.Grammar.{Format, ff, fv, fu}
+use Rattle.rules.specs.Grammar.{Format, ff, fv, fu, fsp}
 use Rattle.rules.specs.Reel.{blockCount, isReel}
 use Rattle.rules.specs.Blocks.{Piece, dataOf}
 use Rattle.rules.specs.Output.{cost}
@@ -88,3 +88,4 @@ module _ (n : ℕ) (s b : List ℕ) (a e i : ℕ) (is : b ≡ slice a e s) (ends
       let v : getD s (a + i + 1) 0 ≡ getD s (a + (i + 1)) 0 = ap (λ (k : ℕ). getD s k 0) (let k : a + i + 1 ≡ a + (i + 1) = omega arith in k) in
       (refl, omega (arith, w .least, wordLength-at b i, z, y, v))
   piece-ends fu g = (omega arith, omega arith)
+  piece-ends fsp g = absurd (false≢true g)

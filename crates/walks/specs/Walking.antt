@@ -4,7 +4,7 @@ use mathlib.Core.List.{List}
 use Prim.Native.Nat.{ℕ, zero, suc, _+_, _-_, _*_, _≤_, _<_}
 use lib.Dec.{ltb, leb}
 use lib.ListN.{length, getD}
-use Rattle.rules.specs.Grammar.{Format, ff, fv, fu}
+use Rattle.rules.specs.Grammar.{Format, ff, fv, fu, fsp}
 use Rattle.rules.specs.Output.{cost}
 use Rattle.rules.specs.Reel.{blockCount}
 use Rattle.rules.specs.ReelPlaces.{wordAt, offsetAt}
@@ -39,6 +39,7 @@ abbrev pub endIn : Format → ℕ → List ℕ → ℕ → ℕ → ℕ
 endIn ff n s at end = at + n
 endIn fv n s at end = at + (256 * getD s at 0 + getD s (at + 1) 0)
 endIn fu n s at end = end
+endIn fsp n s at end = end
 
 -- the record at the walk's place, which ends at a place
 abbrev pub recordTo : Form → List ℕ → Walk → ℕ → RecordRead

@@ -1,4 +1,5 @@
-// The records of a reel one after the other, through all its blocks: a walk that goes by value, so that a pass over the records is one loop.
+// The records of a reel one after the other, through all its blocks: a walk that goes by value, so that a pass over the records is one loop. Not in FS, where no
+// record is in a block by itself.
 // Document 01, "Blocks and records". The header and the rule of each block were asked when the reel was read: nothing is asked again here.
 ghost use mathlib.Core.Path.{_≡_};
 ghost use Prim.Native.Nat.{_+_, _≤_, _<_};
@@ -38,6 +39,7 @@ fn first_place(format: Format) -> usize
         Format::FF => 0,
         Format::FV => 4,
         Format::FU => 0,
+        Format::FS => 0,
     }
 }
 
@@ -111,6 +113,7 @@ fn record_end(form: Form, s: &[u8], at: usize, end: usize) -> usize
         Format::FF => at + form.n,
         Format::FV => at + (256 * wide(s[at]) + wide(s[at + 1])),
         Format::FU => end,
+        Format::FS => end,
     }
 }
 

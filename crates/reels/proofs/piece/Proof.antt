@@ -4,7 +4,7 @@ use borrow.Author.Needs.{needs}
 use denote.Ref.{now}
 use Rattle.terms.specs.Meaning.{formatOf}
 use Rattle.reels.specs.Pieces.{pieceIn}
-use Rattle.reels.proofs.PiecesLaws.{piece-end, fixed-here, variable-here, undefined-piece}
+use Rattle.reels.proofs.PiecesLaws.{piece-end, fixed-here, variable-here, undefined-piece, spanned-piece}
 use Rattle.reels.proofs.piece.Statement.{statement}
 use Rattle.reels.proofs.piece.Tie as tie
 
@@ -29,6 +29,9 @@ enum-told-3 c = search needs
 sub-t9 : tie.Need-sub-t9
 sub-t9 c = search needs
 
+enum-told-4 : tie.Need-enum-told-4
+enum-told-4 c = search needs
+
 returns-2 : tie.Need-returns-2
 returns-2 c = let a = c .before .before .before .before .before .args in c .fixed-piece .ensures ∙ fixed-here (a .form .n) (now (a .b)) (a .c .at) (c .before .before .before .if1 .left) ∙ ap (λ f. pieceIn (formatOf f) (a .form .n) (now (a .b)) (a .c .at)) (sym (c .before .enum-told .given .1))
 
@@ -37,6 +40,9 @@ returns-3 c = let a = c .before .before .before .before .before .args in c .vari
 
 returns-4 : tie.Need-returns-4
 returns-4 c = let a = c .before .before .before .before .args in undefined-piece (a .form .n) (now (a .b)) (a .c .at) (c .before .before .if1 .left) ∙ ap (λ f. pieceIn (formatOf f) (a .form .n) (now (a .b)) (a .c .at)) (sym (c .enum-told3 .given .1))
+
+returns-5 : tie.Need-returns-5
+returns-5 c = let a = c .before .before .before .before .args in spanned-piece (a .form .n) (now (a .b)) (a .c .at) (c .before .before .if1 .left) ∙ ap (λ f. pieceIn (formatOf f) (a .form .n) (now (a .b)) (a .c .at)) (sym (c .enum-told4 .given .1))
 
 pub piece-spec : {M : Type 1} → statement M
 piece-spec =
@@ -49,6 +55,8 @@ piece-spec =
     variable-piece-requires
     enum-told-3
     sub-t9
+    enum-told-4
     returns-2
     returns-3
-    returns-4)
+    returns-4
+    returns-5)

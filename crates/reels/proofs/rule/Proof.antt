@@ -26,6 +26,12 @@ enum-told-3 c = search needs
 walked-requires-2 : tie.Need-walked-requires-2
 walked-requires-2 c κs = search needs
 
+enum-told-4 : tie.Need-enum-told-4
+enum-told-4 c = search needs
+
+walked-requires-3 : tie.Need-walked-requires-3
+walked-requires-3 c κs = search needs
+
 returns-2 : tie.Need-returns-2
 returns-2 c = search needs
 
@@ -34,6 +40,9 @@ returns-3 c = search needs
 
 returns-4 : tie.Need-returns-4
 returns-4 c = search needs
+
+returns-5 : tie.Need-returns-5
+returns-5 c = search needs
 
 pub rule-spec : {M : Type 1} → statement M
 rule-spec =
@@ -46,6 +55,9 @@ rule-spec =
     walked-requires
     enum-told-3
     walked-requires-2
+    enum-told-4
+    walked-requires-3
     returns-2
     returns-3
-    returns-4)
+    returns-4
+    returns-5)

@@ -2,10 +2,10 @@
 use mathlib.Core.Path.{sym, ap, _∙_, refl}
 use borrow.Author.Needs.{needs}
 use denote.Ref.{now}
-use Rattle.rules.specs.Grammar.{ff, fu}
+use Rattle.rules.specs.Grammar.{ff, fu, fsp}
 use Rattle.terms.specs.Meaning.{formatOf}
 use Rattle.reels.specs.Pieces.{startIn}
-use Rattle.reels.proofs.PiecesLaws.{start-good}
+use Rattle.reels.proofs.PiecesLaws.{start-good, start-bad}
 use Rattle.reels.proofs.start.Statement.{statement}
 use Rattle.reels.proofs.start.Tie as tie
 
@@ -30,6 +30,12 @@ returns-2 c = let a = c .before .before .before .before .args in c .variable-sta
 returns-3 : tie.Need-returns-3
 returns-3 c = let a = c .before .before .before .args in start-good fu (now (a .b)) refl ∙ ap (λ f. startIn (formatOf f) (now (a .b))) (sym (c .enum-told3 .given .1))
 
+enum-told-4 : tie.Need-enum-told-4
+enum-told-4 c = search needs
+
+returns-4 : tie.Need-returns-4
+returns-4 c = let a = c .before .before .before .args in start-bad fsp (now (a .b)) refl ∙ ap (λ f. startIn (formatOf f) (now (a .b))) (sym (c .enum-told4 .given .1))
+
 pub start-spec : {M : Type 1} → statement M
 start-spec =
     tie.close
@@ -38,6 +44,8 @@ start-spec =
     enum-told-2
     variable-start-requires
     enum-told-3
+    enum-told-4
     returns
     returns-2
-    returns-3)
+    returns-3
+    returns-4)

@@ -52,6 +52,9 @@ add-result-3 c = search needs
 enum-told-3 : tie.Need-enum-told-3
 enum-told-3 c = search needs
 
+enum-told-4 : tie.Need-enum-told-4
+enum-told-4 c = search needs
+
 returns : tie.Need-returns
 returns c =
     let a = c .before .before .before .before .args in
@@ -70,6 +73,9 @@ returns-2 c =
 returns-3 : tie.Need-returns-3
 returns-3 c = search needs
 
+returns-4 : tie.Need-returns-4
+returns-4 c = search needs
+
 pub record-end-spec : {M : Type 1} → statement M
 record-end-spec =
     tie.close
@@ -86,6 +92,8 @@ record-end-spec =
     add-result-2
     add-result-3
     enum-told-3
+    enum-told-4
     returns
     returns-2
-    returns-3)
+    returns-3
+    returns-4)
