@@ -1,0 +1,182 @@
+// The segments of a good reel one after the other, through all its blocks: the length of each record, and the data copied straight from where it lies.
+// Document 02, order 6. The header and the rule of each block were asked when the reel was read: nothing is asked again here.
+ghost use mathlib.Core.Path.{_≡_};
+ghost use Prim.Native.Nat.{_+_, _≤_, min};
+ghost use lib.ListN.{length, take, drop};
+ghost use Rattle.rules.specs.Halves.{over};
+ghost use Rattle.reels.specs.Header.{partAt};
+ghost use Rattle.segments.specs.Spots.{noSegment, readAt, nextOf, onData, passedBy};
+ghost use Rattle.segments.specs.Promise.{Takeable, Taken, Coming, Comes, Copyable, Copied};
+use reels::Cursor;
+use reels::PieceRead;
+
+// A place in the data of a reel: bytes `from` to `to` of block `block` (from 0) are left of the segment read last, and the next segment's word stands at `to`,
+// or, where `to` is the block's end, at place 4 of the next block.
+pub struct Spot {
+    pub block: usize,
+    pub from: usize,
+    pub to: usize,
+}
+
+// A record's length, and the spot behind it.
+pub struct RecordAhead {
+    pub size: usize,
+    pub behind: Spot,
+}
+
+// A segment, all of whose data is left, and whether it ends its record.
+struct SegmentRead {
+    spot: Spot,
+    ends: bool,
+}
+
+// The segment whose word stands at a place of a block. Nothing is left where there is none.
+fn read_at(s: &[u8], block: usize, at: usize) -> SegmentRead
+    ensures { λ r. ⌜ r ≡ readAt (now (s .entry)) block at ⌝ }
+{
+    let read = reels::segment(reels::block(s, block), Cursor { at });
+    match read {
+        PieceRead::Piece {
+            place,
+            length: _,
+            third,
+            next,
+        } => SegmentRead {
+            spot: Spot {
+                block,
+                from: place,
+                to: next.at,
+            },
+            ends: third % 2 == 0,
+        },
+        PieceRead::End => nothing(block, at),
+        PieceRead::Bad => nothing(block, at),
+    }
+}
+
+// No segment.
+fn nothing(block: usize, at: usize) -> SegmentRead
+    ensures { λ r. ⌜ r ≡ noSegment block at ⌝ }
+{
+    SegmentRead {
+        spot: Spot {
+            block,
+            from: at,
+            to: at,
+        },
+        ends: true,
+    }
+}
+
+// The segment behind a spot: a block's end leads to the first segment of the next block.
+fn next(s: &[u8], v: Spot) -> SegmentRead
+    requires { ⌜ v .block ≤ length (now s) ⌝ }
+    ensures { λ r. ⌜ r ≡ nextOf (now (s .entry)) v ⌝ }
+{
+    let block = v.block;
+    let at = v.to;
+    let b = reels::block(s, block);
+    if at < b.len() {
+        return read_at(s, block, at);
+    }
+    read_at(s, block + 1, 4)
+}
+
+// Behind so many of the bytes that are left of the segment.
+fn passed(v: Spot, n: usize) -> Spot
+    requires { ⌜ v .from + n ≤ v .to ⌝ }
+    ensures { λ r. ⌜ r ≡ passedBy n v ⌝ }
+{
+    Spot {
+        block: v.block,
+        from: v.from + n,
+        to: v.to,
+    }
+}
+
+// The record that begins at a spot: the words of its segments are walked, and nothing is copied.
+pub fn ahead(s: &[u8], v: Spot) -> RecordAhead
+    requires { ⌜ Coming (now s) v ⌝ }
+    ensures { λ r. ⌜ Comes (now (s .entry)) v r ⌝ }
+{
+    let mut at = v;
+    let mut size = 0;
+    loop {
+        let read = next(s, at);
+        let here = read.spot;
+        let left = here.to - here.from;
+        at = passed(here, left);
+        size += left;
+        if read.ends {
+            return RecordAhead { size, behind: at };
+        }
+    }
+}
+
+// Behind so many records.
+pub fn taken(s: &[u8], count: usize) -> Spot
+    requires { ⌜ Takeable (now s) count ⌝ }
+    ensures { λ r. ⌜ Taken (now (s .entry)) count r ⌝ }
+{
+    let mut at = Spot {
+        block: 0,
+        from: 4,
+        to: 4,
+    };
+    let mut number = 0;
+    while number < count {
+        let record = ahead(s, at);
+        at = record.behind;
+        number += 1;
+    }
+    at
+}
+
+// The same spot, or, where nothing is left of its segment, the next segment.
+fn on_data(s: &[u8], v: Spot) -> Spot
+    requires { ⌜ v .block ≤ length (now s) ⌝ }
+    ensures { λ r. ⌜ r ≡ onData (now (s .entry)) v ⌝ }
+{
+    if v.from < v.to {
+        return v;
+    }
+    let read = next(s, v);
+    read.spot
+}
+
+fn smaller(a: usize, b: usize) -> usize
+    ensures { λ r. ⌜ r ≡ min a b ⌝ }
+{
+    if a < b {
+        return a;
+    }
+    b
+}
+
+// So many of the bytes that are left of a segment, to the front of out.
+fn put(s: &[u8], v: Spot, n: usize, out: &mut [u8])
+    requires { ⌜ (v .from + n ≤ length (partAt (now s) (v .block))) × (n ≤ 65536) × (n ≤ length (now out)) ⌝ }
+    ensures { λ _. ⌜ now (out .exit) ≡ over 0 (take n (drop (v .from) (partAt (now (s .entry)) (v .block)))) (now (out .entry)) ⌝ }
+{
+    let b = reels::block(s, v.block);
+    let from = v.from;
+    let end = from + n;
+    copies::copy(&b[from..end], out);
+}
+
+// So many bytes of data from a spot on go to the front of out, across segments and blocks; and the spot behind them.
+pub fn copy(s: &[u8], v: Spot, n: usize, out: &mut [u8]) -> Spot
+    requires { ⌜ Copyable (now s) v n (length (now out)) ⌝ }
+    ensures { λ r. ⌜ Copied (now (s .entry)) v n (now (out .entry)) (now (out .exit)) r ⌝ }
+{
+    let mut at = v;
+    let mut done = 0;
+    while done < n {
+        let here = on_data(s, at);
+        let size = smaller(n - done, here.to - here.from);
+        put(s, here, size, &mut out[done..]);
+        at = passed(here, size);
+        done += size;
+    }
+    at
+}
