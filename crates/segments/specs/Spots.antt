@@ -1,9 +1,10 @@
 -- What a spot is answered, for every list of bytes and every spot; and the spot behind so many bytes of data.
 use mathlib.Core.Bool.{Bool, true, false, cond}
 use mathlib.Core.List.{List}
-use Prim.Native.Nat.{ℕ, zero, suc, _+_, _-_, _%_}
+use Prim.Native.Nat.{ℕ, zero, suc, _+_, _%_}
 use lib.Dec.{ltb, eqb}
-use lib.ListN.{length, take, drop}
+use lib.ListN.{length}
+use lib.Seq.{slice}
 use Rattle.reels.specs.Header.{partAt}
 use Rattle.reels.specs.Pieces.{wordedIn}
 use Rattle.reels.specs.declared.PieceRead.{PieceRead}
@@ -45,10 +46,13 @@ abbrev pub spotAfter : List ℕ → ℕ → Spot → Spot
 spotAfter s zero v = v
 spotAfter s (suc n) v = spotAfter s n (passedBy 1 (onData s v))
 
--- before the first segment of a reel
+-- before the first segment of block i, from 0, and of a reel
+abbrev pub blockSpot : ℕ → Spot
+blockSpot i = record { block = i; from = 4; to = 4 }
+
 abbrev pub firstSpot : Spot
-firstSpot = record { block = 0; from = 4; to = 4 }
+firstSpot = blockSpot 0
 
 -- the bytes that are left of the segment
 unfoldable pub bytesAt : List ℕ → Spot → List ℕ
-bytesAt s v = take (v .to - v .from) (drop (v .from) (partAt s (v .block)))
+bytesAt s v = slice (v .from) (v .to) (partAt s (v .block))

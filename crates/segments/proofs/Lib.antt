@@ -1,0 +1,3 @@
+pub mod SegmentLaws
+pub mod SpotLaws
+pub mod CopyLaws
