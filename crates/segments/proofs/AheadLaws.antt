@@ -154,7 +154,7 @@ module _ {s : List ℕ} {v at : Spot} {size : ℕ} (k : Walking s v at size) whe
     after : passedBy (lengthAt (x .spot)) (x .spot) ≡ spotAfter s (size + lengthAt (x .spot)) v
     after =
         sym (after-more s size (lengthAt (x .spot)) v ∙ ap (spotAfter s (lengthAt (x .spot))) (sym (k .is))
-            ∙ after-data s (lengthAt (x .spot)) at (x .spot) (on-next s at x (omega (arith, here .nothing)) e) (omega (arith, walking-some)) (omega (arith, walking-some)))
+        ∙ after-data s (lengthAt (x .spot)) at (x .spot) (on-next s at x (omega (arith, here .nothing)) e) (omega (arith, walking-some)) (omega (arith, walking-some)))
 
     -- it ends the record
     pub walking-end : x .ends ≡ true → (w : Spot) → w ≡ passedBy (lengthAt (x .spot)) (x .spot) → Comes s v (record { size = size + lengthAt (x .spot); behind = w })

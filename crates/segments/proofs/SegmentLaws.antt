@@ -58,7 +58,7 @@ from-first b i ss l e = go (headedTo 3 5 (drop i b)) refl
           more = map (segmentAt b) xs;
           is =
               sym (Option·some-injective (segmentAt b (pieceAt i (drop i b)) ∷ map (segmentAt b) xs) ss
-                  (sym (from-walk b i ∙ ap (segmentsOf b) (walkAt-good 3 b i t ∙ ap (withPiece (pieceAt i (drop i b))) w)) ∙ e));
+              (sym (from-walk b i ∙ ap (segmentsOf b) (walkAt-good 3 b i t ∙ ap (withPiece (pieceAt i (drop i b))) w)) ∙ e));
           next = from-walk b j ∙ ap (segmentsOf b) w;
         }
 

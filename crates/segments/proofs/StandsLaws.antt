@@ -185,9 +185,9 @@ module _ {g : ℕ} {s : List ℕ} {v : Spot} {all : List ℕ} (k : Streams g s v
   bytes-taken n l m =
       let b = partAt s (v .block) in
       sym (ap (take n) (k .is)
-          ∙ take-append-le n (slice (v .from) (v .to) b) (joined (map part (k .segments))) (omega (arith, length-slice (v .from) (v .to) b m))
-          ∙ ap (take n) (slice-taken (v .from) (v .to) b (k .stands .ordered) m)
-          ∙ take-take n (v .to - v .from) (drop (v .from) b) (omega arith))
+      ∙ take-append-le n (slice (v .from) (v .to) b) (joined (map part (k .segments))) (omega (arith, length-slice (v .from) (v .to) b m))
+      ∙ ap (take n) (slice-taken (v .from) (v .to) b (k .stands .ordered) m)
+      ∙ take-take n (v .to - v .from) (drop (v .from) b) (omega arith))
 
   -- on to data
   pub streams-on : 1 ≤ length all → (w : Spot) → w ≡ onData s v → Streams g s w all × (w .from < w .to) × (w .to ≤ length (partAt s (w .block)))
