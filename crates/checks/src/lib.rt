@@ -19,7 +19,8 @@ pub struct Ran {
     pub blocks: usize,
 }
 
-fn refused(number: usize, place: usize) -> Ran
+// A run that is refused.
+pub fn refused(number: usize, place: usize) -> Ran
     ensures { λ r. ⌜ r ≡ refusedRun number place ⌝ }
 {
     Ran {
@@ -32,7 +33,7 @@ fn refused(number: usize, place: usize) -> Ran
 }
 
 // Refusal 15: the output reel is longer than the lent room, or than 65,536.
-fn housed(room: usize, length: usize, records: usize, blocks: usize) -> Ran
+pub fn housed(room: usize, length: usize, records: usize, blocks: usize) -> Ran
     ensures { λ r. ⌜ r ≡ housedRun room length records blocks ⌝ }
 {
     if length > room {

@@ -1,14 +1,13 @@
 -- The blocks so far, of which the last is open: a tally is their measure, and a record goes behind the last or opens the next. By what the tally says of a record.
 use mathlib.Core.Path.{_≡_, refl, ap, sym, _∙_, subst}
 use mathlib.Core.Bool.{Bool, true, false, cond, true≢false}
-use mathlib.Core.List.{List, [], _∷_, _++_, map, append-nil, append-assoc, map-append}
+use mathlib.Core.List.{List, [], _∷_, _++_, map, append-assoc}
 use Prim.Native.Nat.{ℕ, _+_, _≤_}
 use native.Mathlib.Omega.{arith}
 use lib.ListN.{length, length-append}
 use Rattle.rules.specs.Base.{joined}
 use Rattle.rules.specs.Grammar.{Mode, Format, tc, tf, tr, trf}
 use Rattle.rules.specs.Output.{blockOf, cost, total}
-use Rattle.rules.proofs.PartLaws.{joined-append}
 use Rattle.rules.proofs.BlockLaws.{length-block}
 use Rattle.rules.proofs.FillLaws.{total-snoc}
 use Rattle.terms.specs.Meaning.{modeOf}
@@ -18,6 +17,7 @@ use Rattle.fillings.specs.declared.Tally.{Tally}
 use Rattle.fillings.specs.Tallying.{overfillsOf, opensIn, opensOf, tallyOf}
 use Rattle.fillings.proofs.TallyLaws.{tally-opens, tally-behind, over-first, over-later, empty}
 use Rattle.fillings.proofs.Gathering.{gather, gathered}
+use Rattle.fillings.proofs.LaidLaws.{bytes-append, bytes-snoc}
 
 -- ---- the blocks so far
 
@@ -36,17 +36,11 @@ sizeOf f [] = 0
 sizeOf f (r ∷ rs) = total (cost f) (cost f) (r ∷ rs)
 
 module _ (f : Format) (bs : List (List (List ℕ))) where
-  bytes-append : (more : List (List (List ℕ))) → bytesIn f (bs ++ more) ≡ bytesIn f bs ++ bytesIn f more
-  bytes-append more = ap joined (map-append (blockOf f) bs more) ∙ joined-append (map (blockOf f) bs) (map (blockOf f) more)
-
-  pub bytes-snoc : (b : List (List ℕ)) → bytesIn f (bs ++ (b ∷ [])) ≡ bytesIn f bs ++ blockOf f b
-  bytes-snoc b = bytes-append (b ∷ []) ∙ ap (bytesIn f bs ++_) (append-nil (blockOf f b))
-
   length-both : (more : List (List (List ℕ))) → length (bytesIn f (bs ++ more)) ≡ length (bytesIn f bs) + length (bytesIn f more)
-  length-both more = ap length (bytes-append more) ∙ length-append (bytesIn f bs) (bytesIn f more)
+  length-both more = ap length (bytes-append (blockOf f) bs more) ∙ length-append (bytesIn f bs) (bytesIn f more)
 
   pub length-snoc : (b : List (List ℕ)) → length (bytesIn f (bs ++ (b ∷ []))) ≡ length (bytesIn f bs) + total (cost f) (cost f) b
-  length-snoc b = omega (arith, ap length (bytes-snoc b), length-append (bytesIn f bs) (blockOf f b), length-block f b)
+  length-snoc b = omega (arith, ap length (bytes-snoc (blockOf f) bs b), length-append (bytesIn f bs) (blockOf f b), length-block f b)
 
 -- ---- whether a record opens a block, by the size of the one that is open
 

@@ -1,7 +1,9 @@
 // Filling output blocks record by record: what is known along the way are three numbers, and they say whether a record opens a block. Measuring and writing both
 // go by these steps. Document 01, "Blocks and records".
 ghost use mathlib.Core.Path.{_≡_};
+ghost use lib.ListN.{length};
 ghost use Rattle.fillings.specs.Tallying.{overfillsOf, opensOf, tallyOf, Small};
+ghost use Rattle.fillings.specs.Offsets.{offsetPut, OffsetFits};
 use terms::Mode;
 use terms::Task;
 
@@ -57,5 +59,15 @@ pub fn tallied(task: Task, tally: Tally, begins: bool, length: usize) -> Tally
         blocks: tally.blocks,
         size: tally.size + more,
         bytes: tally.bytes + more,
+    }
+}
+
+// Where a record or a segment opens a block, the block's offset goes into the header.
+pub fn put_offset(base: usize, tally: Tally, more: Tally, out: &mut [u8])
+    requires { ⌜ OffsetFits base tally more (length (now out)) ⌝ }
+    ensures { λ _. ⌜ now (out .exit) ≡ offsetPut base tally more (now (out .entry)) ⌝ }
+{
+    if tally.blocks < more.blocks {
+        reels::put_word(out, 4 * more.blocks, base + tally.bytes);
     }
 }

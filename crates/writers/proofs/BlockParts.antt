@@ -11,6 +11,7 @@ use Rattle.rules.proofs.PartLaws.{joined-append}
 use Rattle.rules.proofs.BlockWords.{lengthWord-four}
 use Rattle.rules.proofs.BlockLaws.{length-block}
 use Rattle.rules.proofs.FitSteps.{framed-append}
+use Rattle.fillings.proofs.LaidLaws.{Framing}
 use Rattle.writers.specs.Writing.{sizeWord, pieceOf}
 
 -- ---- a block is its word and its records, each with its word
@@ -19,6 +20,11 @@ abbrev pub bodyOf : Format → List (List ℕ) → List ℕ
 bodyOf ff rs = joined rs
 bodyOf fv rs = framed rs
 bodyOf fu rs = joined rs
+
+pub body-none : (f : Format) → bodyOf f [] ≡ []
+body-none ff = refl
+body-none fv = refl
+body-none fu = refl
 
 pub length-sizeWord : (f : Format) (n : ℕ) → length (sizeWord f n) ≡ cost f
 length-sizeWord ff n = refl
@@ -36,12 +42,28 @@ block-parts fv rs =
     = omega (arith, length-block fv rs, length-append (lengthWord (length (framed rs) + 4)) (framed rs), lengthWord-four (length (framed rs) + 4)) in z)
 block-parts fu rs = refl
 
-pub body-one : (f : Format) (r : List ℕ) → bodyOf f (r ∷ []) ≡ pieceOf f r
-body-one ff r = append-nil r
-body-one fv r = append-nil (lengthWord (length r + 4) ++ r)
-body-one fu r = append-nil r
-
 pub body-snoc : (f : Format) (rs : List (List ℕ)) (r : List ℕ) → bodyOf f (rs ++ (r ∷ [])) ≡ bodyOf f rs ++ pieceOf f r
 body-snoc ff rs r = joined-append rs (r ∷ []) ∙ ap (joined rs ++_) (append-nil r)
 body-snoc fv rs r = framed-append rs (r ∷ []) ∙ ap (framed rs ++_) (append-nil (lengthWord (length r + 4) ++ r))
 body-snoc fu rs r = joined-append rs (r ∷ []) ∙ ap (joined rs ++_) (append-nil r)
+
+-- the sizes of a block, by its records and by its bytes
+pub total-body : (f : Format) (rs : List (List ℕ)) → total (cost f) (cost f) rs ≡ cost f + length (bodyOf f rs)
+total-body f rs =
+    let w = sizeWord f (total (cost f) (cost f) rs) in
+    omega (arith, length-block f rs, ap length (block-parts f rs), length-append w (bodyOf f rs), length-sizeWord f (total (cost f) (cost f) rs))
+
+-- so a block is its word and its pieces
+abbrev pub framing : Format → Framing (List ℕ)
+framing f =
+    record {
+      cost = cost f;
+      sizeWord = sizeWord f;
+      piece = pieceOf f;
+      body = bodyOf f;
+      block = blockOf f;
+      long = length-sizeWord f;
+      nothing = body-none f;
+      behind = body-snoc f;
+      is = λ rs. block-parts f rs ∙ ap (λ (n : ℕ). sizeWord f n ++ bodyOf f rs) (total-body f rs);
+    }

@@ -24,12 +24,14 @@ use Rattle.tasks.specs.Promise.{formOf, lengthOf}
 use Rattle.fillings.specs.declared.Tally.{Tally}
 use Rattle.fillings.specs.Tallying.{opensOf, tallyOf, Small}
 use Rattle.fillings.proofs.TallyLaws.{empty, tally-opens, tally-behind}
-use Rattle.writers.specs.Writing.{sizeWord, pieceOf, offsetPut}
+use Rattle.fillings.specs.Offsets.{offsetPut}
+use Rattle.writers.specs.Writing.{sizeWord, pieceOf}
 use Rattle.fixed.specs.Promise.{blocksIn, Lent}
 use Rattle.writers.specs.Promise.{Writable, NextFits, nextPut, NextPut}
 use Rattle.fillings.proofs.FilledLaws.{allOf, all-done, soFar, bytesIn, sizeOf, length-snoc, least, Filled, filled-start, filled-opens, behind-some, filled-behind}
-use Rattle.writers.proofs.LaidLaws.{laid, laid-nothing, laid-length, laid-ends, laid-opens, laid-behind}
-use Rattle.writers.proofs.RecordLaws.{offset-opens, offset-stays}
+use Rattle.fillings.proofs.LaidLaws.{laid, laid-nothing, laid-length, laid-ends, laid-opens, laid-behind}
+use Rattle.fillings.proofs.OffsetLaws.{offset-opens, offset-stays}
+use Rattle.writers.proofs.BlockParts.{framing, length-piece, total-body}
 use Rattle.fillings.proofs.GatheredLaws.{outs, gathered-is, starts-is}
 use Rattle.fixed.proofs.ReadyLaws.{marksIn, count-is, header-fits, few-blocks, fair-is, out-is}
 use Rattle.writers.proofs.TurnLaws.{walks-first, Turn, width-small, cost-small}
@@ -56,7 +58,7 @@ module _ {task : Task} {xs s : List ℕ} {blocks : ℕ} (old : List ℕ) (y : Le
     pub closed : List (List (List ℕ))
     pub now : List (List ℕ)
     pub filled : Filled (y .ready .p .format) task (outputBlocks (y .ready .p) (y .ready .recs)) closed now t (outs (y .ready .p) rest)
-    pub is : out ≡ laid (y .ready .p .format) (4 * blocks + 8) old (soFar closed now)
+    pub is : out ≡ laid (framing (y .ready .p .format)) (4 * blocks + 8) old (soFar closed now)
 
   pub laying-start : {form : Form} → form ≡ formOf task → {w : Walk} → Taken form s (task .first) w → Laying old w empty
   laying-start e t =
@@ -66,7 +68,7 @@ module _ {task : Task} {xs s : List ℕ} {blocks : ℕ} (old : List ℕ) (y : Le
         closed = [];
         now = [];
         filled = filled-start (p .format) task (outs p (marksIn (y .ready))) (gathered-is (y .ready .is) (y .ready .recs) (y .ready .other)) (starts-is (y .ready .is) (y .ready .recs));
-        is = laid-nothing (p .format) (4 * blocks + 8) old;
+        is = laid-nothing (framing (p .format)) (4 * blocks + 8) old;
       }
 
   -- the blocks so far are among all
@@ -96,8 +98,8 @@ module _ {task : Task} {xs s : List ℕ} {blocks : ℕ} (old : List ℕ) (y : Le
     pub filled : Filled (y .ready .p .format) task (outputBlocks (y .ready .p) (y .ready .recs)) earlier last v more
     pub piece : task .cost + (task .cost + lengthOf task (length r)) ≤ v .size
     pub grows : t .bytes ≤ v .bytes
-    pub put : nextPut task (y .ready .p .fields) r (4 * blocks + 8) t v (laid (y .ready .p .format) (4 * blocks + 8) old (soFar closed now))
-        ≡ laid (y .ready .p .format) (4 * blocks + 8) old (soFar earlier last)
+    pub put : nextPut task (y .ready .p .fields) r (4 * blocks + 8) t v (laid (framing (y .ready .p .format)) (4 * blocks + 8) old (soFar closed now))
+        ≡ laid (framing (y .ready .p .format)) (4 * blocks + 8) old (soFar earlier last)
 
   -- what is put, in the rules' words
   put-is : (t v : Tally) (r out : List ℕ) → nextPut task (p .fields) r (4 * blocks + 8) t v out
@@ -134,12 +136,12 @@ module _ {task : Task} {xs s : List ℕ} {blocks : ℕ} (old : List ℕ) (y : Le
           piece = omega arith;
           grows = omega arith;
           put =
-              put-is t v r (laid f base old bs)
+              put-is t v r (laid (framing f) base old bs)
               ∙ ap (λ (x : List ℕ). over (base + v .bytes - (task .cost + lengthOf task (length r))) (pieceOf f d) (over (base + v .bytes - v .size) (sizeWord f (v .size)) x))
-              (sym (offset-opens base t v (laid f base old bs) (omega arith)))
-              ∙ laid-opens f base old bs (omega arith) (omega (arith, before .long, w .bytes, y .ready .roomy)) d front (omega (arith, after .long, k .bytes, y .ready .roomy))
+              (sym (offset-opens base t v (laid (framing f) base old bs) (omega arith)))
+              ∙ laid-opens (framing f) base old bs (omega arith) (omega (arith, before .long, w .bytes, y .ready .roomy)) d front (omega (arith, after .long, k .bytes, y .ready .roomy))
               (4 * v .blocks) (base + t .bytes) (base + v .bytes - v .size) (v .size) (base + v .bytes - (task .cost + lengthOf task (length r)))
-              (omega (arith, w .blocks)) (omega (arith, w .bytes)) (omega arith) (omega (arith, y .ready .is .costs)) (omega (arith, y .ready .is .costs));
+              (omega (arith, w .blocks)) (omega (arith, w .bytes)) (omega arith) (omega (arith, y .ready .is .costs, length-piece f d)) (omega (arith, y .ready .is .costs));
         }
 
     added-behind : (now : List (List ℕ)) → Filled (p .format) task all closed now t ((begins, outRecord p r) ∷ more) → opensOf task t begins (length (outRecord p r)) ≡ false
@@ -167,12 +169,12 @@ module _ {task : Task} {xs s : List ℕ} {blocks : ℕ} (old : List ℕ) (y : Le
           piece = omega (arith, w .size, least-size, y .ready .is .costs);
           grows = omega arith;
           put =
-              put-is t v r (laid f base old (soFar closed now))
+              put-is t v r (laid (framing f) base old (soFar closed now))
               ∙ ap (λ (z : List ℕ). over (base + v .bytes - (task .cost + lengthOf task (length r))) (pieceOf f d) (over (base + v .bytes - v .size) (sizeWord f (v .size)) z))
-              (sym (offset-stays base t v (laid f base old (soFar closed now)) (omega arith)))
-              ∙ laid-behind f base old closed now (omega (arith, before .many, w .blocks)) d (omega (arith, after .long, k .bytes, y .ready .roomy))
+              (sym (offset-stays base t v (laid (framing f) base old (soFar closed now)) (omega arith)))
+              ∙ laid-behind (framing f) base old closed now (omega (arith, before .many, w .blocks)) d (omega (arith, after .long, k .bytes, y .ready .roomy))
               (base + v .bytes - v .size) (v .size) (base + v .bytes - (task .cost + lengthOf task (length r)))
-              (omega (arith, w .size, w .bytes, sum)) (omega (arith, w .size, y .ready .is .costs)) (omega (arith, w .bytes));
+              (omega (arith, w .size, w .bytes, sum)) (omega (arith, w .size, y .ready .is .costs, total-body f now, length-piece f d)) (omega (arith, w .bytes));
         }
 
   module _ {out : List ℕ} {w : Walk} {t : Tally} (l : Laying out w t) where
@@ -182,7 +184,7 @@ module _ {task : Task} {xs s : List ℕ} {blocks : ℕ} (old : List ℕ) (y : Le
     pub laying-length : length out ≡ length old
     laying-length =
         let k = laying-within in
-        ap length (l .is) ∙ laid-length (p .format) (4 * blocks + 8) old (soFar (l .closed) (l .now)) (omega (arith, k .many, l .filled .blocks)) (omega (arith, k .long, l .filled .bytes, y .ready .roomy))
+        ap length (l .is) ∙ laid-length (framing (p .format)) (4 * blocks + 8) old (soFar (l .closed) (l .now)) (omega (arith, k .many, l .filled .blocks)) (omega (arith, k .long, l .filled .bytes, y .ready .roomy))
 
     pub laying-small : (n : ℕ) → n ≤ 0x1000000 → Small task t n
     laying-small n m =
@@ -209,7 +211,7 @@ module _ {task : Task} {xs s : List ℕ} {blocks : ℕ} (old : List ℕ) (y : Le
         let many : length bs ≡ blocks = ap length same ∙ sym (y .ready .count) in
         e
         ∙ ap₂ (λ (n : ℕ) (x : List ℕ). over (4 * blocks + 4) (word (base + n)) x) (l .filled .bytes) (l .is)
-        ∙ laid-ends f base old bs (omega arith) (omega (arith, k .long, l .filled .bytes, y .ready .roomy)) (omega arith) (4 * blocks + 4) (omega arith)
+        ∙ laid-ends (framing f) base old bs (omega arith) (omega (arith, k .long, l .filled .bytes, y .ready .roomy)) (omega arith) (4 * blocks + 4) (omega arith)
         ∙ ap (λ (x : List (List (List ℕ))). over 4 (ends base (map (blockOf f) x) ++ bytesIn f x) old) same
 
     module _ {r : List ℕ} {begins : Bool} {next : Walk} (u : Turn (y .ready) (l .rest) r begins next) (v : Tally) (is : v ≡ tallyOf task t begins (lengthOf task (length r))) where

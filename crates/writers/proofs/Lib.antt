@@ -1,5 +1,4 @@
 pub mod BlockParts
-pub mod LaidLaws
 pub mod RecordLaws
 pub mod TurnLaws
 pub mod LayingLaws

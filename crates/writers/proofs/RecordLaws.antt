@@ -2,15 +2,13 @@
 use mathlib.Core.Path.{_≡_, refl, ap, sym, _∙_, subst}
 use mathlib.Core.Bool.{Bool, true, false, cond}
 use mathlib.Core.List.{List, _++_}
-use Prim.Native.Nat.{ℕ, _+_, _-_, _*_, _≤_, _<_}
+use Prim.Native.Nat.{ℕ, _+_, _-_, _≤_}
 use native.Mathlib.Omega.{arith}
 use lib.ListN.{length, take, drop}
-use borrow.Author.Tests.{lt-ltb, le-ltb}
 use borrow.Rule.Slice.PartMut.{putMid}
 use Rattle.rules.specs.Halves.{Field, over, bytes}
 use Rattle.rules.specs.Plan.{selects}
 use Rattle.rules.specs.Output.{cost}
-use Rattle.rules.specs.Reel.{word}
 use Rattle.rules.proofs.SizeLaws.{length-over}
 use Rattle.rules.proofs.PlaceLaws.{over-behind}
 use Rattle.rules.proofs.LentParts.{rest-over}
@@ -24,7 +22,8 @@ use Rattle.records.specs.Promise.{outBytes, Puts}
 use Rattle.fillings.specs.declared.Tally.{Tally}
 use Rattle.tasks.specs.Promise.{tailOf, lengthOf}
 use Rattle.tasks.proofs.LengthLaws.{length-selected, length-carried}
-use Rattle.writers.specs.Writing.{sizeWord, pieceOf, offsetPut}
+use Rattle.fillings.specs.Offsets.{offsetPut}
+use Rattle.writers.specs.Writing.{sizeWord, pieceOf}
 use Rattle.fixed.specs.Promise.{outOf}
 use Rattle.writers.specs.Promise.{Writable, DataPut, PiecePut, nextPut, NextPut}
 use Rattle.records.proofs.PromiseLaws.{bytes-size}
@@ -104,14 +103,3 @@ module _ (task : Task) (xs r : List ℕ) where
       ∙ ap (λ (k : ℕ). over (base + more .bytes - (task .cost + k)) (pieceOf f (outOf task fs r)) second) e
       ∙ ap (over (base + more .bytes - (task .cost + lengthOf task (length r))) (pieceOf f (outOf task fs r)))
       (b ∙ ap (over (base + more .bytes - more .size) (sizeWord f (more .size))) a)
-
--- ---- the offset
-
-module _ (base : ℕ) (tally more : Tally) (out : List ℕ) where
-  pub offset-opens : tally .blocks < more .blocks → over (4 * more .blocks) (word (base + tally .bytes)) out ≡ offsetPut base tally more out
-  unfolding offsetPut
-  offset-opens l = rw (lt-ltb (tally .blocks) (more .blocks) l)
-
-  pub offset-stays : more .blocks ≤ tally .blocks → out ≡ offsetPut base tally more out
-  unfolding offsetPut
-  offset-stays l = rw (le-ltb (tally .blocks) (more .blocks) l)

@@ -3,7 +3,7 @@
 use mathlib.Core.Path.{_≡_}
 use mathlib.Core.Bool.{true}
 use mathlib.Core.List.{List}
-use Prim.Native.Nat.{ℕ, _+_, _-_, _*_, _≤_, _<_}
+use Prim.Native.Nat.{ℕ, _+_, _-_, _≤_, _<_}
 use lib.ListN.{length}
 use Rattle.rules.specs.Halves.{over, Field}
 use Rattle.rules.specs.Reel.{reelOf}
@@ -13,9 +13,10 @@ use Rattle.terms.specs.Meaning.{modeOf, formatOf}
 use Rattle.terms.specs.declared.Task.{Task}
 use Rattle.rows.specs.Flat.{FlatFair, Fielded}
 use Rattle.fillings.specs.declared.Tally.{Tally}
+use Rattle.fillings.specs.Offsets.{offsetPut, OffsetFits}
 use Rattle.tasks.specs.Promise.{lengthOf}
 use Rattle.fixed.specs.Promise.{blocksIn, outOf, Lent}
-use Rattle.writers.specs.Writing.{sizeWord, pieceOf, offsetPut}
+use Rattle.writers.specs.Writing.{sizeWord, pieceOf}
 
 -- ---- a record
 
@@ -34,12 +35,6 @@ DataPut task xs r old new = (fs : List Field) → FlatFair xs fs (task .n) (task
 unfoldable pub PiecePut : Task → List ℕ → List ℕ → ℕ → List ℕ → List ℕ → Type 0
 PiecePut task xs r at old new =
     (fs : List Field) → FlatFair xs fs (task .n) (task .width) → new ≡ over at (pieceOf (formatOf (task .format)) (outOf task fs r)) old
-
--- there is room for the offset of the block that a record opens
-pub record OffsetFits (base : ℕ) (tally more : Tally) (room : ℕ) : Type 0 where
-  pub inside : tally .blocks < more .blocks → 4 * more .blocks + 4 ≤ room
-  pub low : base + tally .bytes ≤ 65536
-  pub few : more .blocks ≤ 65536
 
 -- there is room for a record of k bytes at the end of its block, which ends where the blocks so far do
 pub record NextFits (task : Task) (k base : ℕ) (tally more : Tally) (room : ℕ) : Type 0 where

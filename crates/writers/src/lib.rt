@@ -6,9 +6,8 @@ ghost use lib.ListN.{length};
 ghost use Rattle.rules.specs.Output.{cost};
 ghost use Rattle.records.specs.Promise.{Covers};
 ghost use Rattle.tasks.specs.Promise.{lengthOf};
-ghost use Rattle.writers.specs.Writing.{offsetPut};
 ghost use Rattle.fixed.specs.Promise.{Lent, BodyPut};
-ghost use Rattle.writers.specs.Promise.{Writable, DataPut, PiecePut, OffsetFits, NextFits, NextPut, ReelPut};
+ghost use Rattle.writers.specs.Promise.{Writable, DataPut, PiecePut, NextFits, NextPut, ReelPut};
 use fillings::Tally;
 use terms::Format;
 use terms::Task;
@@ -58,16 +57,6 @@ fn put_piece(
     put_data(task, fields, covered, record, &mut out[from..]);
 }
 
-// Where a record opens a block, the block's offset goes into the header.
-fn put_offset(base: usize, tally: Tally, more: Tally, out: &mut [u8])
-    requires { ⌜ OffsetFits base tally more (length (now out)) ⌝ }
-    ensures { λ _. ⌜ now (out .exit) ≡ offsetPut base tally more (now (out .entry)) ⌝ }
-{
-    if tally.blocks < more.blocks {
-        reels::put_word(out, 4 * more.blocks, base + tally.bytes);
-    }
-}
-
 // A record in its place: where it opens a block, the block's offset; then the word of its block, which says the block's size so far; then its own word and its
 // output. Since the block's word is put anew with each record, the blocks so far are whole after every record, and none has to be closed.
 fn put_next(
@@ -87,7 +76,7 @@ fn put_next(
     requires { ⌜ (n ≡ lengthOf task (length (now «record»))) × (task .format ≡ Format.FV) ⌝ }
     ensures { λ _. ⌜ NextPut task (now (fields .entry)) (now («record» .entry)) base tally more (now (out .entry)) (now (out .exit)) ⌝ }
 {
-    put_offset(base, tally, more, out);
+    fillings::put_offset(base, tally, more, out);
     let end = base + more.bytes;
     let size = more.size;
     reels::put_length_word(out, end - size, size);

@@ -1,9 +1,9 @@
 -- Each outcome by the test that led there.
 use mathlib.Core.Path.{_∙_}
-use Rattle.writers.proofs.RecordLaws.{offset-opens, offset-stays}
+use Rattle.fillings.proofs.OffsetLaws.{offset-opens, offset-stays}
 use borrow.Author.Needs.{needs}
-use Rattle.writers.proofs.put_offset.Statement.{statement}
-use Rattle.writers.proofs.put_offset.Tie as tie
+use Rattle.fillings.proofs.put_offset.Statement.{statement}
+use Rattle.fillings.proofs.put_offset.Tie as tie
 
 mul-put-word : tie.Need-mul-put-word
 mul-put-word c = search needs
