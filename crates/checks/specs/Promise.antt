@@ -1,13 +1,13 @@
 -- What is promised of a run before anything is written, for every plan that the numbers may be.
 use mathlib.Core.Path.{_≡_}
-use mathlib.Core.Bool.{cond}
+use mathlib.Core.Bool.{false, cond}
 use mathlib.Core.List.{List}
 use Prim.Native.Nat.{ℕ}
 use lib.Dec.{ltb}
 use lib.ListN.{length}
 use Rattle.rules.specs.Base.{joined}
 use Rattle.rules.specs.Answer.{each}
-use Rattle.rules.specs.Plan.{Plan}
+use Rattle.rules.specs.Plan.{Plan, isFS}
 use Rattle.rules.specs.Blocks.{takenFrom}
 use Rattle.rules.specs.Output.{permits}
 use Rattle.rules.specs.Run.{convert}
@@ -44,6 +44,8 @@ housedRun room size records blocks =
 pub record Given (task : Task) (fields : List ℕ) (p : Plan) : Type 0 where
   pub is : TaskIs task p
   pub accepted : Accepted p
+  -- FS is asked by itself (spans)
+  pub plain : isFS (p .format) ≡ false
   pub flat : fields ≡ flatOf (p .fields)
   pub zone : p .zone ≡ zoneF
 

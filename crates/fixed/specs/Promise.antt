@@ -7,7 +7,7 @@ use lib.ListN.{length}
 use Rattle.rules.specs.Base.{joined}
 use Rattle.rules.specs.Halves.{over, Field}
 use Rattle.rules.specs.Reel.{ends, reelOf}
-use Rattle.rules.specs.Plan.{Plan, selects, isTC}
+use Rattle.rules.specs.Plan.{Plan, selects, isTC, isFS}
 use Rattle.rules.specs.Output.{blockOf}
 use Rattle.rules.specs.Lent.{zoneF}
 use Rattle.rules.specs.Run.{outputBlocks}
@@ -29,6 +29,7 @@ pub record Ready (task : Task) (s : List ℕ) (blocks room : ℕ) : Type 0 where
   pub good : Good p s recs
   pub zone : p .zone ≡ zoneF
   pub other : isTC (p .mode) ≡ false
+  pub plain : isFS (p .format) ≡ false
   pub count : blocks ≡ length (outputBlocks p recs)
   pub roomy : length (reelOf (blocksIn p recs)) ≤ room
   pub most : length (reelOf (blocksIn p recs)) ≤ 65536

@@ -134,6 +134,7 @@ pub fn first_unpermitted(task: Task, fields: &[u16], s: &[u8]) -> usize
         Format::FF => first_fixed(task, fields, s),
         Format::FV => first_walked(task, fields, s),
         Format::FU => first_walked(task, fields, s),
+        Format::FS => first_walked(task, fields, s),
     }
 }
 
@@ -203,5 +204,6 @@ pub fn measure(task: Task, s: &[u8]) -> Measured
         Format::FF => measure_fixed(task, s),
         Format::FV => measure_walked(task, s),
         Format::FU => measure_walked(task, s),
+        Format::FS => measure_walked(task, s),
     }
 }

@@ -28,6 +28,7 @@ fn cost(format: Format) -> usize
         Format::FF => 0,
         Format::FV => 4,
         Format::FU => 0,
+        Format::FS => 0,
     }
 }
 

@@ -5,7 +5,7 @@ use Prim.Native.Nat.{ℕ, _+_}
 use native.Mathlib.Omega.{arith}
 use lib.ListN.{length, length-append}
 use Rattle.rules.specs.Base.{joined}
-use Rattle.rules.specs.Grammar.{Format, ff, fv, fu}
+use Rattle.rules.specs.Grammar.{Format, ff, fv, fu, fsp}
 use Rattle.rules.specs.Output.{lengthWord, framed, blockOf, cost, total}
 use Rattle.rules.proofs.PartLaws.{joined-append}
 use Rattle.rules.proofs.BlockWords.{lengthWord-four}
@@ -20,16 +20,19 @@ abbrev pub bodyOf : Format → List (List ℕ) → List ℕ
 bodyOf ff rs = joined rs
 bodyOf fv rs = framed rs
 bodyOf fu rs = joined rs
+bodyOf fsp rs = joined rs
 
 pub body-none : (f : Format) → bodyOf f [] ≡ []
 body-none ff = refl
 body-none fv = refl
 body-none fu = refl
+body-none fsp = refl
 
 pub length-sizeWord : (f : Format) (n : ℕ) → length (sizeWord f n) ≡ cost f
 length-sizeWord ff n = refl
 length-sizeWord fv n = lengthWord-four n
 length-sizeWord fu n = refl
+length-sizeWord fsp n = refl
 
 pub length-piece : (f : Format) (r : List ℕ) → length (pieceOf f r) ≡ cost f + length r
 length-piece f r = omega (arith, length-append (sizeWord f (length r + 4)) r, length-sizeWord f (length r + 4))
@@ -41,11 +44,13 @@ block-parts fv rs =
     (let z : length (framed rs) + 4 ≡ total 4 4 rs
     = omega (arith, length-block fv rs, length-append (lengthWord (length (framed rs) + 4)) (framed rs), lengthWord-four (length (framed rs) + 4)) in z)
 block-parts fu rs = refl
+block-parts fsp rs = refl
 
 pub body-snoc : (f : Format) (rs : List (List ℕ)) (r : List ℕ) → bodyOf f (rs ++ (r ∷ [])) ≡ bodyOf f rs ++ pieceOf f r
 body-snoc ff rs r = joined-append rs (r ∷ []) ∙ ap (joined rs ++_) (append-nil r)
 body-snoc fv rs r = framed-append rs (r ∷ []) ∙ ap (framed rs ++_) (append-nil (lengthWord (length r + 4) ++ r))
 body-snoc fu rs r = joined-append rs (r ∷ []) ∙ ap (joined rs ++_) (append-nil r)
+body-snoc fsp rs r = joined-append rs (r ∷ []) ∙ ap (joined rs ++_) (append-nil r)
 
 -- the sizes of a block, by its records and by its bytes
 pub total-body : (f : Format) (rs : List (List ℕ)) → total (cost f) (cost f) rs ≡ cost f + length (bodyOf f rs)

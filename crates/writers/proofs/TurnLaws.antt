@@ -7,13 +7,13 @@ use Prim.Native.Nat.{ℕ, _+_, _-_, _≤_}
 use native.Mathlib.Omega.{arith}
 use lib.ListN.{length, take, drop}
 use Rattle.rules.specs.Grammar.{Format, Size, two, one}
-use Rattle.rules.specs.Plan.{recordLength, isTC}
+use Rattle.rules.specs.Plan.{recordLength, isTC, isFS}
 use Rattle.rules.specs.Rows.{SizeWithin}
 use Rattle.rules.specs.Blocks.{leastData, takenFrom}
 use Rattle.rules.specs.Output.{outRecord}
 use Rattle.rules.proofs.MeasureLaws.{cost-high}
 use Rattle.terms.specs.declared.Task.{Task}
-use Rattle.terms.specs.declared.Format.the-variants.{FU}
+use Rattle.terms.specs.declared.Format.the-variants.{FU, FS}
 use Rattle.terms.specs.Meaning.{formatOf}
 use Rattle.reels.specs.declared.Form.{Form}
 use Rattle.walks.specs.declared.Walk.{Walk}
@@ -74,6 +74,10 @@ module _ {task : Task} {s : List ℕ} {blocks room : ℕ} (x : Ready task s bloc
   -- FU has TC alone
   pub no-FU : task .format ≡ FU → ⊥
   no-FU e = true≢false (sym (ap isTC (x .good .accepted .required .FU-with-TC (sym (x .is .format) ∙ ap formatOf e))) ∙ x .other)
+
+  -- nor is it in FS
+  pub no-FS : task .format ≡ FS → ⊥
+  no-FS e = true≢false (sym (ap isFS (sym (x .is .format) ∙ ap formatOf e)) ∙ x .plain)
 
   pub width-small : task .width ≤ 4096
   width-small = omega (arith, x .is .width, record-most (x .p .format) (x .p .output) (x .good .accepted .output))

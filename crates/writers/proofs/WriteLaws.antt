@@ -8,7 +8,7 @@ use lib.ListN.{length, drop, length-append}
 use Rattle.rules.specs.Base.{joined}
 use Rattle.rules.specs.Halves.{over}
 use Rattle.rules.specs.Reel.{word, ends, reelOf}
-use Rattle.rules.specs.Plan.{Plan, isTC}
+use Rattle.rules.specs.Plan.{Plan, isTC, isFS}
 use Rattle.rules.specs.Output.{blockOf}
 use Rattle.rules.specs.Run.{ranOf, outputBlocks}
 use Rattle.rules.specs.Lent.{zoneF}
@@ -37,6 +37,7 @@ lent-as e y =
             good = y .ready .good;
             zone = y .ready .zone;
             other = y .ready .other;
+            plain = y .ready .plain;
             count = y .ready .count;
             roomy = subst (λ (n : ℕ). length (reelOf (blocksIn (y .ready .p) (y .ready .recs))) ≤ n) e (y .ready .roomy);
             most = y .ready .most;
@@ -73,12 +74,12 @@ module _ {task : Task} {xs s : List ℕ} {blocks : ℕ} (old : List ℕ) (y : Le
 -- ---- for callers
 
 -- the plan and the records that the lent numbers are
-pub lent-of : {task : Task} {xs s : List ℕ} {blocks room : ℕ} (p : Plan) (recs : List (List (List ℕ))) → TaskIs task p → Good p s recs → p .zone ≡ zoneF → isTC (p .mode) ≡ false → xs ≡ flatOf (p .fields)
+pub lent-of : {task : Task} {xs s : List ℕ} {blocks room : ℕ} (p : Plan) (recs : List (List (List ℕ))) → TaskIs task p → Good p s recs → p .zone ≡ zoneF → isTC (p .mode) ≡ false → isFS (p .format) ≡ false → xs ≡ flatOf (p .fields)
     → blocks ≡ length (outputBlocks p recs) → length (ranOf p (outputBlocks p recs) .reel) ≤ room → length (ranOf p (outputBlocks p recs) .reel) ≤ 65536 → Lent task xs s blocks room
 unfolding ranOf blocksIn
-lent-of p recs is good zone other flat count roomy most =
+lent-of p recs is good zone other plain flat count roomy most =
     record {
-      ready = record { p = p; recs = recs; is = is; good = good; zone = zone; other = other; count = count; roomy = roomy; most = most };
+      ready = record { p = p; recs = recs; is = is; good = good; zone = zone; other = other; plain = plain; count = count; roomy = roomy; most = most };
       flat = flat;
     }
 

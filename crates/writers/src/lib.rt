@@ -124,7 +124,7 @@ fn write_walked(task: Task, fields: &[u16], s: &[u8], blocks: usize, out: &mut [
     }
 }
 
-// The offsets from place 4 on, and behind them the blocks. FU has TC alone, whose output is its input.
+// The offsets from place 4 on, and behind them the blocks. FU has TC alone, whose output is its input; FS has writers of its own.
 fn put_body(task: Task, fields: &[u16], s: &[u8], blocks: usize, out: &mut [u8])
     requires { ⌜ Lent task (now fields) (now s) blocks (length (now out)) ⌝ }
     ensures { λ _. ⌜ BodyPut task (now (fields .entry)) (now (s .entry)) blocks (now (out .entry)) (now (out .exit)) ⌝ }
@@ -134,6 +134,7 @@ fn put_body(task: Task, fields: &[u16], s: &[u8], blocks: usize, out: &mut [u8])
         Format::FF => fixed::write(task, fields, s, blocks, out),
         Format::FV => write_walked(task, fields, s, blocks, out),
         Format::FU => {}
+        Format::FS => {}
     }
 }
 
