@@ -2,7 +2,7 @@
 use mathlib.Core.Path.{_≡_, refl, ap, ap₂, sym, _∙_, subst}
 use mathlib.Core.Bool.{Bool, true}
 use mathlib.Core.List.{List, _∷_}
-use mathlib.Core.Option.{Option, none, some, Option·none-ne-some}
+use mathlib.Core.Option.{Option, none, some, Option·none-ne-some, Option·some-injective}
 use Prim.Native.Nat.{ℕ, zero, suc, _+_, _-_, _≤_, _<_}
 use native.Mathlib.Omega.{arith}
 use native.Mathlib.Numerals.{add-one}
@@ -56,22 +56,11 @@ record Ends (k : ℕ) (o : Option State) (c : Counts) : Type 0 where
 turned-some : (k : ℕ) (o : Option State) (c : Counts) → toldBy (InTurn c) ≡ turned k o → Ends k o c
 turned-some k none c e = absurd (Option·none-ne-some _ (sym e))
 turned-some k (some x) c e =
-    let n : c .records ≡ k + length (x .0) = ap first-of e in
-    let t : eqb (c .held) 0 ≡ isClosed (x .1) = ap second-of e in
-    let h : c .held ≡ length (sofar (x .1)) = ap third-of e in
+    let q = Option·some-injective (c .records, eqb (c .held) 0, c .held) (k + length (x .0), isClosed (x .1), length (sofar (x .1))) e in
+    let n : c .records ≡ k + length (x .0) = ap (λ (z : ℕ × Bool × ℕ). z .0) q in
+    let t : eqb (c .held) 0 ≡ isClosed (x .1) = ap (λ (z : ℕ × Bool × ℕ). z .1) q in
+    let h : c .held ≡ length (sofar (x .1)) = ap (λ (z : ℕ × Bool × ℕ). z .2) q in
     record { state = x; is = refl; records = n; alike = (sym t ∙ sym (held-closed (c .held)), sym h ∙ sym (held-length (c .held))) }
-  where
-    first-of : Option (ℕ × Bool × ℕ) → ℕ
-    first-of none = 0
-    first-of (some z) = z .0
-
-    second-of : Option (ℕ × Bool × ℕ) → Bool
-    second-of none = true
-    second-of (some z) = z .1
-
-    third-of : Option (ℕ × Bool × ℕ) → ℕ
-    third-of none = 0
-    third-of (some z) = z .2
 
 turned-none : (k : ℕ) (o : Option State) → none ≡ turned k o → o ≡ none
 turned-none k none e = refl

@@ -59,7 +59,7 @@ unfolding countsBy
 turned-by k none = refl
 turned-by k (some x) = refl
 
-pub turned-alike : (k : ℕ) (now other : Option (List ℕ)) (b : List ℕ) (i : ℕ) → Alike now other → turned k (joinAt now b i) ≡ turned k (joinAt other b i)
+turned-alike : (k : ℕ) (now other : Option (List ℕ)) (b : List ℕ) (i : ℕ) → Alike now other → turned k (joinAt now b i) ≡ turned k (joinAt other b i)
 unfolding joinAt
 turned-alike k now other b i w = turned-by k (joinAt now b i) ∙ ap (countsBy k) (go (walkAt 3 b i) refl) ∙ sym (turned-by k (joinAt other b i))
   where

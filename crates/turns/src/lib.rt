@@ -4,7 +4,6 @@ ghost use mathlib.Core.Path.{_≡_};
 ghost use Prim.Native.Nat.{_+_, _≤_, _<_};
 ghost use lib.ListN.{length};
 ghost use Rattle.reels.specs.Header.{headerOf};
-ghost use Rattle.reels.specs.declared.HeaderRead.{HeaderRead};
 ghost use Rattle.turns.specs.Turns.{inTurnOf, takenOf, Walked, Ruled};
 ghost use Rattle.turns.specs.Promise.{SpannedAs};
 use reels::Cursor;
