@@ -2,8 +2,8 @@
 -- behind it. By cases on how segments make records.
 use mathlib.Core.Path.{_≡_, refl, ap, sym, _∙_, subst}
 use mathlib.Core.Bool.{Bool, true, false, true≢false, false≢true}
-use mathlib.Core.List.{List, [], _∷_, _++_}
-use Prim.Native.Nat.{ℕ, zero, suc, _+_, _-_, _≤_, _<_}
+use mathlib.Core.List.{List, _∷_}
+use Prim.Native.Nat.{ℕ, _+_, _-_, _≤_, _<_}
 use native.Mathlib.Omega.{arith}
 use lib.ListN.{length, length-append}
 use Rattle.rules.specs.Places.{All}
@@ -11,7 +11,6 @@ use Rattle.rules.specs.Spanned.{Segment, segment, ends, part, Joined, ending, g
 use Rattle.rules.proofs.AllLaws.{all-head, all-tail}
 use Rattle.segments.specs.declared.Spot.{Spot}
 use Rattle.segments.specs.declared.SegmentRead.{SegmentRead}
-use Rattle.segments.specs.declared.RecordAhead.{RecordAhead}
 use Rattle.segments.specs.Spots.{nextOf, passedBy, spotAfter}
 use Rattle.segments.specs.Promise.{Stands, Before, Coming, Comes}
 use Rattle.segments.proofs.SpotLaws.{on-next, after-data, after-more}

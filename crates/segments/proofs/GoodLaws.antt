@@ -4,22 +4,21 @@ use mathlib.Core.Path.{_≡_, refl, ap, ap₂, sym, _∙_, subst}
 use mathlib.Core.Bool.{Bool, true, false, cond, _&&_}
 use mathlib.Core.List.{List, [], _∷_, _++_, map, append-assoc}
 use mathlib.Core.Option.{Option, none, some, Option·some-injective}
-use Prim.Native.Nat.{ℕ, zero, suc, _+_, _-_, _*_, _≤_, _<_}
+use Prim.Native.Nat.{ℕ, zero, suc, _+_, _-_, _*_, _≤_}
 use native.Mathlib.Omega.{arith}
 use lib.Dec.{ltb, leb}
 use lib.ListN.{length, take, drop, length-append, length-drop, length-take, drop-of-length-le}
 use lib.Seq.{slice}
 use borrow.Author.Tests.{ltb-true, ltb-false}
 use Rattle.rules.specs.Base.{joined}
-use Rattle.rules.specs.Answer.{Answer, fine, refused, _>>=_}
-use Rattle.rules.specs.Places.{All, noMore, also, Both, none-left, both}
+use Rattle.rules.specs.Answer.{fine}
+use Rattle.rules.specs.Places.{All, noMore, Both, none-left, both}
 use Rattle.rules.specs.Reel.{blockCount, isReel, blocksOf}
 use Rattle.rules.specs.ReelPlaces.{offsetAt}
-use Rattle.rules.specs.Spanned.{Segment, part, segmentsIn, State, joinFrom, joinIn, spannedFrom, Joined, no-segment, ending, going, Turns, no-turn}
+use Rattle.rules.specs.Spanned.{Segment, part, segmentsIn, State, joinFrom, spannedFrom, Joined, no-segment, ending, going, Turns, no-turn}
 use Rattle.rules.proofs.AllLaws.{all-append}
 use Rattle.rules.proofs.AnswerLaws.{not-fine, fine-same, bind-fine}
 use Rattle.rules.proofs.Bounds.{parts-length}
-use Rattle.rules.proofs.PartLaws.{joined-append}
 use Rattle.rules.proofs.ReelLaws.{header-is, length-blocks}
 use Rattle.rules.proofs.ReelSteps.{offset-first, offset-last}
 use Rattle.rules.proofs.SpannedTurns.{read-turns, turns-append, turns-once, turns-exactly}
@@ -27,9 +26,9 @@ use Rattle.reels.specs.Header.{partAt}
 use Rattle.reels.proofs.HeaderLaws.{part-step, words-missing}
 use Rattle.segments.specs.declared.Spot.{Spot}
 use Rattle.segments.specs.Spots.{firstSpot, bytesAt}
-use Rattle.segments.specs.Promise.{segmentsFrom, GoodSpans, Stands, Streams, Before}
-use Rattle.segments.proofs.SegmentLaws.{end-from, from-end, from-parts, read-from}
-use Rattle.segments.proofs.StandsLaws.{Reads, bytes-none, bytes-length}
+use Rattle.segments.specs.Promise.{GoodSpans, Stands, Streams, Before}
+use Rattle.segments.proofs.SegmentLaws.{end-from, from-parts, read-from}
+use Rattle.segments.proofs.StandsLaws.{Reads, bytes-length}
 
 -- ---- the segments of all blocks
 

@@ -1,9 +1,8 @@
 -- The promises, as a caller uses them, and that each allows one outcome only. By what each says of every input: each spot is the one behind so many bytes.
-use mathlib.Core.Path.{_≡_, ap, ap₂, sym, _∙_, subst}
-use mathlib.Core.List.{List, [], _∷_, _++_, map}
-use Prim.Native.Nat.{ℕ, _+_, _≤_}
-use native.Mathlib.Omega.{arith}
-use lib.ListN.{length, take, drop}
+use mathlib.Core.Path.{_≡_, ap, sym, _∙_}
+use mathlib.Core.List.{List, _++_, map}
+use Prim.Native.Nat.{ℕ, _≤_}
+use lib.ListN.{length}
 use Rattle.rules.specs.Base.{joined}
 use Rattle.rules.specs.Places.{All}
 use Rattle.rules.specs.Spanned.{part}
@@ -11,7 +10,7 @@ use Rattle.rules.proofs.SpannedFill.{joined-data}
 use Rattle.segments.specs.declared.Spot.{Spot}
 use Rattle.segments.specs.declared.RecordAhead.{RecordAhead}
 use Rattle.segments.specs.Spots.{spotAfter}
-use Rattle.segments.specs.Promise.{GoodSpans, Streams, Before, Takeable, Taken, Coming, Comes, Copyable, Copied}
+use Rattle.segments.specs.Promise.{Streams, Before, Takeable, Taken, Coming, Comes, Copyable, Copied}
 use Rattle.segments.proofs.StandsLaws.{bytes-none}
 use Rattle.segments.proofs.GoodLaws.{stands-parts, streams-few, joins-data}
 

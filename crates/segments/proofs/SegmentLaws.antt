@@ -1,8 +1,8 @@
 -- The segments of a block from a place on: at the end there are none, and elsewhere the first stands there and the others behind it, each with data that
 -- lies in the block; and those of a block that is read are all from place 4 on. By the steps of the walk over their words.
 use mathlib.Core.Path.{_≡_, refl, ap, sym, _∙_, subst}
-use mathlib.Core.Bool.{Bool, true, false, cond, not, _&&_, false≢true}
-use mathlib.Core.List.{List, [], _∷_, _++_, map}
+use mathlib.Core.Bool.{Bool, true, false, _&&_, false≢true}
+use mathlib.Core.List.{List, [], _∷_, map}
 use mathlib.Core.Option.{Option, none, some, Option·none-ne-some, Option·some-injective}
 use Prim.Native.Nat.{ℕ, zero, suc, _+_, _-_, _%_, _≤_, _<_, min}
 use native.Mathlib.Omega.{arith}
@@ -11,10 +11,10 @@ use lib.ListN.{length, take, drop, getD, length-append, length-drop, length-take
 use borrow.Author.Tests.{leb-true, leb-false}
 use Rattle.rules.specs.Base.{isEmpty, joined}
 use Rattle.rules.specs.Places.{All, noMore, also}
-use Rattle.rules.specs.Blocks.{Piece, wordLength, headed, headedTo, withPiece, walkFrom, dataOf}
+use Rattle.rules.specs.Blocks.{Piece, wordLength, headed, headedTo, withPiece, walkFrom}
 use Rattle.rules.specs.ReelPlaces.{pieceAt}
 use Rattle.rules.specs.Spanned.{Segment, segment, ends, part, segmentOf, segmentAt, segmentsIn, segmentsOf as readOf}
-use Rattle.rules.proofs.CodedWords.{HeadedTo, headedTo-exactly}
+use Rattle.rules.proofs.CodedWords.{headedTo-exactly}
 use Rattle.rules.proofs.SpannedSteps.{walkAt, walkAt-end, walkAt-good, walkAt-bad}
 use Rattle.segments.specs.Promise.{segmentsOf, segmentsFrom}
 

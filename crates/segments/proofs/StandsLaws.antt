@@ -1,31 +1,31 @@
 -- A spot in a good reel: before a block's first segment it stands before all segments from there on, and the segment that is read next is the first of
 -- those behind the spot. By the steps of a block; at a block's end by the first place of the next block.
-use mathlib.Core.Path.{_≡_, refl, ap, ap₂, sym, _∙_, subst}
+use mathlib.Core.Path.{_≡_, refl, ap, sym, _∙_, subst}
 use mathlib.Core.Bool.{Bool, true, false}
-use mathlib.Core.List.{List, [], _∷_, _++_, map, append-nil}
-use mathlib.Core.Option.{Option, none, some}
-use Prim.Native.Nat.{ℕ, zero, suc, _+_, _-_, _*_, _%_, _≤_, _<_}
+use mathlib.Core.List.{List, [], _∷_, _++_, map}
+use mathlib.Core.Option.{some}
+use Prim.Native.Nat.{ℕ, suc, _+_, _-_, _%_, _≤_, _<_}
 use native.Mathlib.Omega.{arith}
 use native.Mathlib.Numerals.{add-one}
 use lib.Dec.{ltb, eqb}
-use lib.ListN.{length, take, drop, getD, length-append, length-drop, drop-of-length-le}
+use lib.ListN.{length, take, drop, getD, drop-of-length-le}
 use lib.Seq.{slice, slice-empty, length-slice, take-take, drop-drop, drop-append-le, take-append-le}
-use borrow.Author.Tests.{ltb-true, ltb-false, lt-leb}
+use borrow.Author.Tests.{ltb-true, ltb-false}
 use Rattle.rules.specs.Base.{joined}
-use Rattle.rules.specs.Places.{All, Both, none-left, both}
+use Rattle.rules.specs.Places.{Both, none-left, both}
 use Rattle.rules.specs.Reel.{blockCount, isReel, blocksOf}
-use Rattle.rules.specs.Blocks.{wordLength, headedTo}
+use Rattle.rules.specs.Blocks.{wordLength}
 use Rattle.rules.specs.ReelPlaces.{pieceAt, behind}
 use Rattle.rules.specs.Spanned.{Segment, ends, part, segmentAt, segmentsIn}
 use Rattle.rules.proofs.PieceLaws.{slice-taken}
 use Rattle.rules.proofs.ReelLaws.{header-is, length-blocks}
 use Rattle.reels.specs.Header.{partAt}
-use Rattle.reels.specs.Pieces.{wordedIn, found}
+use Rattle.reels.specs.Pieces.{found}
 use Rattle.reels.proofs.HeaderLaws.{part-step}
 use Rattle.reels.proofs.PiecesLaws.{worded-good}
 use Rattle.segments.specs.declared.Spot.{Spot}
 use Rattle.segments.specs.declared.SegmentRead.{SegmentRead}
-use Rattle.segments.specs.Spots.{readAt, nextOf, passedBy, onData, blockSpot, bytesAt}
+use Rattle.segments.specs.Spots.{readAt, nextOf, passedBy, onData, bytesAt}
 use Rattle.segments.specs.Promise.{segmentsFrom, Stands, Streams}
 use Rattle.segments.proofs.SegmentLaws.{from-end, from-first, first-data, first-ends, read-from}
 use Rattle.segments.proofs.SpotLaws.{read-is, next-here, next-later, on-here, on-next}

@@ -1,9 +1,9 @@
 -- What the functions promise: where a reel is read by the rules, they go along just the segments, and so the records, that these find.
 use mathlib.Core.Path.{_≡_}
 use mathlib.Core.Bool.{true}
-use mathlib.Core.List.{List, [], _∷_, _++_, map}
+use mathlib.Core.List.{List, _∷_, _++_, map}
 use mathlib.Core.Option.{Option, none, some}
-use Prim.Native.Nat.{ℕ, suc, _+_, _-_, _≤_, _<_}
+use Prim.Native.Nat.{ℕ, suc, _≤_, _<_}
 use lib.ListN.{length, take, drop}
 use Rattle.rules.specs.Base.{joined}
 use Rattle.rules.specs.Answer.{fine}
@@ -70,6 +70,7 @@ pub record Takeable (s : List ℕ) (count : ℕ) : Type 0 where
   pub good : GoodSpans g s recs
   pub enough : count ≤ length (joined recs)
 
+-- the spot before the others; it is the one behind the bytes of those passed over
 pub record Taken (s : List ℕ) (count : ℕ) (v : Spot) : Type 0 where
   pub before : (g : ℕ) (recs : List (List (List ℕ))) → GoodSpans g s recs → Before g s v (drop count (joined recs))
   pub is : (g : ℕ) (recs : List (List (List ℕ))) → GoodSpans g s recs → v ≡ spotAfter s (length (joined (take count (joined recs)))) firstSpot
@@ -83,6 +84,7 @@ pub record Coming (s : List ℕ) (v : Spot) : Type 0 where
   pub more : List (List ℕ)
   pub before : Before g s v (next ∷ more)
 
+-- its length, and the spot before the others, which is the one behind its bytes
 pub record Comes (s : List ℕ) (v : Spot) (a : RecordAhead) : Type 0 where
   pub size : (g : ℕ) (r : List ℕ) (rs : List (List ℕ)) → Before g s v (r ∷ rs) → a .size ≡ length r
   pub behind : (g : ℕ) (r : List ℕ) (rs : List (List ℕ)) → Before g s v (r ∷ rs) → Before g s (a .behind) rs
@@ -98,6 +100,7 @@ pub record Copyable (s : List ℕ) (v : Spot) (n room : ℕ) : Type 0 where
   pub enough : n ≤ length «data»
   pub fits : n ≤ room
 
+-- so many bytes stand at the front, and from the spot behind them on the others are left
 pub record Copied (s : List ℕ) (v : Spot) (n : ℕ) (old new : List ℕ) (w : Spot) : Type 0 where
   pub written : (g : ℕ) («data» : List ℕ) → Streams g s v «data» → n ≤ length «data» → new ≡ over 0 (take n «data») old
   pub streams : (g : ℕ) («data» : List ℕ) → Streams g s v «data» → n ≤ length «data» → Streams g s w (drop n «data»)

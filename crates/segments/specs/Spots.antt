@@ -1,5 +1,5 @@
 -- What a spot is answered, for every list of bytes and every spot; and the spot behind so many bytes of data.
-use mathlib.Core.Bool.{Bool, true, false, cond}
+use mathlib.Core.Bool.{true, cond}
 use mathlib.Core.List.{List}
 use Prim.Native.Nat.{ℕ, zero, suc, _+_, _%_}
 use lib.Dec.{ltb, eqb}
@@ -14,6 +14,7 @@ use Rattle.segments.specs.declared.SegmentRead.{SegmentRead}
 
 -- ---- the next segment
 
+-- nothing is left where there is none
 abbrev pub noSegment : ℕ → ℕ → SegmentRead
 noSegment block at = record { spot = record { block = block; from = at; to = at }; ends = true }
 
@@ -46,12 +47,9 @@ abbrev pub spotAfter : List ℕ → ℕ → Spot → Spot
 spotAfter s zero v = v
 spotAfter s (suc n) v = spotAfter s n (passedBy 1 (onData s v))
 
--- before the first segment of block i, from 0, and of a reel
-abbrev pub blockSpot : ℕ → Spot
-blockSpot i = record { block = i; from = 4; to = 4 }
-
+-- before the first segment of a reel
 abbrev pub firstSpot : Spot
-firstSpot = blockSpot 0
+firstSpot = record { block = 0; from = 4; to = 4 }
 
 -- the bytes that are left of the segment
 unfoldable pub bytesAt : List ℕ → Spot → List ℕ

@@ -30,7 +30,7 @@ struct SegmentRead {
     ends: bool,
 }
 
-// The segment whose word stands at a place of a block. Nothing is left where there is none.
+// The segment whose word stands at a place of a block.
 fn read_at(s: &[u8], block: usize, at: usize) -> SegmentRead
     ensures { λ r. ⌜ r ≡ readAt (now (s .entry)) block at ⌝ }
 {
@@ -54,7 +54,7 @@ fn read_at(s: &[u8], block: usize, at: usize) -> SegmentRead
     }
 }
 
-// No segment.
+// Nothing is left where there is no segment.
 fn nothing(block: usize, at: usize) -> SegmentRead
     ensures { λ r. ⌜ r ≡ noSegment block at ⌝ }
 {
@@ -144,6 +144,7 @@ fn on_data(s: &[u8], v: Spot) -> Spot
     read.spot
 }
 
+// The smaller of two numbers.
 fn smaller(a: usize, b: usize) -> usize
     ensures { λ r. ⌜ r ≡ min a b ⌝ }
 {

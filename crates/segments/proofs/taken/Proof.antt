@@ -1,6 +1,5 @@
 -- Each turn passes over one record.
 use Prim.Native.Nat.{_-_}
-use native.Mathlib.Omega.{arith}
 use borrow.Author.Needs.{needs}
 use Rattle.segments.proofs.TakenLaws.{Passing, passing-start, passing-next, passing-more, passing-end}
 use Rattle.segments.proofs.taken.Statement.{statement}
