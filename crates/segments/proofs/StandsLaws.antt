@@ -4,18 +4,18 @@ use mathlib.Core.Path.{_≡_, refl, ap, sym, _∙_, subst}
 use mathlib.Core.Bool.{Bool, true, false}
 use mathlib.Core.List.{List, [], _∷_, _++_, map}
 use mathlib.Core.Option.{some}
-use Prim.Native.Nat.{ℕ, suc, _+_, _-_, _%_, _≤_, _<_}
+use Prim.Native.Nat.{ℕ, suc, _+_, _-_, _≤_, _<_}
 use native.Mathlib.Omega.{arith}
 use native.Mathlib.Numerals.{add-one}
-use lib.Dec.{ltb, eqb}
-use lib.ListN.{length, take, drop, getD, drop-of-length-le}
+use lib.Dec.{ltb}
+use lib.ListN.{length, take, drop, drop-of-length-le}
 use lib.Seq.{slice, slice-empty, length-slice, take-take, drop-drop, drop-append-le, take-append-le}
 use borrow.Author.Tests.{ltb-true, ltb-false}
 use Rattle.rules.specs.Base.{joined}
 use Rattle.rules.specs.Places.{Both, none-left, both}
 use Rattle.rules.specs.Reel.{blockCount, isReel, blocksOf}
 use Rattle.rules.specs.Blocks.{wordLength}
-use Rattle.rules.specs.ReelPlaces.{pieceAt, behind}
+use Rattle.rules.specs.ReelPlaces.{pieceAt}
 use Rattle.rules.specs.Spanned.{Segment, ends, part, segmentAt, segmentsIn}
 use Rattle.rules.proofs.PieceLaws.{slice-taken}
 use Rattle.rules.proofs.ReelLaws.{header-is, length-blocks}
@@ -25,7 +25,7 @@ use Rattle.reels.proofs.HeaderLaws.{part-step}
 use Rattle.reels.proofs.PiecesLaws.{worded-good}
 use Rattle.segments.specs.declared.Spot.{Spot}
 use Rattle.segments.specs.declared.SegmentRead.{SegmentRead}
-use Rattle.segments.specs.Spots.{readAt, nextOf, passedBy, onData, bytesAt}
+use Rattle.segments.specs.Spots.{segmentRead, readAt, nextOf, passedBy, onData, bytesAt}
 use Rattle.segments.specs.Promise.{segmentsFrom, Stands, Streams}
 use Rattle.segments.proofs.SegmentLaws.{from-end, from-first, first-data, first-ends, read-from}
 use Rattle.segments.proofs.SpotLaws.{read-is, next-here, next-later, on-here, on-next}
@@ -57,8 +57,7 @@ module _ (g : ℕ) (s : List ℕ) (e : isReel s ≡ true) where
       let x = pieceAt i (drop i b) in
       let n = wordLength (drop i (partAt s block)) in
       let to : i + 4 + (n - 4) ≡ i + n = omega (arith, f .least) in
-      let q : readAt s block i ≡ record { spot = record { block = block; from = i + 4; to = i + 4 + (n - 4) }; ends = eqb (getD (drop i (partAt s block)) 2 0 % 2) 0 } =
-      read-is s block i b (found x) refl (worded-good 3 b i l (f .head)) in
+      let q : readAt s block i ≡ segmentRead block i (found x) = read-is s block i b (found x) refl (worded-good 3 b i l (f .head)) in
       subst (λ (r : SegmentRead). Step g s r (here ++ joined later)) (sym q)
       (record {
         first = segmentAt b x;
