@@ -153,9 +153,10 @@ def operands():
            'A=(5))', 'A=(5)X', 'A=(5)6', 'A=[5]', 'A=(-5)', 'A=(+5)', 'A=(5.0)', 'A=(5;6)', 'A=(X)', 'A=(K=10,D=100)', 'A==(5)', 'a=(5)', 'C=(5)', 'AB=(5)', 'B=', 'B=()', 'B=(5,6',
            'I', 'IX', 'I1', 'IRN', 'IR1', 'ir', 'O', 'OX', 'OY', 'O1', 'ORN', 'OR1', 'R', 'R.', 'R-1', 'R+1', 'R1.', 'R1,0', 'RR1', 'R1R', 'R=1', 'R(1)', 'RX', 'r1',
            'E=(2311)', 'S1', 'S2', 'P', 'PN', 'Q=1', 'K', '5', '(5)', '=', '(', ')', '1,1,1', 'CV', '//']
-    keyed = {'A=(K=10,D=100)': ('0 0 0 TC FU A=K=10,D=100 B=5 R=1 fs=0 cv=0 0', 'the last is none of document 01, and came with order 5 of document 02; with TC and FU it is 8')}
+    later = {'A=(K=10,D=100)': ('0 0 0 TC FU A=K=10,D=100 B=5 R=1 fs=0 cv=0 0', 'the last is none of document 01, and came with order 5 of document 02; with TC and FU it is 8'),
+             'FS': ('4 1 18', 'the last is none of document 01, and came with order 6 of document 02; behind FU it is a second F')}
     for i, text in enumerate(bad):
-        expected, why = keyed.get(text, ('3 1', 'the last parameter is none of those listed'))
+        expected, why = later.get(text, ('3 1', 'the last parameter is none of those listed'))
         u('no-parameter-%d' % (i + 1), 'TC,FU,B=(5),' + text if not text.startswith('B') else 'TC,FU,A=(5),' + text, expected, why)
     u('blank-in-operand', 'TC FU,A=(5),B=(5)', '5 1', 'the operand is TC alone: F, A and B are missing')
     u('blank-in-brackets', 'TC,FU,A=(5 ),B=(5)', '3 1', 'the operand ends inside A')

@@ -1,15 +1,48 @@
-//! The rule of a block in each format (refusal 12), and the records in it.
+//! The rule of a block in each format (refusal 12), and the records of a reel.
 
 use crate::grammar::{Format, Part, Sizes};
-use crate::parts;
 use crate::plan::{longest_block, record_length, Plan};
+use crate::{parts, spanned, Refused};
 
-/// The length in 2 bytes and 2 zero bytes that start an FV block and each record.
-fn length_word(bytes: &[u8]) -> Option<usize> {
+/// A record of the input: its number from 1, its block's, which in FS is the one where it ends, and its data.
+#[derive(Clone, Debug, PartialEq, Eq)]
+pub struct Record {
+    pub number: usize,
+    pub block: usize,
+    pub data: Vec<u8>,
+}
+
+/// The word that starts a block of FV and FS and each record or segment in it: the length in 2 bytes, a third byte, and a zero byte. Its length and its third byte.
+fn word(bytes: &[u8]) -> Option<(usize, u8)> {
     match bytes {
-        [high, low, 0, 0, ..] => Some(256 * usize::from(*high) + usize::from(*low)),
+        [high, low, third, 0, ..] => Some((256 * usize::from(*high) + usize::from(*low), *third)),
         _ => None,
     }
+}
+
+/// Bytes behind their word, whose length is of both.
+pub fn behind_word(third: u8, bytes: &[u8]) -> Vec<u8> {
+    let length = (bytes.len() + 4) as u16;
+    [&length.to_be_bytes()[..], &[third, 0], bytes].concat()
+}
+
+/// What stands in a block of FV or FS of at most so many bytes: records or segments that fill it exactly, at least one, each with 1 byte of data or more; the third
+/// byte of its word, and its data.
+pub fn worded(longest: usize, block: &[u8]) -> Option<Vec<(u8, &[u8])>> {
+    if word(block)? != (block.len(), 0) || block.len() > longest {
+        return None;
+    }
+    let mut rest = &block[4..];
+    let mut found = Vec::new();
+    while !rest.is_empty() {
+        let (length, third) = word(rest)?;
+        if length < 5 || length > rest.len() {
+            return None;
+        }
+        found.push((third, &rest[4..length]));
+        rest = &rest[length..];
+    }
+    (!found.is_empty()).then_some(found)
 }
 
 /// FF: a positive multiple of n, at most m, wherever the block stands (document 02, order 2).
@@ -25,24 +58,12 @@ fn keyed<'a>(plan: &Plan, block: &'a [u8]) -> Option<Vec<&'a [u8]>> {
     (block.len() == key + data).then(|| vec![block])
 }
 
-/// FV: records fill the block exactly, at least one; the data of each, without its word.
+/// FV: the third byte of each record's word is zero; with TF or TRF its data is at least A's n.
 fn variable<'a>(plan: &Plan, block: &'a [u8]) -> Option<Vec<&'a [u8]>> {
-    if length_word(block)? != block.len() || block.len() > longest_block(plan.a) {
-        return None;
-    }
-    let mut rest = &block[4..];
-    let mut records = Vec::new();
-    while !rest.is_empty() {
-        let length = length_word(rest)?;
-        if length < 5 || length > rest.len() {
-            return None;
-        }
-        records.push(&rest[4..length]);
-        rest = &rest[length..];
-    }
-    let shortest = record_length(plan.a);
-    let long_enough = !plan.selects() || records.iter().all(|data| data.len() >= shortest);
-    (long_enough && !records.is_empty()).then_some(records)
+    let records = worded(longest_block(plan.a), block)?;
+    let shortest = if plan.selects() { record_length(plan.a) } else { 1 };
+    let right = records.iter().all(|(third, data)| *third == 0 && data.len() >= shortest);
+    right.then(|| records.into_iter().map(|(_, data)| data).collect())
 }
 
 /// FU: 1 to g bytes; the block is the record.
@@ -50,12 +71,24 @@ fn undefined<'a>(plan: &Plan, block: &'a [u8]) -> Option<Vec<&'a [u8]>> {
     (1..=longest_block(plan.a)).contains(&block.len()).then(|| vec![block])
 }
 
-/// The data of the records of a block; nothing if the block breaks its rule.
-pub fn records<'a>(plan: &Plan, block: &'a [u8]) -> Option<Vec<&'a [u8]>> {
+/// The records of blocks each of which is asked by itself.
+fn one_by_one<'a>(blocks: &[&'a [u8]], rule: impl Fn(&'a [u8]) -> Option<Vec<&'a [u8]>>) -> Result<Vec<Record>, Refused> {
+    let mut all = Vec::new();
+    for (block, bytes) in (1..).zip(blocks) {
+        for data in rule(bytes).ok_or(Refused::at(12, block))? {
+            all.push(Record { number: all.len() + 1, block, data: data.to_vec() });
+        }
+    }
+    Ok(all)
+}
+
+/// The records of all blocks in order, or refusal 12 at the first block that breaks its rule.
+pub fn records(plan: &Plan, blocks: &[&[u8]]) -> Result<Vec<Record>, Refused> {
     match plan.format {
-        Format::FF if matches!(plan.a, Sizes::Keyed(..)) => keyed(plan, block),
-        Format::FF => fixed(plan, block),
-        Format::FV => variable(plan, block),
-        Format::FU => undefined(plan, block),
+        Format::FF if matches!(plan.a, Sizes::Keyed(..)) => one_by_one(blocks, |block| keyed(plan, block)),
+        Format::FF => one_by_one(blocks, |block| fixed(plan, block)),
+        Format::FV => one_by_one(blocks, |block| variable(plan, block)),
+        Format::FU => one_by_one(blocks, |block| undefined(plan, block)),
+        Format::FS => spanned::records(longest_block(plan.a), blocks),
     }
 }

@@ -4,9 +4,9 @@ use crate::deck::{Card, Shape};
 use crate::grammar;
 
 /// What stands between the commas of a U operand; `#` is a number.
-const PARAMETERS: [&str; 19] = [
-    "TC", "TF", "TR", "TRF", "FF", "FV", "FU", "A=(#)", "A=(#,#)", "A=(K=#,D=#)", "B=(#)", "B=(#,#)", "IR",
-    "IN", "IU", "OR", "ON", "OU", "R#",
+const PARAMETERS: [&str; 20] = [
+    "TC", "TF", "TR", "TRF", "FF", "FV", "FU", "FS", "A=(#)", "A=(#,#)", "A=(K=#,D=#)", "B=(#)", "B=(#,#)",
+    "IR", "IN", "IU", "OR", "ON", "OU", "R#",
 ];
 
 /// What stands between the slashes of an FS operand.

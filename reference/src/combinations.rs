@@ -12,14 +12,23 @@ fn is_keyed(asked: &Asked) -> bool {
     matches!(asked.a, Sizes::Keyed(..))
 }
 
-/// FF: two numbers each, of which key and data are two. FU: one. FV: two with TF or TRF, else one.
+/// FF: two numbers each, of which key and data are two. FU and FS: one. FV: two with TF or TRF, else one.
 fn right_count(asked: &Asked, sizes: Sizes) -> bool {
     let two = match asked.format {
         Format::FF => true,
-        Format::FU => false,
+        Format::FU | Format::FS => false,
         Format::FV => selects(asked),
     };
     two != matches!(sizes, Sizes::One(_))
+}
+
+/// FU only with TC, FS only with TC and TR (document 02, order 6).
+fn function_allowed(asked: &Asked) -> bool {
+    match asked.format {
+        Format::FF | Format::FV => true,
+        Format::FU => asked.mode == Mode::TC,
+        Format::FS => !selects(asked),
+    }
 }
 
 /// Keys: only FF, with TF or TRF (document 02, order 5).
@@ -51,7 +60,7 @@ fn a_and_b_agree(asked: &Asked) -> bool {
 /// All the combinations that have card 1 as their place.
 fn u_card_right(asked: &Asked) -> bool {
     let copies = asked.mode == Mode::TC;
-    (asked.format != Format::FU || copies)
+    function_allowed(asked)
         && (!copies || asked.first == 1)
         && keys_allowed(asked)
         && right_count(asked, asked.a)

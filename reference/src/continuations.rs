@@ -8,13 +8,13 @@ use crate::grammar::{fs_operand, u_operand};
 
 #[allow(dead_code)]
 #[path = "cases/chance.rs"]
-mod chance;
+pub mod chance;
 
 use chance::Chance;
 
-const PARAMETERS: [&str; 19] = [
-    "TC", "TF", "TR", "TRF", "FF", "FV", "FU", "A=(1)", "A=(1,1)", "A=(K=1,D=1)", "B=(1)", "B=(1,1)", "IR",
-    "IN", "IU", "OR", "ON", "OU", "R1",
+const PARAMETERS: [&str; 20] = [
+    "TC", "TF", "TR", "TRF", "FF", "FV", "FU", "FS", "A=(1)", "A=(1,1)", "A=(K=1,D=1)", "B=(1)", "B=(1,1)",
+    "IR", "IN", "IU", "OR", "ON", "OU", "R1",
 ];
 const ITEMS: [&str; 7] = [
     "1,1,1", "1,(P,1,1),1", "1,(U,1,1),1", "(K,1),1,1", "(K,1),(P,1,1),1", "(K,1),(U,1,1),1", "CV",
@@ -137,7 +137,7 @@ fn damaged_operands() {
 /// All texts of at most three bytes that the grammars use, and one that they do not.
 #[test]
 fn short_operands() {
-    let longer = |text: &Vec<u8>| b"TCFRVUABINOPKD=(),/1x".map(|byte| [&text[..], &[byte]].concat());
+    let longer = |text: &Vec<u8>| b"TCFRVUSABINOPKD=(),/1x".map(|byte| [&text[..], &[byte]].concat());
     for mut grammar in grammars() {
         let mut texts = vec![Vec::new()];
         grammar.compare(&texts[0]);

@@ -16,6 +16,8 @@ pub enum Format {
     FF,
     FV,
     FU,
+    /// Spanned records (document 02, order 6).
+    FS,
 }
 
 /// The numbers of A or B: `(g)` or `(n,m)`; of A alone also `(K=k,D=d)`, the lengths of key and data (document 02, order 5).
@@ -110,6 +112,7 @@ fn parameter(text: &[u8]) -> Option<Parameter> {
         b"FF" => Some(Parameter::F(Format::FF)),
         b"FV" => Some(Parameter::F(Format::FV)),
         b"FU" => Some(Parameter::F(Format::FU)),
+        b"FS" => Some(Parameter::F(Format::FS)),
         b"IR" | b"IN" | b"IU" => Some(Parameter::I),
         b"OR" | b"ON" | b"OU" => Some(Parameter::O),
         [b'A', b'=', rest @ ..] => sizes(rest).or_else(|| keyed(rest)).map(Parameter::A),

@@ -1,4 +1,4 @@
-//! A second writing of document 01 ("the paper") and orders 1 to 3 and 5 of document 02, to compare other definitions with.
+//! A second writing of document 01 ("the paper") and orders 1 to 3, 5 and 6 of document 02, to compare other definitions with.
 //!
 //! One module for each part of the paper. Nothing here is made to be fast.
 
@@ -6,6 +6,7 @@ pub mod blocks;
 pub mod columns;
 pub mod combinations;
 pub mod deck;
+pub mod filling;
 pub mod grammar;
 pub mod halves;
 pub mod limits;
@@ -14,6 +15,7 @@ pub mod permitted;
 pub mod plan;
 pub mod reel;
 pub mod run;
+pub mod spanned;
 pub mod twins;
 
 pub use halves::{pack, unpack};

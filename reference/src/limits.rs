@@ -75,7 +75,7 @@ const DIGITS: Limit = 1..=16;
 /// The limits of the numbers of a parameter, in the order in which they stand. Key and data together have at most 4,096 bytes:
 /// that is asked of D, which has at most what K leaves.
 fn of_parameter(parameter: &Parameter, format: Format) -> Vec<Limit> {
-    let single = if format == Format::FV { 9..=32_760 } else { LONG };
+    let single = if matches!(format, Format::FV | Format::FS) { 9..=32_760 } else { LONG };
     match parameter {
         Parameter::A(Sizes::One(_)) | Parameter::B(Sizes::One(_)) => vec![single],
         Parameter::A(Sizes::Two(..)) | Parameter::B(Sizes::Two(..)) => vec![SHORT, LONG],

@@ -1,9 +1,10 @@
 //! The run: from a deck and a reel to the output reel, or refusals 11 to 15.
 
+use crate::blocks::{behind_word, Record};
 use crate::grammar::{Format, Mode};
 use crate::permitted::all_permitted;
 use crate::plan::{accepted, longest_block, record_length, Plan};
-use crate::{blocks, halves, parts, reel, refuse_at, Refused};
+use crate::{blocks, filling, halves, parts, reel, refuse_at, Refused};
 
 /// The answer of a run; `reel` is what was written, nothing if refused.
 #[derive(Clone, Debug, Default, PartialEq, Eq)]
@@ -17,29 +18,15 @@ pub struct Ran {
     pub reel: Vec<u8>,
 }
 
-/// A record taken: its number from 1 in the input, its block's, its data.
-#[derive(Clone, Copy, Debug)]
-struct Record<'a> {
-    number: usize,
-    block: usize,
-    data: &'a [u8],
-}
-
-/// The records from R on, or refusal 12 at the first block that breaks its rule.
-fn taken<'a>(plan: &Plan, blocks: &[&'a [u8]]) -> Result<Vec<Record<'a>>, Refused> {
-    let mut all = Vec::new();
-    for (block, bytes) in (1..).zip(blocks) {
-        let records = blocks::records(plan, bytes);
-        for data in records.ok_or(Refused::at(12, block))? {
-            all.push(Record { number: all.len() + 1, block, data });
-        }
-    }
+/// The records from R on, or refusal 12.
+fn taken(plan: &Plan, blocks: &[&[u8]]) -> Result<Vec<Record>, Refused> {
+    let all = blocks::records(plan, blocks)?;
     Ok(all.into_iter().filter(|record| record.number >= plan.first).collect())
 }
 
 /// The first record taken that has a half not permitted.
 fn not_permitted(plan: &Plan, taken: &[Record]) -> Option<usize> {
-    let right = |record: &Record| all_permitted(&plan.values, &halves::halves(record.data));
+    let right = |record: &Record| all_permitted(&plan.values, &halves::halves(&record.data));
     taken.iter().find(|record| !right(record)).map(|record| record.number)
 }
 
@@ -77,19 +64,19 @@ fn overfills(plan: &Plan, taken: &[Record]) -> Option<usize> {
 }
 
 /// The records of each output block, in order.
-fn blocked<'a>(plan: &Plan, taken: &[Record<'a>]) -> Vec<Vec<Record<'a>>> {
-    let mut output: Vec<Vec<Record>> = Vec::new();
+fn blocked<'a>(plan: &Plan, taken: &'a [Record]) -> Vec<Vec<&'a Record>> {
+    let mut output: Vec<Vec<&Record>> = Vec::new();
     let mut filled = 0;
     for record in taken {
         let fits = filled + space(plan, record) <= longest_block(plan.b);
-        let goes_into = |open: &&mut Vec<Record>| match plan.mode {
+        let goes_into = |open: &&mut Vec<&Record>| match plan.mode {
             Mode::TC | Mode::TF => open[0].block == record.block,
             Mode::TR | Mode::TRF => fits,
         };
         match output.last_mut().filter(goes_into) {
-            Some(open) => open.push(*record),
+            Some(open) => open.push(record),
             None => {
-                output.push(vec![*record]);
+                output.push(vec![record]);
                 filled = word_length(plan);
             }
         }
@@ -99,7 +86,7 @@ fn blocked<'a>(plan: &Plan, taken: &[Record<'a>]) -> Vec<Vec<Record<'a>>> {
 }
 
 /// The length of the output reel.
-fn output_length(plan: &Plan, output: &[Vec<Record>]) -> usize {
+fn output_length(plan: &Plan, output: &[Vec<&Record>]) -> usize {
     let words = output.len() * word_length(plan);
     let spaces: usize = output.iter().flatten().map(|record| space(plan, record)).sum();
     reel::length(output.len(), words + spaces)
@@ -107,11 +94,7 @@ fn output_length(plan: &Plan, output: &[Vec<Record>]) -> usize {
 
 /// Bytes as they stand in a block: in FV behind their length word.
 fn with_word(plan: &Plan, bytes: Vec<u8>) -> Vec<u8> {
-    if plan.format != Format::FV {
-        return bytes;
-    }
-    let length = (bytes.len() + 4) as u16;
-    [&length.to_be_bytes()[..], &[0, 0], &bytes].concat()
+    if plan.format == Format::FV { behind_word(0, &bytes) } else { bytes }
 }
 
 /// The data of a record's output.
@@ -130,10 +113,24 @@ fn converted(plan: &Plan, data: &[u8]) -> Vec<u8> {
 }
 
 /// The output reel itself.
-fn written(plan: &Plan, output: &[Vec<Record>]) -> Vec<u8> {
-    let record = |record: &Record| with_word(plan, converted(plan, record.data));
-    let block = |records: &Vec<Record>| with_word(plan, records.iter().flat_map(record).collect());
+fn written(plan: &Plan, output: &[Vec<&Record>]) -> Vec<u8> {
+    let record = |record: &&Record| with_word(plan, converted(plan, &record.data));
+    let block = |records: &Vec<&Record>| with_word(plan, records.iter().flat_map(record).collect());
     reel::write(&output.iter().map(block).collect::<Vec<Vec<u8>>>())
+}
+
+/// Refusal 15 where the output reel is longer than the lent room, or than a reel.
+fn has_room(length: usize, room: usize) -> Result<(), Refused> {
+    refuse_at(15, (length > room.min(reel::LONGEST)).then_some(length))
+}
+
+/// The finished run in FS, or refusal 15: TC leaves the blocks, TR fills others. Records are cut, so that none exceeds a block.
+fn finish_spanned(plan: &Plan, blocks: &[&[u8]], taken: &[Record], room: usize) -> Result<Ran, Refused> {
+    let copied = || blocks.iter().map(|block| block.to_vec()).collect();
+    let output = if plan.mode == Mode::TC { copied() } else { filling::filled(longest_block(plan.b), taken) };
+    let reel = reel::write(&output);
+    has_room(reel.len(), room)?;
+    Ok(Ran { length: reel.len(), records: taken.len(), blocks: output.len(), reel, ..Ran::default() })
 }
 
 /// The finished run, or its refusal.
@@ -141,11 +138,14 @@ fn finish(deck: &[u8], input: &[u8], room: usize) -> Result<Ran, Refused> {
     let plan = accepted(deck)?;
     let blocks = reel::read(input).ok_or(Refused::at(11, 0))?;
     let taken = taken(&plan, &blocks)?;
+    if plan.format == Format::FS {
+        return finish_spanned(&plan, &blocks, &taken, room);
+    }
     refuse_at(13, not_permitted(&plan, &taken))?;
     refuse_at(14, overfills(&plan, &taken))?;
     let output = blocked(&plan, &taken);
     let length = output_length(&plan, &output);
-    refuse_at(15, (length > room.min(reel::LONGEST)).then_some(length))?;
+    has_room(length, room)?;
     let reel = written(&plan, &output);
     assert_eq!(reel.len(), length);
     Ok(Ran { length, records: taken.len(), blocks: output.len(), reel, ..Ran::default() })

@@ -1,5 +1,6 @@
 //! The paper's listings, its cases p1 to p12, the edges it names, and some readings.
 
+use crate::continuations::chance::Chance;
 use crate::*;
 
 const FIRST: &str = "// UTT TRF,FF,A=(8,16),B=(7,7)\n// FS 1,4,1/5,(P,4,3),5\n// END\n";
@@ -138,7 +139,9 @@ fn columns_of_3() {
     assert_eq!(column("// U TC\n// FS "), (3, 2, 7));
     assert_eq!(column("// U  TC"), (3, 1, 6));
     assert_eq!(column("// U TC, FU"), (3, 1, 9));
-    assert_eq!(column("// U FS"), (3, 1, 7));
+    assert_eq!(column("// U FX"), (3, 1, 7));
+    assert_eq!(column("// U FSS"), (3, 1, 8));
+    assert_eq!(column("// U TC\n// FS FS"), (3, 2, 7));
     assert_eq!(column("// U TC\n// FS 1,1,(K,1)"), (3, 2, 11));
     assert_eq!(column("// U TC,TC\n// FS 1,2,3/\n// FS x"), (3, 2, 13));
     assert_eq!(column(&format!("// U {}", "IR,".repeat(25))), (3, 1, 81));
@@ -492,6 +495,191 @@ fn twins_with_their_keys() {
     twins_are(&keyed("K=1,D=2", "2,2", &["(K,1),1,1/1,1,2"]), 1, "00 0000", "00 0010");
     let keeping = Twins { refusal: 16, ..Twins::default() };
     assert_eq!(twins(keyed("K=1,D=1", "2,2", &["(K,1),1,2/1,1,1"]).as_bytes(), 0), keeping);
+}
+
+#[test]
+fn decks_of_spanned_records() {
+    let u = |operand: &str| column(&format!("// U {operand}"));
+    assert_eq!(planned("// U TC,FS,A=(9),B=(9)\n// END"), (0, 0, 1, 0, 0));
+    assert_eq!(planned("// U TR,FS,A=(32760),B=(9),R65536\n// END"), (0, 0, 1, 0, 0));
+    assert_eq!(twins(b"// U TR,FS,A=(9),B=(10)\n// END", 0), Twins { refusal: 16, ..Twins::default() });
+    assert_eq!(u("TR,FF,FS,A=(9),B=(9)"), (4, 1, 12));
+    assert_eq!(u("TR,FS,A=(9)"), (5, 1, 0));
+    assert_eq!(u("TR,FS,A=(8),B=(9)"), (7, 1, 15));
+    assert_eq!(u("TC,FS,A=(9),B=(8)"), (7, 1, 21));
+    assert_eq!(u("TF,FS,A=(8),B=(9)"), (7, 1, 15));
+    assert_eq!(u("TR,FS,A=(9),B=(32761)"), (7, 1, 21));
+    assert_eq!(u("TR,FS,A=(4097,1),B=(9)"), (7, 1, 15));
+    for operand in ["TF,FS,A=(9),B=(9)", "TRF,FS,A=(9),B=(9)", "TF,FS,A=(1,9),B=(1,9)", "TR,FS,A=(1,9),B=(9)", "TR,FS,A=(9),B=(8,8)",
+        "TC,FS,A=(9),B=(10)", "TC,FS,A=(9),B=(9),R2", "TR,FS,A=(K=1,D=8),B=(9)"] {
+        assert_eq!(u(operand), (8, 1, 0), "{operand}");
+    }
+    assert_eq!(u("TR,FS,A=(9),B=(9)\n// FS 1,1,1"), (8, 2, 0));
+    assert_eq!(u("TC,FS,A=(9),B=(9)\n// FS CV"), (8, 2, 0));
+    assert_eq!(u("TF,FS,A=(9),B=(9)\n// FS CV"), (8, 1, 0));
+}
+
+/// A block of segments, each a code and its data.
+fn span(segments: &[(u8, &[u8])]) -> Vec<u8> {
+    let segment = |(code, data): &(u8, &[u8])| [&[0, data.len() as u8 + 4, *code, 0], *data].concat();
+    let bytes: Vec<u8> = segments.iter().flat_map(segment).collect();
+    [&[0, bytes.len() as u8 + 4, 0, 0], &bytes[..]].concat()
+}
+
+/// A deck of FS.
+fn spanned(mode: &str, a: usize, b: usize, first: usize) -> String {
+    format!("// U {mode},FS,A=({a}),B=({b}),R{first}\n// END\n")
+}
+
+#[test]
+fn records_longer_than_a_block() {
+    let (twenty, three) = (&[7; 20][..], &[9; 3][..]);
+    let whole = reel::write(&[span(&[(0, twenty), (0, three)])]);
+    let blocks = [span(&[(1, &[7; 8])]), span(&[(3, &[7; 8])]), span(&[(2, &[7; 4])]), span(&[(0, three)])];
+    assert_eq!(blocks[2][..8], [0, 12, 0, 0, 0, 8, 2, 0]);
+    let expected = Ran { length: 79, records: 2, blocks: 4, reel: reel::write(&blocks), ..Ran::default() };
+    assert_eq!(run(spanned("TR", 99, 16, 1).as_bytes(), &whole, 79), expected);
+    assert_eq!(run(spanned("TR", 99, 16, 1).as_bytes(), &whole, 78), Ran { refusal: 15, place: 79, ..Ran::default() });
+    assert_eq!(run(spanned("TC", 16, 16, 1).as_bytes(), &expected.reel, 79), expected);
+    assert_eq!(run(spanned("TR", 16, 99, 1).as_bytes(), &expected.reel, 65_536).reel, whole);
+    let second = run(spanned("TR", 16, 99, 2).as_bytes(), &expected.reel, 65_536);
+    assert_eq!((second.records, second.reel), (1, reel::write(&[span(&[(0, three)])])));
+}
+
+#[test]
+fn what_is_left_of_a_block() {
+    let filled = |b, records: &[&[u8]]| {
+        let input: Vec<Vec<u8>> = records.iter().map(|data| span(&[(0, data)])).collect();
+        run(spanned("TR", 200, b, 1).as_bytes(), &reel::write(&input), 65_536).reel
+    };
+    let (one, two, eight) = (&[1][..], &[1, 2][..], &[8; 8][..]);
+    assert_eq!(filled(17, &[eight, &[3; 3]]), reel::write(&[span(&[(0, eight)]), span(&[(0, &[3; 3])])]));
+    assert_eq!(filled(20, &[eight, two]), reel::write(&[span(&[(0, eight)]), span(&[(0, two)])]));
+    assert_eq!(filled(21, &[eight, one]), reel::write(&[span(&[(0, eight), (0, one)])]));
+    assert_eq!(filled(21, &[eight, two]), reel::write(&[span(&[(0, eight), (1, &[1])]), span(&[(2, &[2])])]));
+    assert_eq!(filled(16, &[eight, eight]), reel::write(&[span(&[(0, eight)]), span(&[(0, eight)])]));
+    assert_eq!(filled(9, &[&[1, 2, 3]]), reel::write(&[span(&[(1, &[1])]), span(&[(3, &[2])]), span(&[(2, &[3])])]));
+    assert_eq!(filled(9, &[]), reel::write(&[]));
+}
+
+/// How many codes can be read from the left as records one behind another, and whether the last of these is finished.
+fn in_turn(codes: &str) -> (usize, bool) {
+    let mut rest = codes;
+    loop {
+        if let Some(behind) = rest.strip_prefix('0') {
+            rest = behind;
+            continue;
+        }
+        let Some(open) = rest.strip_prefix('1') else { return (codes.len() - rest.len(), true) };
+        let open = open.trim_start_matches('3');
+        let Some(behind) = open.strip_prefix('2') else { return (codes.len() - open.len(), false) };
+        rest = behind;
+    }
+}
+
+/// All lists of up to five codes, cut into blocks in every way.
+#[test]
+fn segments_in_turn_and_out_of_turn() {
+    let mut codes: Vec<String> = vec![String::new()];
+    let mut right = 0;
+    for length in 1..=5 {
+        codes = codes.iter().flat_map(|list| "0123".chars().map(move |code| format!("{list}{code}"))).collect();
+        for (list, cuts) in codes.iter().flat_map(|list| (0..1 << (length - 1)).map(move |cuts: usize| (list, cuts))) {
+            let block_of = |at: usize| 1 + (cuts & ((1 << at) - 1)).count_ones() as usize;
+            let segments: Vec<(usize, u8)> = list.bytes().enumerate().map(|(at, code)| (block_of(at), code - b'0')).collect();
+            let block = |part: &[(usize, u8)]| span(&part.iter().map(|(_, code)| (*code, &[5][..])).collect::<Vec<_>>());
+            let input = reel::write(&segments.chunk_by(|one, next| one.0 == next.0).map(block).collect::<Vec<_>>());
+            let ran = run(spanned("TC", 200, 200, 1).as_bytes(), &input, 65_536);
+            let records = list.bytes().filter(|code| [b'0', b'2'].contains(code)).count();
+            match in_turn(list) {
+                (count, true) if count == length => {
+                    right += 1;
+                    assert_eq!((ran.refusal, ran.records, ran.reel), (0, records, input), "{list}");
+                }
+                (count, _) => assert_eq!((ran.refusal, ran.place), (12, block_of(count.min(length - 1))), "{list} {cuts}"),
+            }
+        }
+    }
+    assert_eq!(right, 1 + 2 * 2 + 4 * 4 + 8 * 8 + 16 * 16);
+}
+
+#[test]
+fn the_longest_spanned_record() {
+    let segments = |lengths: &[usize]| -> Vec<Vec<u8>> {
+        let last = lengths.len() - 1;
+        let code = |at| if last == 0 { 0 } else if at == 0 { 1 } else if at == last { 2 } else { 3 };
+        lengths.iter().enumerate().map(|(at, length)| blocks::behind_word(0, &blocks::behind_word(code(at), &vec![6; *length]))).collect()
+    };
+    let ran = |mode, lengths: &[usize]| {
+        let ran = run(spanned(mode, 32_760, 32_760, 1).as_bytes(), &reel::write(&segments(lengths)), 65_536);
+        (ran.refusal, ran.place, ran.length, ran.records, ran.blocks)
+    };
+    assert_eq!(ran("TR", &[32_752]), (0, 0, 32_772, 1, 1));
+    assert_eq!(ran("TR", &[32_751, 1]), (0, 0, 32_772, 1, 1));
+    assert_eq!(ran("TC", &[32_751, 1]), (0, 0, 32_784, 1, 2));
+    assert_eq!(ran("TR", &[1, 32_000, 751]), (0, 0, 32_772, 1, 1));
+    assert_eq!(ran("TR", &[32_753]), (12, 1, 0, 0, 0));
+    assert_eq!(ran("TR", &[32_752, 1]), (12, 2, 0, 0, 0));
+    assert_eq!(ran("TC", &[1, 32_752, 1]), (12, 2, 0, 0, 0));
+    assert_eq!(ran("TR", &[1, 32_751, 1, 1]), (12, 3, 0, 0, 0));
+    let two = [segments(&[32_752]), segments(&[32_700])].concat();
+    let long = run(spanned("TR", 32_760, 9, 1).as_bytes(), &reel::write(&two), 65_536);
+    assert_eq!((long.refusal, long.place), (15, 8 + 13 * (32_752 + 32_700)));
+}
+
+/// Records of up to so many bytes.
+fn drawn_records(chance: &mut Chance, longest: usize) -> Vec<blocks::Record> {
+    let any = |number, chance: &mut Chance| {
+        let data = (0..chance.range(1, longest)).map(|_| chance.byte()).collect();
+        blocks::Record { number, block: 0, data }
+    };
+    (1..=chance.below(6)).map(|number| any(number, chance)).collect()
+}
+
+/// The data of the records of a reel.
+fn data_of(format: &str, g: usize, input: &[u8]) -> Vec<Vec<u8>> {
+    let plan = plan::accepted(format!("// U TC,{format},A=({g}),B=({g})\n// END").as_bytes()).expect("a plan");
+    let blocks = reel::read(input).expect("a reel");
+    blocks::records(&plan, &blocks).expect("records").into_iter().map(|record| record.data).collect()
+}
+
+/// What is written reads back; written again it is the same, from whatever blocks; a block is left with fewer than 5 bytes, but the last.
+#[test]
+fn spanned_records_read_back() {
+    let mut chance = Chance::new(29);
+    for _ in 0..2_000 {
+        let (g, other) = (chance.range(9, 60), chance.range(9, 60));
+        let records = drawn_records(&mut chance, 50);
+        let data: Vec<Vec<u8>> = records.iter().map(|record| record.data.clone()).collect();
+        let written = reel::write(&filling::filled(g, &records));
+        let first = chance.range(1, records.len() + 1);
+        assert_eq!(data_of("FS", g, &written), data);
+        let again = |a, b, input: &[u8]| run(spanned("TR", a, b, 1).as_bytes(), input, 65_536);
+        assert_eq!(again(g, g, &written).reel, written);
+        let through = again(g, other, &written).reel;
+        assert_eq!(data_of("FS", other, &through), data);
+        assert_eq!(again(other, g, &through).reel, written);
+        let behind = run(spanned("TR", g, other, first).as_bytes(), &written, 65_536);
+        assert_eq!((behind.records, data_of("FS", other, &behind.reel)), (data.len() + 1 - first, data[first - 1..].to_vec()));
+        let blocks = reel::read(&written).expect("a reel");
+        assert!(blocks.iter().rev().skip(1).all(|block| block.len() + 4 >= g && block.len() <= g));
+    }
+}
+
+/// A reel of FV is one of FS whose segments are whole, and the other way round.
+#[test]
+fn variable_reels_are_spanned_reels() {
+    let mut chance = Chance::new(30);
+    for _ in 0..1_000 {
+        let records = drawn_records(&mut chance, 20);
+        let whole = |record: &blocks::Record| (0, record.data.clone());
+        let of_blocks: Vec<Vec<(u8, Vec<u8>)>> = records.chunks(chance.range(1, 3)).map(|some| some.iter().map(whole).collect()).collect();
+        let lent = |block: &Vec<(u8, Vec<u8>)>| span(&block.iter().map(|(code, data)| (*code, &data[..])).collect::<Vec<_>>());
+        let input = reel::write(&of_blocks.iter().map(lent).collect::<Vec<_>>());
+        assert_eq!(data_of("FS", 200, &input), data_of("FV", 200, &input));
+        let copied = |format| run(format!("// U TC,{format},A=(40),B=(40)\n// END").as_bytes(), &input, 65_536);
+        assert_eq!(copied("FS"), copied("FV"));
+    }
 }
 
 #[test]

@@ -39,12 +39,8 @@ fn reading(text: &[u8], input: &[u8]) -> Result<String, Refused> {
     asked(text)?;
     let plan = accepted(text).unwrap_or_else(|refused| panic!("a deck refused by {refused:?}"));
     let blocks = reel::read(input).ok_or(Refused::at(11, 0))?;
-    let mut lengths: Vec<String> = Vec::new();
-    for (number, block) in (1..).zip(&blocks) {
-        let records = blocks::records(&plan, block);
-        let records = records.ok_or(Refused::at(12, number))?;
-        lengths.extend(records.iter().map(|data| data.len().to_string()));
-    }
+    let records = blocks::records(&plan, &blocks)?;
+    let lengths: Vec<String> = records.iter().map(|record| record.data.len().to_string()).collect();
     let (blocks, records) = (blocks.len(), lengths.len());
     let lengths = if lengths.is_empty() { "-".to_string() } else { lengths.join(",") };
     Ok(format!("0 0 0 {blocks} {records} {lengths}"))

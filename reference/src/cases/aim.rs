@@ -176,6 +176,7 @@ pub fn marks(text: &[u8]) -> Vec<&'static str> {
         Format::FF => "FF",
         Format::FV => "FV",
         Format::FU => "FU",
+        Format::FS => "FS",
     };
     let shown = [
         (true, mode),

@@ -63,7 +63,7 @@ pub fn records(chance: &mut Chance, plan: &Plan, room: usize) -> Records {
     match plan.format {
         Format::FF => fixed(chance, plan, room),
         Format::FV => variable(chance, plan, room),
-        Format::FU => {
+        Format::FU | Format::FS => {
             let g = longest_block(plan.a).min(30);
             let blocks = chance.pick(&[0, 1, 1, 2, 2, 3, 4]);
             (0..blocks).map(|_| vec![any_bytes(chance, g)]).collect()

@@ -51,6 +51,7 @@ pub fn said(asked: &Asked) -> String {
         Format::FF => "FF",
         Format::FV => "FV",
         Format::FU => "FU",
+        Format::FS => "FS",
     };
     let cv = items(&asked.fs).find(|(_, item)| *item == Item::CV).map_or(0, |(card, _)| card);
     let fields: Vec<String> = items(&asked.fs)
