@@ -19,6 +19,8 @@ mod large;
 mod pairs;
 #[path = "../cases/reels.rs"]
 mod reels;
+#[path = "../cases/segments.rs"]
+mod segments;
 #[path = "../cases/text.rs"]
 mod text;
 #[path = "../cases/twins.rs"]
@@ -104,6 +106,7 @@ fn run_case(chance: &mut Chance, aim: usize, large: bool) -> Case {
     let mut marks = if ran.refusal == 0 { aim::marks(&deck) } else { vec![] };
     marks.extend((ran.refusal == 0 && ran.records == 0).then_some("empty output"));
     marks.extend((ran.refusal == 0 && ran.records > 1).then_some("two records or more"));
+    marks.extend((ran.refusal == 0 && ran.records < ran.blocks).then_some("fewer records than blocks"));
     marks.extend((aim::heavy(&deck) || reel.len() > 400).then_some("heavy"));
     Case { asked, answered, refusal: ran.refusal, marks }
 }

@@ -2,12 +2,12 @@
 
 use reference::grammar::{Format, Item, Mode, Part, Sizes, Step};
 use reference::limits::{items, Asked};
-use reference::plan::{accepted, record_length, Plan};
+use reference::plan::{accepted, longest_block, record_length, Plan};
 use reference::{deck, grammar, limits, run};
 
 use crate::chance::Chance;
 use crate::draft::{self, Draft, Piece};
-use crate::{faults, reels, text};
+use crate::{faults, reels, segments, text};
 
 /// A deck of a draft with the faults of these aims, level by level.
 pub fn deck(chance: &mut Chance, draft: &Draft, aims: &[usize]) -> Vec<u8> {
@@ -121,7 +121,11 @@ pub fn reel(chance: &mut Chance, plan: &Plan, records: &reels::Records, aim: usi
     if (aim == 12 && chance.one_in(2)) || (other && chance.one_in(3)) {
         reels::bad_records(chance, &mut records);
     }
-    let mut blocks = reels::blocks(plan, &records);
+    let out_of_turn = aim == 12 && chance.one_in(2);
+    let mut blocks = match plan.format {
+        Format::FS => segments::blocks(chance, longest_block(plan.a), &records.concat(), out_of_turn),
+        _ => reels::blocks(plan, &records),
+    };
     blocks.retain(|block| !block.is_empty());
     if aim == 12 && chance.one_in(2) {
         reels::bad_block(chance, plan, &mut blocks);

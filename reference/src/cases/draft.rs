@@ -206,10 +206,21 @@ fn variable(chance: &mut Chance, draft: &mut Draft) {
     }
 }
 
+/// Spanned records: blocks of which many are shorter than a record.
+fn spanned(chance: &mut Chance, draft: &mut Draft) {
+    let mut g = || if chance.one_in(3) { chance.range(9, 12) } else { chance.range(9, 40) };
+    let (a, b) = (g(), g());
+    (draft.a, draft.b) = (vec![a], vec![if draft.mode == "TC" { a } else { b }]);
+}
+
 /// A draft meant to be accepted (fields may still permit a half no value).
 pub fn draft(chance: &mut Chance) -> Draft {
     let mode = chance.pick(&["TC", "TR", "TR", "TF", "TF", "TF", "TRF", "TRF", "TRF"]);
-    let formats: &[&str] = if mode == "TC" { &["FF", "FV", "FU"] } else { &["FF", "FV"] };
+    let formats: &[&str] = match mode {
+        "TC" => &["FF", "FV", "FU", "FS"],
+        "TR" => &["FF", "FV", "FS"],
+        _ => &["FF", "FV"],
+    };
     let format = chance.pick(formats);
     let (a, b) = (Vec::new(), Vec::new());
     let one_a_card = chance.one_in(8);
@@ -219,6 +230,7 @@ pub fn draft(chance: &mut Chance) -> Draft {
         "FF" if draft.selects() && chance.one_in(3) => keyed(chance, &mut draft),
         "FF" => fixed(chance, &mut draft),
         "FV" => variable(chance, &mut draft),
+        "FS" => spanned(chance, &mut draft),
         _ => {
             let g = chance.range(1, 40);
             (draft.a, draft.b) = (vec![g], vec![g]);

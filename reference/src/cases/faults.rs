@@ -140,7 +140,7 @@ fn rekey(chance: &mut Chance, draft: &mut Draft) {
 pub fn combination(chance: &mut Chance, draft: &mut Draft) {
     match chance.below(14) {
         0 => draft.mode = chance.pick(&["TC", "TF", "TR", "TRF"]),
-        1 => draft.format = chance.pick(&["FF", "FV", "FU"]),
+        1 => draft.format = chance.pick(&["FF", "FV", "FU", "FS"]),
         2 => recount(chance, draft),
         3 | 4 => resize(chance, draft),
         5 | 6 => tight(chance, draft),

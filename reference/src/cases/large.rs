@@ -1,4 +1,4 @@
-//! Large cases: records of 4,096 bytes, outputs over 65,536 bytes, reels near that length.
+//! Large cases: records of 4,096 bytes, spanned ones of 32,752, outputs over 65,536 bytes, reels near that length.
 
 use reference::plan::accepted;
 
@@ -12,6 +12,15 @@ fn ends(chance: &mut Chance, n: usize, p: usize) -> Vec<Piece> {
     let copies = [field('C', n + 1 - size, size, size, 1), field('C', 1, 1, 1, p)];
     let pack = field('P', 1, n.min(16), p.min(9), p + 1 - p.min(9));
     copies.into_iter().chain([pack]).collect()
+}
+
+/// A draft of spanned records in blocks of any length.
+fn spanned(chance: &mut Chance) -> Draft {
+    let mode = chance.pick(&["TC", "TR", "TR"]);
+    let mut g = || chance.pick(&[9, 10, 20, 100, 4_096, 32_759, 32_760]);
+    let (a, b) = (g(), g());
+    let b = if mode == "TC" { a } else { b };
+    Draft { mode, format: "FS", keyed: false, a: vec![a], b: vec![b], first: None, pieces: vec![], one_a_card: false }
 }
 
 /// A draft of long records, fields at their ends.
@@ -48,7 +57,7 @@ fn draft(chance: &mut Chance) -> Draft {
 
 /// A large deck.
 pub fn deck(chance: &mut Chance) -> Vec<u8> {
-    let draft = draft(chance);
+    let draft = if chance.one_in(4) { spanned(chance) } else { draft(chance) };
     aim::deck(chance, &draft, &[])
 }
 

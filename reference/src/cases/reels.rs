@@ -58,12 +58,29 @@ fn variable(chance: &mut Chance, plan: &Plan, room: usize) -> Records {
     reel
 }
 
+/// Records of FS, not yet in blocks; some are longer than one. Blocks of `g` bytes have `g` less 8 of them for data, and 4 more in the reel's header.
+fn spanned(chance: &mut Chance, plan: &Plan, room: usize) -> Records {
+    let g = longest_block(plan.a);
+    let mut left = room.min(60_000 * (g - 8) / (g + 4));
+    let mut records = Vec::new();
+    for _ in 0..chance.pick(&[0, 1, 1, 2, 2, 2, 3, 3, 4, 5]) {
+        let long = chance.pick(&[g - 8, g - 7, 3 * g, 32_752, 32_753]);
+        let length = if chance.one_in(3) { long.min(left) } else { chance.range(1, left.min(14)).min(left) };
+        if length > 0 {
+            records.push(data(chance, plan, length));
+        }
+        left -= length;
+    }
+    vec![records]
+}
+
 /// Records for a plan, in blocks, of about `room` bytes at most.
 pub fn records(chance: &mut Chance, plan: &Plan, room: usize) -> Records {
     match plan.format {
         Format::FF => fixed(chance, plan, room),
         Format::FV => variable(chance, plan, room),
-        Format::FU | Format::FS => {
+        Format::FS => spanned(chance, plan, room),
+        Format::FU => {
             let g = longest_block(plan.a).min(30);
             let blocks = chance.pick(&[0, 1, 1, 2, 2, 3, 4]);
             (0..blocks).map(|_| vec![any_bytes(chance, g)]).collect()
@@ -142,7 +159,7 @@ pub fn blocks(plan: &Plan, reel: &Records) -> Vec<Vec<u8>> {
     reel.iter().map(block).collect()
 }
 
-/// A block's own bytes damaged; in FV mostly a length word.
+/// A block's own bytes damaged; in FV and FS mostly a length word.
 pub fn bad_block(chance: &mut Chance, plan: &Plan, blocks: &mut Vec<Vec<u8>>) {
     if blocks.is_empty() {
         blocks.push(vec![0; chance.range(1, 9)]);
@@ -150,7 +167,7 @@ pub fn bad_block(chance: &mut Chance, plan: &Plan, blocks: &mut Vec<Vec<u8>>) {
     }
     let at = chance.below(blocks.len());
     let block = &mut blocks[at];
-    if plan.format == Format::FV && !chance.one_in(4) && block.len() > 8 {
+    if matches!(plan.format, Format::FV | Format::FS) && !chance.one_in(4) && block.len() > 8 {
         let place = chance.below(8);
         block[place] = match chance.below(4) {
             0 => block[place].wrapping_add(1),

@@ -161,7 +161,7 @@ fn long_number(chance: &mut Chance, text: &str) -> String {
 
 fn odd_part(chance: &mut Chance) -> String {
     let odd = [
-        "TRFF", "TR1", "T", "TRR1", "OR1", "FX", "fF", "R", "R1.", "R-1", "A=()", "A=(1,)", "A=(,1)",
+        "TRFF", "TR1", "T", "TRR1", "OR1", "FX", "FS", "FSS", "fF", "R", "R1.", "R-1", "A=()", "A=(1,)", "A=(,1)",
         "A=(1,2,3)", "A=1", "A(1)", "B=(4)X", "C=(4)", "E=1", "TD", "A=(K=2,D=3)", "CV", "CVV", "cv",
         "B=(K=2,D=3)", "A=(K=2,3)", "A=(D=3,K=2)", "A=(K=2)", "A=(2,D=3)", "A=(K=,D=3)", "A=(k=2,D=3)", "A=(K=2,D=3,4)",
         "(K,1),1,1", "(K,1),(P,2,2),1", "1,1,(K,1)", "(K,1,1),1", "(D,1),1,1", "(K1),1,1", "(K,),1,1", "(K,1)1,1",
@@ -173,7 +173,7 @@ fn odd_part(chance: &mut Chance) -> String {
 
 /// A parameter or CV that stands twice.
 pub fn double(chance: &mut Chance, cards: &mut DeckText) {
-    let again = ["TC", "TR", "TF", "TRF", "FF", "FV", "FU", "A=(5)", "A=(K=1,D=2)", "B=(2,4)", "IR", "ON", "R1", "R02"];
+    let again = ["TC", "TR", "TF", "TRF", "FF", "FV", "FU", "FS", "A=(5)", "A=(K=1,D=2)", "B=(2,4)", "IR", "ON", "R1", "R02"];
     if chance.one_in(3) && cards.len() > 2 {
         for _ in 0..chance.pick(&[1, 2, 2, 3]) {
             let card = chance.range(1, cards.len() - 2);
