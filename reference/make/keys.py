@@ -1,8 +1,6 @@
-"""Keyed records (document 02, order 5): decks, plans, reels, runs and twins. All numbers, columns, entries and bytes are worked by hand; a caret in a deck marks the column."""
-from common import *
+"""Keyed records (document 02, order 5): decks, plans, reels, runs and twins. All numbers, columns, entries and bytes are worked by hand."""
 from decks import U
-from lent import *
-from reels import reel
+from mixed import *
 from runs import EMPTY, h
 
 HEAD = [
@@ -10,57 +8,12 @@ HEAD = [
     'NAME run DECK REEL ROOM, NAME twins DECK ROOM, and their lines are as in the other files. A deck that is read says A=K=l,D=l, and a K before r for a field that is taken from the',
     'key, or "past" where it runs past the key or there is none. In the digest of a table the first number of an entry is its kind and 256 times its part (0 data, 1 key). In comments a bar stands for hex 0A.',
 ]
-END = '\n// END\n'
 
 
-class Keys(Plans, Outputs):
-    def agrees(self, expected, answer):
-        return answer == expected
-
-    def at(self, name, number, deck, why, column=None):
-        """A deck refused at its caret; the column is said too where document 02 or a reading of it names it."""
-        before, behind = deck.split('^')
-        line = before.split('\n')
-        found = len(line[-1]) + 1
-        assert column in (None, found), (name, found)
-        deck_case(self, 'key-' + name, before + behind, '%d %d %d' % (number, len(line), found), why)
-
-    def each(self, name, number, before, operands, why):
-        for i, operand in enumerate(operands):
-            self.at('%s-%d' % (name, i + 1), number, before + operand + END, why)
-
-    def read(self, name, deck, expected, why):
-        deck_case(self, 'key-' + name, deck, expected, why)
-
-    def refused_plan(self, name, text, number, place, why, column=0, entries=None):
-        self.plan('key-' + name, text, '%d %d %d 0 0 0' % (number, place, column), why, entries)
-
+class Keys(Mixed):
     def ran(self, name, text, input_reel, out, why, room=None):
         """A run that writes these blocks of records."""
-        written_reel = reel(*[b''.join(records) for records in out])
-        answer = '0 0 0 %d %d %d %s' % (len(written_reel), sum(len(records) for records in out), len(out), written(written_reel))
-        self.run(name, text, input_reel, len(written_reel) if room is None else room, answer, why)
-
-    def refused_run(self, name, text, input_reel, number, place, why, room=70000, column=0):
-        answer = '%d %d %d 0 0 0 %d -' % (number, place, column, NOTHING_WRITTEN)
-        self.run(name, text, input_reel, room, answer, why + ': %d at %d' % (number, place))
-
-    def run(self, name, text, input_reel, room, answer, why):
-        self.say(text)
-        self.case('key-run-' + name, 'run %s %s %d' % (runs(text.encode('latin-1')), runs(input_reel), room), answer, why)
-
-    def pair(self, name, text, reason, one, other, why, room=None):
-        both = one + other
-        answer = '0 0 0 %d %d %s' % (reason, len(both), written(both))
-        self.twins(name, text, len(both) if room is None else room, answer, '%s: %s' % (why, REASONS[reason]))
-
-    def refused_twins(self, name, text, number, place, why, room=70000, column=0):
-        answer = '%d %d %d 0 0 %d -' % (number, place, column, NOTHING_WRITTEN)
-        self.twins(name, text, room, answer, why + ': %d at %d' % (number, place))
-
-    def twins(self, name, text, room, answer, why):
-        self.say(text)
-        self.case('key-twins-' + name, 'twins %s %d' % (runs(text.encode('latin-1')), room), answer, why)
+        self.wrote(name, text, input_reel, [b''.join(records) for records in out], sum(len(records) for records in out), why, room)
 
 
 D1 = ('(K,1),10,1/6,15,11/21,(P,5,3),26/77,(P,3,2),29/80,(P,6,4),31', '28,(P,8,5),35/26,(P,2,2),40')
@@ -323,7 +276,7 @@ FS = '(K,1),2,1/1,(P,4,3),3'
 def blocks(f):
     f.note('Reels: a block is one record, of just K+D bytes')
     text = deck('TRF,FF,A=(K=2,D=4),B=(5,10)', FS)
-    r = lambda name, input_reel, expected, why: f.case('key-reel-' + name, 'reel %s %s' % (runs(text.encode()), runs(input_reel)), expected, why)
+    r = lambda name, input_reel, expected, why: f.reel(name, text, input_reel, expected, why)
     r('empty', EMPTY, '0 0 0 0 0 -', 'the empty reel')
     r('one', reel(SIX[0]), '0 0 0 1 1 6', 'one block')
     r('three', reel(*SIX), '0 0 0 3 3 6,6,6', 'three blocks')
@@ -466,7 +419,7 @@ def twins(f):
 
 
 def make():
-    f = Keys('keys.txt', HEAD)
+    f = Keys('keys.txt', 'key', HEAD)
     for section in (of_manual, reads, columns_of_3, columns_of_4_and_7, combinations, ends, sizes, keeping, tables, blocks, run_functions, run_refusals, run_sizes, twins):
         section(f)
     return f
