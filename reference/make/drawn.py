@@ -1,6 +1,6 @@
 """Plans, runs, decks and twins drawn by chance, so many of each refusal and reason; their answers are the converter's own."""
 from common import *
-import keys as of_keys, plans, re, runs, twins as of_twins
+import keys as of_keys, plans, re, runs, spanned as of_spanned, twins as of_twins
 
 LONGEST = 2400  # a longer line is left out: the files are many lines, not large ones
 
@@ -72,6 +72,13 @@ def has_keys(words):
     return b'A=(K=' in deck or b'(K,' in deck
 
 
+def mixed(f, label, chosen):
+    """A file of these cases of several kinds."""
+    for number, case in enumerate(chosen, 1):
+        f.case('%s-%d' % (label, number), case, None)
+    return [f]
+
+
 def keys():
     """Decks with keys in them, of each kind that is drawn."""
     f = File('drawn_keys.txt', of_keys.HEAD + ['This file: decks and reels drawn by chance, each deck with a keyed A or a field that is taken from a key.'])
@@ -80,6 +87,21 @@ def keys():
         + drawn(2311, 20000, 'run', {'0': 80, 'empty': 8, '7': 4, '8': 8, '9': 6, '10': 4, '11': 8, '12': 40, '13': 25, '15': 15}, has_keys)
         + drawn(2314, 20000, 'deck', {'3': 40, '4': 12, '7': 30}, has_keys)
         + drawn(3330, 20000, 'twins', {'reason 1': 20, 'reason 2': 25, 'reason 3': 25, '7': 3, '8': 5, '9': 4, '10': 4, '15': 8, '16': 10}, has_keys))
-    for number, case in enumerate(chosen, 1):
-        f.case('drawn-key-%d' % number, case, None)
-    return [f]
+    return mixed(f, 'drawn-key', chosen)
+
+
+def has_fs(words):
+    """Whether the U card has FS in it."""
+    deck = bytes.fromhex(words[0]) if words[0] != '-' else b''
+    return re.match(rb'// U(TT)? [^ \n]*FS', deck) is not None
+
+
+def spanned():
+    """Decks of FS, of each kind that is drawn, and reels for them."""
+    f = File('drawn_spanned.txt', of_spanned.HEAD + ['This file: decks and reels drawn by chance, each deck with FS on its U card.'])
+    chosen = kept(f.name) or (
+        drawn(3420, 20000, 'plan', {'0': 40, '1': 2, '2': 2, '3': 8, '4': 10, '5': 6, '7': 24, '8': 40}, has_fs)
+        + drawn(2401, 20000, 'run', {'0': 130, 'empty': 12, '3': 2, '4': 2, '5': 2, '7': 5, '8': 8, '11': 14, '12': 110, '15': 30}, has_fs)
+        + drawn(2415, 20000, 'deck', {'0': 10, '3': 40, '4': 20, '7': 30}, has_fs)
+        + drawn(2420, 20000, 'twins', {'1': 2, '2': 2, '3': 4, '4': 4, '5': 4, '7': 5, '8': 8, '16': 20}, has_fs))
+    return mixed(f, 'drawn-span', chosen)

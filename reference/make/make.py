@@ -1,5 +1,5 @@
 """All case files of `crates/answers`, their names in `args` and the lines that are expected in `stdout`."""
-import columns, decks, drawn, halves, keys, manual, plans, reels, runs, twins, os
+import columns, decks, drawn, halves, keys, manual, plans, reels, runs, spanned, twins, os
 from common import ROOT
 
 
@@ -12,7 +12,7 @@ def tally(subject, files, lines):
 
 of_manual = manual.make()
 files = [halves.make(), halves.emulated(), decks.lines(), decks.order(), decks.operands(), decks.limits(), columns.make(), of_manual, manual.drawn(), reels.edges(), reels.blocks(), reels.drawn(),
-         plans.make(of_manual.decks), runs.make()] + drawn.make() + [twins.make()] + drawn.twins() + [keys.make()] + drawn.keys()
+         plans.make(of_manual.decks), runs.make()] + drawn.make() + [twins.make()] + drawn.twins() + [keys.make()] + drawn.keys() + [spanned.make()] + drawn.spanned()
 names = set()
 stdout = []
 for f in files:

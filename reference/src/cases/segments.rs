@@ -85,3 +85,26 @@ pub fn blocks(chance: &mut Chance, g: usize, records: &[Vec<u8>], wrong: bool) -
     let block = |segments: &Vec<Segment>| behind_word(0, &segments.iter().flat_map(segment).collect::<Vec<u8>>());
     blocks.iter().map(block).collect()
 }
+
+#[cfg(test)]
+mod tests {
+    use super::*;
+    use reference::spanned;
+
+    /// Records that were cut are read again; of those put out of turn many are not.
+    #[test]
+    fn what_is_cut_is_read() {
+        let mut chance = Chance::new(31);
+        let mut refused = 0;
+        for turn in 0..4_000 {
+            let (g, count) = (chance.range(9, 40), chance.below(5));
+            let records: Vec<Vec<u8>> = (0..count).map(|_| (0..chance.range(1, 60)).map(|_| chance.byte()).collect()).collect();
+            let made = blocks(&mut chance, g, &records, turn % 2 == 1);
+            let lent: Vec<&[u8]> = made.iter().map(Vec::as_slice).collect();
+            let read = spanned::records(g, &lent).map(|all| all.into_iter().map(|record| record.data).collect::<Vec<_>>());
+            refused += usize::from(read.is_err());
+            assert!(turn % 2 == 1 || read == Ok(records));
+        }
+        assert!((1_000..2_000).contains(&refused), "{refused}");
+    }
+}
