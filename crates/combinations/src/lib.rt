@@ -8,7 +8,7 @@ ghost use mathlib.Core.Path.{_≡_};
 ghost use mathlib.Core.Bool.{true, _&&_, _||_};
 ghost use Prim.Native.Nat.{_+_, _≤_};
 ghost use lib.Dec.{leb, eqb};
-ghost use Rattle.rules.specs.Plan.{isTC, selects as ruleSelects, isFF, isFV, isFU, numbers as ruleNumbers, wanted as ruleWanted, recordLength, blockLength, inside};
+ghost use Rattle.rules.specs.Plan.{isTC, selects as ruleSelects, isFF, isFV, isFU, isFS, numbers as ruleNumbers, wanted as ruleWanted, recordLength, blockLength, inside};
 ghost use Rattle.terms.specs.Meaning.{modeOf, formatOf, sizeOf, fieldOf};
 ghost use Rattle.rows.specs.Kept.{fieldsIn};
 ghost use Rattle.combinations.specs.Lines.{copyLines, countLine, lengthsEqual, fixedLines, FormatFair, formatLines, copyEqual, cardLine, allLines, keyLine, lowerOf};
@@ -16,7 +16,7 @@ ghost use Rattle.combinations.specs.Promise.{firstOutside, answerOf, rig
 
 // ---- what the letters say
 
-fn is_tc(mode: Mode) -> bool
+pub fn is_tc(mode: Mode) -> bool
     ensures { λ r. ⌜ r ≡ isTC (modeOf mode) ⌝ }
 {
     match mode {
@@ -57,6 +57,18 @@ pub fn is_fv(format: Format) -> bool
         Format::FV => true,
         Format::FU => false,
         Format::FS => false,
+    }
+}
+
+// Spanned records (document 02, order 6).
+pub fn is_fs(format: Format) -> bool
+    ensures { λ r. ⌜ r ≡ isFS (formatOf format) ⌝ }
+{
+    match format {
+        Format::FF => false,
+        Format::FV => false,
+        Format::FU => false,
+        Format::FS => true,
     }
 }
 

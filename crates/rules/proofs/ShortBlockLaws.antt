@@ -202,9 +202,12 @@ module _ (zone room : ℕ) (z : zone < 16) (deck s : List ℕ) (p : Plan) (x : R
           record {
             gives = g;
             only = read-only p q (accepted zone deck p e) (accepted zone deck′ q e′) u room s x a w;
-            no-11 = reel-never zone deck′ q e′ still (x .reel) outs g 11 (omega arith);
-            no-12 = reel-never zone deck′ q e′ still (x .reel) outs g 12 (omega arith);
-            copied = λ m room′ l. copies zone room′ deck′ (x .reel) q e′ still m outs g l ∙ ap fine (same outs (w .writes));
+            again =
+                record {
+                  no-11 = reel-never zone deck′ q e′ still (x .reel) outs g 11 (omega arith);
+                  no-12 = reel-never zone deck′ q e′ still (x .reel) outs g 12 (omega arith);
+                  copied = λ m room′ l. copies zone room′ deck′ (x .reel) q e′ still m outs g l ∙ ap fine (same outs (w .writes));
+                };
           }
         where
           same : (outs : List (List (List ℕ))) → x ≡ ranOf p outs → record { reel = x .reel; records = length (joined outs); blocks = length outs } ≡ x

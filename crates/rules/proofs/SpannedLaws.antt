@@ -24,10 +24,12 @@ use Rattle.rules.specs.RunRows.{GivesSpanned, RunWrites, in-blocks, in-s
 use Rattle.rules.specs.Rows.{Done as NoMore, IsOne, one-number}
 use Rattle.rules.specs.Demand.{Keeping}
 use Rattle.rules.specs.Accepted.{Accepted}
+use Rattle.rules.specs.ShortBlocks.{Under, RunsAgain}
 use Rattle.rules.specs.SpannedWords.{SpannedGives, SpannedDeck, Never10}
 use Rattle.rules.proofs.Tests.{and-left}
 use Rattle.rules.proofs.AnswerLaws.{fine-then, fine-bind, fine-unless, unless-fine}
 use Rattle.rules.proofs.RunColumns.{Refuses, refuses-then, refuses-unless, refuses-each, refuses-fine}
+use Rattle.rules.proofs.ReelLaws.{written-blocks}
 use Rattle.rules.proofs.LimitLaws.{is-TC, required-exactly}
 use Rattle.rules.proofs.AcceptedLaws.{accepted, zone-of}
 use Rattle.rules.proofs.RunParts.{the-span}
@@ -72,31 +74,47 @@ module _ (zone : ℕ) (deck : List ℕ) (p : Plan) (e : planOf zone deck ≡ fin
     back-TR : p .mode ≡ tr → GivesSpanned B (x .reel) taken
     back-TR q = back-span zone deck p e t room s a x (ap isTC q) w
 
-    -- what is written gives records under B
-    under : (rs : List (List ℕ)) × GivesSpanned B (x .reel) rs
+    -- where the records of what is written are its own, it is written again: with TC, or with TR from R1 on into the same blocks
+    module _ (rs : List (List ℕ)) (g : GivesSpanned B (x .reel) rs) (room′ : ℕ) (l : length (x .reel) ≤ room′) where
+      written-by : (c : Bool) → x ≡ spannedRan (spannedOut c B (blocksOf (x .reel)) rs) rs → spannedRun c B B 1 room′ (x .reel) ≡ fine x
+      unfolding spannedRun housed _>>_ unless
+      written-by c is =
+          let k = gives-read B high′ (x .reel) rs g in
+          fine-then (unless (isReel (x .reel)) 11 0) _ (fine-unless (isReel (x .reel)) 11 0 (k .0))
+          ∙ fine-bind (spannedFrom B 1 none (blocksOf (x .reel))) _ (k .1) (k .2)
+          ∙ ap (λ (rs : List (List ℕ)). housed room′ (spannedRan (spannedOut c B (blocksOf (x .reel)) rs) rs)) (k .3)
+          ∙ ap (housed room′) (sym is)
+          ∙ rw (le-leb (length (x .reel)) room′ l, le-leb (length (x .reel)) 65536 (w .most)) refl
+
+    -- the records of what is written, under B; and it is the reel of these
+    record Under-B : Type 0 where
+      rs : List (List ℕ)
+      given : GivesSpanned B (x .reel) rs
+      same : x ≡ spannedRan (blocksOf (x .reel)) rs
+
+    under : Under-B
     under = go (isTC (p .mode)) refl
       where
-        go : (c : Bool) → isTC (p .mode) ≡ c → (rs : List (List ℕ)) × GivesSpanned B (x .reel) rs
+        go : (c : Bool) → isTC (p .mode) ≡ c → Under-B
         go true q =
-            let m = is-TC (p .mode) q in (
-              joined (w .recs),
-              subst (λ (z : List ℕ). GivesSpanned B z (joined (w .recs))) (sym (copied-span zone deck p e t room s a x m w))
-              (subst (λ (z : Size). GivesSpanned (blockLength z) s (joined (w .recs))) (ok .required .TC-equal m) input),
-            )
-        go false q = (taken, back-span zone deck p e t room s a x q w)
-
-    -- with TR from R1 on into the same blocks
-    written-again : p .mode ≡ tr → (room′ : ℕ) → length (x .reel) ≤ room′ → spannedRun false B B 1 room′ (x .reel) ≡ fine x
-    unfolding spannedRun housed _>>_ unless
-    written-again q room′ l =
-        let g = gives-read B high′ (x .reel) taken (back-TR q) in
-        let is : x ≡ spannedRan (map spanOf (segmented B taken)) taken
-        = w .writes ∙ ap (λ (m : Mode). spannedRan (spannedOut (isTC m) B (blocksOf s) taken) taken) q in
-        fine-then (unless (isReel (x .reel)) 11 0) _ (fine-unless (isReel (x .reel)) 11 0 (g .0))
-        ∙ fine-bind (spannedFrom B 1 none (blocksOf (x .reel))) _ (g .1) (g .2)
-        ∙ ap (λ (rs : List (List ℕ)). housed room′ (spannedRan (map spanOf (segmented B rs)) rs)) (g .3)
-        ∙ ap (housed room′) (sym is)
-        ∙ rw (le-leb (length (x .reel)) room′ l, le-leb (length (x .reel)) 65536 (w .most)) refl
+            let m = is-TC (p .mode) q in
+            let r = copied-span zone deck p e t room s a x m w in
+            let one : p .first ≡ 1 = ok .required .TC-with-R1 m in
+            record {
+              rs = taken;
+              given =
+                  subst (λ (k : ℕ). GivesSpanned B (x .reel) (drop (k - 1) (joined (w .recs)))) (sym one)
+                  (subst (λ (z : List ℕ). GivesSpanned B z (joined (w .recs))) (sym r) (subst (λ (z : Size). GivesSpanned (blockLength z) s (joined (w .recs))) (ok .required .TC-equal m) input));
+              same =
+                  w .writes ∙ ap (λ (c : Bool). spannedRan (spannedOut c B (blocksOf s) taken) taken) q
+                  ∙ ap (λ (z : List ℕ). spannedRan (blocksOf z) taken) (sym r);
+            }
+        go false q =
+            let g = back-span zone deck p e t room s a x q w in
+            let is : x ≡ spannedRan (map spanOf (segmented B taken)) taken = w .writes ∙ ap (λ (c : Bool). spannedRan (spannedOut c B (blocksOf s) taken) taken) q in
+            let r : blocksOf (x .reel) ≡ map spanOf (segmented B taken)
+            = ap (λ (z : Ran). blocksOf (z .reel)) is ∙ written-blocks (map spanOf (segmented B taken)) (subst (λ (z : Ran). length (z .reel) ≤ 65536) is (w .most)) in
+            record { rs = taken; given = g; same = is ∙ ap (λ (bs : List (List ℕ)). spannedRan bs taken) (sym r) }
 
     says : SpannedGives zone p s x
     says =
@@ -107,17 +125,32 @@ module _ (zone : ℕ) (deck : List ℕ) (p : Plan) (e : planOf zone deck ≡ fin
           TC = λ m. copied-span zone deck p e t room s a x m w;
           TR = back-TR;
           only = λ m rs g. gives-once B high′ (x .reel) rs taken g (back-TR m);
-          back = λ deck′ q e′ f n.
-              let g : GivesSpanned (blockLength (q .input)) (x .reel) (under .0) = subst (λ (k : ℕ). GivesSpanned k (x .reel) (under .0)) (sym n) (under .1) in
-              (span-never zone deck′ q e′ (ap isFS f) (x .reel) (under .0) g 11 (omega arith), span-never zone deck′ q e′ (ap isFS f) (x .reel) (under .0) g 12 (omega arith));
-          again = λ m deck′ q e′ f m′ one in-A in-B room′ l.
-              the-span zone room′ deck′ (x .reel) q e′ (ap isFS f)
-              ∙ alike (isTC (q .mode)) (blockLength (q .input)) (blockLength (q .output)) (q .first) room′ (ap isTC m′) in-A in-B one
-              ∙ written-again m room′ l;
+          back = back;
+          refilled = λ m deck′ q e′ u m′ one in-B room′ l.
+              let is : x ≡ spannedRan (map spanOf (segmented B taken)) taken = w .writes ∙ ap (λ (m : Mode). spannedRan (spannedOut (isTC m) B (blocksOf s) taken) taken) m in
+              the-span zone room′ deck′ (x .reel) q e′ (still q u)
+              ∙ alike (isTC (q .mode)) (blockLength (q .input)) (blockLength (q .output)) (q .first) room′ false (ap isTC m′) (u .most) in-B one
+              ∙ written-by taken (back-TR m) room′ l false is;
         }
       where
-        alike : (c : Bool) (g m first room′ : ℕ) → c ≡ false → g ≡ B → m ≡ B → first ≡ 1 → spannedRun c g m first room′ (x .reel) ≡ spannedRun false B B 1 room′ (x .reel)
-        alike c g m first room′ ec eg em ef = rw (ec, eg, em, ef) refl
+        still : (q : Plan) → Under p q → isFS (q .format) ≡ true
+        still q u = ap isFS (u .format) ∙ t
+
+        alike : (c : Bool) (g m first room′ : ℕ) (d : Bool) → c ≡ d → g ≡ B → m ≡ B → first ≡ 1 → spannedRun c g m first room′ (x .reel) ≡ spannedRun d B B 1 room′ (x .reel)
+        alike c g m first room′ d ec eg em ef = rw (ec, eg, em, ef) refl
+
+        back : (deck′ : List ℕ) (q : Plan) → planOf zone deck′ ≡ fine q → Under p q → RunsAgain zone deck′ q x
+        back deck′ q e′ u =
+            let g : GivesSpanned (blockLength (q .input)) (x .reel) (under .rs) = subst (λ (k : ℕ). GivesSpanned k (x .reel) (under .rs)) (sym (u .most)) (under .given) in
+            let fair = accepted zone deck′ q e′ in
+            record {
+              no-11 = span-never zone deck′ q e′ (still q u) (x .reel) (under .rs) g 11 (omega arith);
+              no-12 = span-never zone deck′ q e′ (still q u) (x .reel) (under .rs) g 12 (omega arith);
+              copied = λ m room′ l.
+                  the-span zone room′ deck′ (x .reel) q e′ (still q u)
+                  ∙ alike (isTC (q .mode)) (blockLength (q .input)) (blockLength (q .output)) (q .first) room′ true (ap isTC m) (u .most) (ap blockLength (sym (fair .required .TC-equal m)) ∙ u .most) (fair .required .TC-with-R1 m)
+                  ∙ written-by (under .rs) (under .given) room′ l true (under .same);
+            }
 
   -- ---- the deck
 

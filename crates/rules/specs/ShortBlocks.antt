@@ -48,15 +48,19 @@ pub record Under (p q : Plan) : Type 0 where
   pub most : blockLength (q .input) ≡ blockLength (p .output)
   pub same : (q .format ≡ ff) ⊎ (selects (q .mode) ≡ true) → q .input ≡ p .output
 
--- x is written, its records are outs, block by block; deck is one whose plan q reads under B
-pub record ReadsBack (zone : ℕ) (deck : List ℕ) (q : Plan) (x : Ran) (outs : List (List (List ℕ))) : Type 0 where
-  -- the records of its blocks are these, and no others
-  pub gives : Gives q (x .reel) outs
-  pub only : (recs : List (List (List ℕ))) → Gives q (x .reel) recs → recs ≡ outs
+-- x is written, and deck is one whose plan q reads under B: no fault is found with it
+pub record RunsAgain (zone : ℕ) (deck : List ℕ) (q : Plan) (x : Ran) : Type 0 where
   pub no-11 : NeverRefused zone deck (x .reel) 11
   pub no-12 : NeverRefused zone deck (x .reel) 12
   -- TC of it is itself
   pub copied : q .mode ≡ tc → (room : ℕ) → length (x .reel) ≤ room → runOf zone room deck (x .reel) ≡ fine x
+
+-- its records are outs, block by block
+pub record ReadsBack (zone : ℕ) (deck : List ℕ) (q : Plan) (x : Ran) (outs : List (List (List ℕ))) : Type 0 where
+  -- the records of its blocks are these, and no others
+  pub gives : Gives q (x .reel) outs
+  pub only : (recs : List (List (List ℕ))) → Gives q (x .reel) recs → recs ≡ outs
+  pub again : RunsAgain zone deck q x
 
 -- ---- TF
 

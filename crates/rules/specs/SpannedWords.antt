@@ -15,7 +15,7 @@ use Rattle.rules.specs.Spanned.{spanOf, segmented, Spans}
 use Rattle.rules.specs.Run.{Ran, runOf}
 use Rattle.rules.specs.RunRows.{GivesSpanned}
 use Rattle.rules.specs.Demand.{Keeping}
-use Rattle.rules.specs.ShortBlocks.{NeverRefused}
+use Rattle.rules.specs.ShortBlocks.{NeverRefused, Under, RunsAgain}
 
 -- x is what a finished run of plan p over s wrote
 pub record SpannedGives (zone : ℕ) (p : Plan) (s : List ℕ) (x : Ran) : Type 0 where
@@ -28,12 +28,10 @@ pub record SpannedGives (zone : ℕ) (p : Plan) (s : List ℕ) (x : Ran) : Type 
   -- TR: "reading back what was written gives the same records", under B whatever it is, and no others
   pub TR : p .mode ≡ tr → GivesSpanned (blockLength (p .output)) (x .reel) (drop (p .first - 1) records)
   pub only : p .mode ≡ tr → (rs : List (List ℕ)) → GivesSpanned (blockLength (p .output)) (x .reel) rs → rs ≡ drop (p .first - 1) records
-  -- a deck in FS whose A is this B refuses it neither with 11 nor with 12; and with TR from R1 on into the same B it writes it again
-  pub back : (deck : List ℕ) (q : Plan) → planOf zone deck ≡ fine q → q .format ≡ fsp → blockLength (q .input) ≡ blockLength (p .output)
-      → NeverRefused zone deck (x .reel) 11 × NeverRefused zone deck (x .reel) 12
-  pub again : p .mode ≡ tr → (deck : List ℕ) (q : Plan) → planOf zone deck ≡ fine q → q .format ≡ fsp → q .mode ≡ tr → q .first ≡ 1
-      → blockLength (q .input) ≡ blockLength (p .output) → blockLength (q .output) ≡ blockLength (p .output)
-      → (room : ℕ) → length (x .reel) ≤ room → runOf zone room deck (x .reel) ≡ fine x
+  -- a deck that reads under B finds no fault with it, and TC of it is itself; with TR from R1 on into the same B it is written again
+  pub back : (deck : List ℕ) (q : Plan) → planOf zone deck ≡ fine q → Under p q → RunsAgain zone deck q x
+  pub refilled : p .mode ≡ tr → (deck : List ℕ) (q : Plan) → planOf zone deck ≡ fine q → Under p q → q .mode ≡ tr → q .first ≡ 1
+      → blockLength (q .output) ≡ blockLength (p .output) → (room : ℕ) → length (x .reel) ≤ room → runOf zone room deck (x .reel) ≡ fine x
 
 -- "a plan converting each record of 1 to 32,752 bytes": of a deck in FS, whose plan is p
 pub record SpannedDeck (zone : ℕ) (deck : List ℕ) (p : Plan) : Type 0 where
