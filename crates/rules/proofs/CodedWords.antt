@@ -7,7 +7,7 @@ use mathlib.Core.List.{List, [], _∷_, _++_, map, append-assoc}
 use mathlib.Core.Option.{Option, none, some, Option·none-ne-some, Option·some-injective}
 use Prim.Native.Nat.{ℕ, zero, suc, _+_, _-_, _*_, _/_, _%_, _≤_, _<_, min}
 use native.Mathlib.Omega.{arith}
-use lib.Dec.{leb, eqb}
+use lib.Dec.{leb}
 use lib.ListN.{length, take, drop, getD, length-append, length-drop, length-take, take-append-drop}
 use lib.Seq.{take-at, drop-at, drop-drop, take-add}
 use borrow.Author.Tests.{eqb-true, eq-eqb, leb-true, le-leb}
@@ -15,7 +15,7 @@ use Rattle.rules.specs.Base.{within}
 use Rattle.rules.specs.Places.{All, noMore, also, Byte}
 use Rattle.rules.specs.Blocks.{Piece, wordLength, headedTo, withPiece, walkFrom, dataOf}
 use Rattle.rules.specs.ReelPlaces.{pieceAt}
-use Rattle.rules.specs.Spanned.{Segment, segment, part, codeOf, code, segmentOf, codedWord, spelled, segmentAt}
+use Rattle.rules.specs.Spanned.{Segment, segment, part, code, segmentOf, codedWord, spelled, segmentAt}
 use Rattle.rules.proofs.Tests.{and-left, and-right, and-both, within-low, within-high, within-of}
 use Rattle.rules.proofs.AllLaws.{all-append, all-drop}
 

@@ -1,9 +1,8 @@
 -- The runs of a deck in FS: which records its plan converts, what a finished run wrote and took, and that 10, 13 and 14 are never answered. What is written is read
 -- back since it is a filling, and a filling holds the records that were filled in.
-use mathlib.Core.Path.{_≡_, refl, ap, ap₂, sym, _∙_, subst}
-use mathlib.Core.Logic.{_↔_}
+use mathlib.Core.Path.{_≡_, refl, ap, sym, _∙_, subst}
 use mathlib.Core.Bool.{Bool, true, false, _&&_, true≢false}
-use mathlib.Core.List.{List, [], _∷_, _++_, map}
+use mathlib.Core.List.{List, [], _∷_, _++_}
 use mathlib.Core.Option.{none}
 use Prim.Native.Nat.{ℕ, _+_, _-_, _≤_, _<_}
 use native.Mathlib.Omega.{arith}
@@ -11,35 +10,30 @@ use lib.Dec.{ltb}
 use lib.ListN.{length, drop}
 use borrow.Author.Tests.{lt-ltb, ltb-true}
 use Rattle.rules.specs.Base.{joined, every}
-use Rattle.rules.specs.Answer.{Refusal, Answer, fine, refuse, refusedAt, unless}
+use Rattle.rules.specs.Answer.{fine, refusedAt}
 use Rattle.rules.specs.Places.{All, noMore, also, Byte, Both, none-left, both}
-use Rattle.rules.specs.Grammar.{Mode, tc, tr, Format, fsp, Size}
-use Rattle.rules.specs.Asked.{Asked, askedOf}
-use Rattle.rules.specs.Plan.{Plan, planOf, isTC, isFS, selects, blockLength}
+use Rattle.rules.specs.Grammar.{tc}
+use Rattle.rules.specs.Plan.{Plan, planOf, isTC, isFS, blockLength}
 use Rattle.rules.specs.Output.{converts, permits, lengthWord}
-use Rattle.rules.specs.Spanned.{Segment, part, code, codedWord, spelled, spanOf, segmented, spannedFrom, Joined, no-segment, ending, going, SpanIs, Spans}
+use Rattle.rules.specs.Spanned.{Segment, part, code, codedWord, spelled, spanOf, spannedFrom, Joined, no-segment, ending, going, SpanIs, Spans}
 use Rattle.rules.specs.Taken.{Takes, of-spans}
-use Rattle.rules.specs.Reel.{isReel, blocksOf, reelOf}
-use Rattle.rules.specs.Run.{Ran, spannedOut, spannedRan, spannedRun, runOf}
-use Rattle.rules.specs.RunRows.{ReelIs, RunWrites, in-blocks, in-segments, GivesSpanned}
+use Rattle.rules.specs.Reel.{isReel, blocksOf}
+use Rattle.rules.specs.Run.{Ran, spannedRun, runOf}
+use Rattle.rules.specs.RunRows.{GivesSpanned}
 use Rattle.rules.specs.Accepted.{Accepted}
 use Rattle.rules.specs.ShortBlocks.{NeverRefused}
-use Rattle.rules.specs.SpannedWords.{SpannedGives, SpannedDeck}
 use Rattle.rules.proofs.Tests.{and-both, and-left, and-right, within-of, within-low, within-high, all-every, every-all}
 use Rattle.rules.proofs.AllLaws.{all-imply, all-drop, all-append, all-left, all-right}
 use Rattle.rules.proofs.AnswerLaws.{fine-unless}
 use Rattle.rules.proofs.ReelLaws.{reel-blocks, reel-is, all-blocks}
-use Rattle.rules.proofs.LimitLaws.{is-FS}
-use Rattle.rules.proofs.AcceptedLaws.{accepted, zone-of}
+use Rattle.rules.proofs.AcceptedLaws.{accepted}
 use Rattle.rules.proofs.BlockSizes.{all-with}
 use Rattle.rules.proofs.Never.{permits-other}
 use Rattle.rules.proofs.RunParts.{the-span}
 use Rattle.rules.proofs.RunColumns.{Refuses, refuses-unless, refuses-spans, refuses-fine, refuses-spanned}
-use Rattle.rules.proofs.RunTable.{run-table}
-use Rattle.rules.proofs.Demand3.{kept-plan}
 use Rattle.rules.proofs.SpannedRead.{spans-held, held-read}
-use Rattle.rules.proofs.SpannedRuns.{FinishedSpan, finished-span, span-input, span-copy, span-back, span-tells, gives-once, converts-span, spans-data, out-most}
-use Rattle.rules.proofs.SpannedOut.{low-A, low-B, most-A, most-B, not-selects, spans-only}
+use Rattle.rules.proofs.SpannedRuns.{FinishedSpan, finished-span, span-input, span-copy, span-back, span-tells, spans-data}
+use Rattle.rules.proofs.SpannedOut.{low-A, low-B, most-A, most-B, not-selects}
 
 -- the records of blocks of bytes are bytes
 spelled-parts : (ss : List Segment) → All Byte (spelled ss) → All (λ s. All Byte (part s)) ss

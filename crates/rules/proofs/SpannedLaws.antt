@@ -16,13 +16,11 @@ use Rattle.rules.specs.Grammar.{Mode, tr, Size}
 use Rattle.rules.specs.Permitted.{choices, firstOf}
 use Rattle.rules.specs.Asked.{askedOf}
 use Rattle.rules.specs.Plan.{Plan, planOf, isTC, isFS, recordLength, blockLength, inputHalves, allowed, barrenHalf, combined, assembled, sound, keeps}
-use Rattle.rules.specs.Output.{converts}
-use Rattle.rules.specs.Spanned.{spanOf, segmented, spannedFrom, Spans}
+use Rattle.rules.specs.Spanned.{spanOf, segmented, spannedFrom}
 use Rattle.rules.specs.Reel.{isReel, blocksOf, reelOf}
 use Rattle.rules.specs.Run.{Ran, housed, spannedOut, spannedRan, spannedRun, runOf}
 use Rattle.rules.specs.RunRows.{GivesSpanned, RunWrites, in-blocks, in-segments, Row15}
 use Rattle.rules.specs.Rows.{Done as NoMore, IsOne, one-number}
-use Rattle.rules.specs.Demand.{Keeping}
 use Rattle.rules.specs.Accepted.{Accepted}
 use Rattle.rules.specs.ShortBlocks.{Under, RunsAgain}
 use Rattle.rules.specs.SpannedWords.{SpannedGives, SpannedDeck, Never10}

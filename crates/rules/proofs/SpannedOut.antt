@@ -1,17 +1,16 @@
 -- What a run in FS writes, in words, is what the definitions compute: TC leaves the blocks, and of TR the words of filling allow one output alone. So too for the
 -- blocks that have no records by themselves.
 use mathlib.Core.Path.{_≡_, refl, ap, sym, _∙_, subst}
-use mathlib.Core.Bool.{Bool, true, false, true≢false}
+use mathlib.Core.Bool.{true, false, true≢false}
 use mathlib.Core.List.{List, [], _∷_, map}
-use Prim.Native.Nat.{ℕ, _-_, _≤_, _<_}
+use Prim.Native.Nat.{ℕ, _-_, _≤_}
 use native.Mathlib.Omega.{arith}
 use lib.ListN.{length, drop}
-use Rattle.rules.specs.Base.{joined}
-use Rattle.rules.specs.Places.{All, noMore, also, Both, none-left, both}
+use Rattle.rules.specs.Places.{All, also, none-left, both}
 use Rattle.rules.specs.Rows.{IsOne, one-number, SizeWithin}
 use Rattle.rules.specs.Grammar.{Mode, tc, tf, tr, trf, Format, fsp, Size}
 use Rattle.rules.specs.Plan.{Plan, isTC, isFS, selects, blockLength}
-use Rattle.rules.specs.Spanned.{Segment, spanOf, segmented, Spans}
+use Rattle.rules.specs.Spanned.{spanOf, Spans}
 use Rattle.rules.specs.Run.{spannedOut}
 use Rattle.rules.specs.RunRows.{RecordIs, Holds, SpansOut, left, filled}
 use Rattle.rules.specs.Accepted.{Accepted}

@@ -1,14 +1,12 @@
 -- Refusal 12 in FS: the reader refuses at the first block up to which the blocks are not blocks of segments in turn, or at the last if a record is
 -- unfinished; else it refuses nothing. By going along the blocks with what is open.
-use mathlib.Core.Path.{_≡_, refl, ap, ap₂, sym, _∙_, subst, subst₂}
-use mathlib.Core.Bool.{Bool, true, false}
-use mathlib.Core.List.{List, [], _∷_, _++_, append-nil}
+use mathlib.Core.Path.{_≡_, refl, ap, sym, _∙_, subst}
+use mathlib.Core.List.{List, [], _∷_, _++_}
 use mathlib.Core.Option.{Option, none, some, Option·none-ne-some, Option·some-injective}
-use Prim.Native.Nat.{ℕ, zero, suc, _+_, _-_, _≤_, _<_}
+use Prim.Native.Nat.{ℕ, suc, _+_, _-_, _<_}
 use native.Mathlib.Omega.{arith}
 use lib.ListN.{length}
 use Rattle.rules.specs.Base.{joined}
-use Rattle.rules.specs.Answer.{Answer, fine, refused, _>>=_}
 use Rattle.rules.specs.Places.{All, noMore, also, Byte}
 use Rattle.rules.specs.Places.{Both, none-left, both}
 use Rattle.rules.specs.Spanned.{Segment, State, segmentsIn, joinFrom, finish, spannedFrom, SpanIs, Turns, no-turn, InTurn, BadSpan}

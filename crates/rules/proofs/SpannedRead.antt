@@ -1,23 +1,21 @@
 -- The reader of FS gives the records that the blocks hold, exactly if there are such, and there is one list of them; and it gives back the records that
 -- were filled into blocks.
-use mathlib.Core.Path.{_≡_, refl, ap, ap₂, sym, _∙_, subst}
+use mathlib.Core.Path.{_≡_, refl, ap, sym, _∙_, subst}
 use mathlib.Core.Logic.{_↔_}
-use mathlib.Core.Bool.{Bool, true, false}
 use mathlib.Core.List.{List, [], _∷_, _++_, map}
-use mathlib.Core.Option.{Option, none, some, Option·none-ne-some, Option·some-injective}
-use Prim.Native.Nat.{ℕ, zero, suc, _+_, _-_, _≤_, _<_}
-use native.Mathlib.Omega.{arith}
+use mathlib.Core.Option.{Option, none, some}
+use Prim.Native.Nat.{ℕ, suc, _+_, _-_, _≤_, _<_}
 use lib.ListN.{length}
 use Rattle.rules.specs.Base.{joined}
-use Rattle.rules.specs.Answer.{Answer, fine, refused, _>>=_}
+use Rattle.rules.specs.Answer.{fine}
 use Rattle.rules.specs.Places.{All, noMore, also, Byte}
 use Rattle.rules.specs.Places.{Both, none-left, both}
-use Rattle.rules.specs.Spanned.{Segment, State, spanOf, segmentsIn, joinFrom, joinIn, finish, onward, spannedFrom, segmented, Spanned, SpanIs, Spans, Turns, no-turn}
+use Rattle.rules.specs.Spanned.{Segment, State, spanOf, segmentsIn, joinFrom, spannedFrom, segmented, Spanned, SpanIs, Spans, Turns, no-turn}
 use Rattle.rules.proofs.AllLaws.{all-imply}
 use Rattle.rules.proofs.AnswerLaws.{not-fine, fine-same, bind-fine, fine-bind}
 use Rattle.rules.proofs.SpannedFill.{segmented-spanned}
 use Rattle.rules.proofs.SpannedBlocks.{span-exactly, span-read, spanned-blocks}
-use Rattle.rules.proofs.SpannedTurns.{read-turns, turns-read, turns-once, turns-append, turns-split, turns-exactly}
+use Rattle.rules.proofs.SpannedTurns.{read-turns, turns-read, turns-append, turns-split, turns-exactly}
 
 module _ (g : ℕ) where
   -- the records that end in each block

@@ -1,30 +1,29 @@
 -- What a finished run in FS wrote: with TC the reel itself, with TR a reel that gives the records taken; so the reel tells the records. And how long
 -- the reel can be: at most 851,560 bytes.
-use mathlib.Core.Path.{_≡_, refl, ap, ap₂, sym, _∙_, subst}
-use mathlib.Core.Logic.{_⊎_, inl, inr}
+use mathlib.Core.Path.{_≡_, refl, ap, sym, _∙_, subst}
 use mathlib.Core.Bool.{Bool, true, false, _&&_}
 use mathlib.Core.List.{List, [], _∷_, _++_, map}
-use mathlib.Core.Option.{Option, none, some}
+use mathlib.Core.Option.{none, some}
 use Prim.Native.Nat.{ℕ, zero, suc, _+_, _-_, _*_, _≤_, _<_}
 use native.Mathlib.Omega.{arith}
 use lib.Dec.{leb}
-use lib.ListN.{length, drop, length-append, length-drop, length-map}
+use lib.ListN.{length, drop, length-append}
 use borrow.Author.Tests.{leb-true}
 use Rattle.rules.specs.Base.{joined}
-use Rattle.rules.specs.Answer.{Answer, fine, refuse, Refusal, refused, _>>=_, _>>_, unless}
+use Rattle.rules.specs.Answer.{fine, unless}
 use Rattle.rules.specs.Places.{All, noMore, also, Byte}
 use Rattle.rules.specs.Places.{Both, none-left, both}
 use Rattle.rules.specs.Reel.{isReel, blocksOf, reelOf}
 use Rattle.rules.specs.Run.{Ran, housed, spannedOut, spannedRan, spannedRun}
 use Rattle.rules.specs.RunRows.{ReelIs}
-use Rattle.rules.specs.Spanned.{Segment, segment, part, spelled, spanOf, spannedFrom, segmented, Joined, no-segment, ending, going, Spanned, SpanIs, Spans}
+use Rattle.rules.specs.Spanned.{Segment, segment, part, spelled, spanOf, spannedFrom, segmented, Joined, no-segment, ending, going, SpanIs, Spans}
 use Rattle.rules.specs.RunRows.{GivesSpanned}
 use Rattle.rules.proofs.Tests.{and-left, and-right}
 use Rattle.rules.proofs.AllLaws.{all-imply, all-drop, all-head}
-use Rattle.rules.proofs.AnswerLaws.{not-fine, fine-same, bind-fine, then-fine, unless-fine}
+use Rattle.rules.proofs.AnswerLaws.{fine-same, bind-fine, then-fine, unless-fine}
 use Rattle.rules.proofs.BlockSizes.{all-map, all-with}
-use Rattle.rules.proofs.ReelLaws.{reel-blocks, reel-of, blocks-reel, all-blocks, full-blocks, length-reel, length-full}
-use Rattle.rules.proofs.CodedWords.{length-spelled, count-spelled}
+use Rattle.rules.proofs.ReelLaws.{reel-blocks, reel-of, blocks-reel, all-blocks, length-reel, length-full}
+use Rattle.rules.proofs.CodedWords.{length-spelled}
 use Rattle.rules.proofs.SpannedFill.{joined-data, segmented-spanned}
 use Rattle.rules.proofs.SpannedBlocks.{length-span, spanned-blocks}
 use Rattle.rules.proofs.SpannedRead.{spans-exactly, spans-once, spanned-spans}

@@ -1,21 +1,21 @@
 -- Laws for code that walks the segments of a block with a cursor, keeps what is open as a count, and fills blocks segment by segment: where it starts,
 -- what a step does, and where it ends. No steps are counted in them.
-use mathlib.Core.Path.{_≡_, refl, ap, ap₂, sym, _∙_, subst}
-use mathlib.Core.Bool.{Bool, true, false, cond, not, _&&_, true≢false}
+use mathlib.Core.Path.{_≡_, refl, ap, ap₂, sym, _∙_}
+use mathlib.Core.Bool.{Bool, true, false, cond, _&&_, true≢false}
 use mathlib.Core.List.{List, [], _∷_, _++_, map, append-assoc, append-nil}
 use mathlib.Core.Option.{Option, none, some, Option·none-ne-some}
-use Prim.Native.Nat.{ℕ, zero, suc, _+_, _-_, _%_, _≤_, _<_}
+use Prim.Native.Nat.{ℕ, suc, _+_, _-_, _%_, _≤_, _<_}
 use native.Mathlib.Omega.{arith}
 use lib.Dec.{ltb, leb, eqb}
 use lib.ListN.{length, take, drop, getD, length-append, length-drop, drop-of-length-le}
 use lib.Seq.{drop-drop}
-use Rattle.rules.specs.Base.{joined, isEmpty}
-use Rattle.rules.specs.Places.{All, noMore, also}
+use Rattle.rules.specs.Base.{joined}
+use Rattle.rules.specs.Places.{All, also}
 use Rattle.rules.specs.Blocks.{Piece, wordLength, headed, withPiece, dataOf, headedTo, walkFrom}
 use Rattle.rules.specs.ReelPlaces.{pieceAt}
-use Rattle.rules.specs.Spanned.{Segment, segment, begins, ends, part, segmentOf, segmentAt, segmentsOf, segmentsIn, isClosed, sofar, same, State, withRecord, inTurn, joinFrom, joinIn, Parts, fillFrom, segmented, Fills, at-end, new-block, takes, Joined, no-segment, ending, going}
+use Rattle.rules.specs.Spanned.{Segment, segment, segmentOf, segmentAt, segmentsOf, segmentsIn, isClosed, sofar, same, State, withRecord, inTurn, joinFrom, joinIn, Parts, fillFrom, segmented}
 use Rattle.rules.proofs.CodedWords.{headedTo-exactly, walk-good, walk-bad, walk-enough}
-use Rattle.rules.proofs.SpannedFill.{fill-good, fill-once, Good, fill-left, fill-new, placed-all, placed-some}
+use Rattle.rules.proofs.SpannedFill.{fill-good, fill-once, fill-left, fill-new, placed-all, placed-some}
 
 -- ---- the pieces of a block from a place on
 
