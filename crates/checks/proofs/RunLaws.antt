@@ -1,12 +1,12 @@
 -- The answer of a run, step by step: each refusal is that of the first step that refuses. By the definition of a run.
 use mathlib.Core.Path.{_≡_, refl, ap, sym, _∙_, subst}
 use mathlib.Core.Bool.{Bool, true, false}
-use mathlib.Core.List.{List, [], _∷_}
+use mathlib.Core.List.{List, [], _∷_, _++_}
 use mathlib.Core.Logic.{inl}
 use Prim.Native.Nat.{ℕ, zero, suc, _-_, _≤_, _<_}
 use native.Mathlib.Omega.{arith}
 use lib.Dec.{ltb}
-use lib.ListN.{length, getD}
+use lib.ListN.{length, getD, drop}
 use borrow.Author.Tests.{ltb-true, ltb-false, lt-ltb, le-ltb, le-leb, lt-leb}
 use Rattle.rules.specs.Base.{joined}
 use Rattle.rules.specs.Answer.{Answer, fine, refuse, refused, _>>=_, _>>_, unless, each}
@@ -17,8 +17,10 @@ use Rattle.rules.specs.Plan.{Plan, selects, isTC, recordLength}
 use Rattle.rules.specs.Blocks.{takenFrom}
 use Rattle.rules.specs.Output.{permits}
 use Rattle.rules.specs.Run.{Ran as RuleRan, outBlocks, ranOf, housed, convert, outputBlocks}
-use Rattle.rules.specs.Lent.{runAnswer}
+use Rattle.rules.specs.Halves.{over}
+use Rattle.rules.specs.Lent.{runAnswer, outputAfter}
 use Rattle.rules.proofs.AnswerLaws.{fine-each}
+use Rattle.rules.proofs.LentParts.{front-over}
 use Rattle.rules.proofs.AllLaws.{all-imply}
 use Rattle.rules.proofs.ReelLaws.{all-joined, all-blocks}
 use Rattle.rules.proofs.BlocksOutcome.{holds-of, reads-give}
@@ -73,10 +75,10 @@ module _ (room : ℕ) (p : Plan) (s : List ℕ) where
       sizes-left = reads ∙ ap (λ (h : Answer Unit). asked h (fitAnswer p recs)) permitted
 
 -- 15
-abbrev roomAnswer : ℕ → RuleRan → Ran
+abbrev pub roomAnswer : ℕ → RuleRan → Ran
 roomAnswer room x = housedRun room (length (x .reel)) (x .records) (x .blocks)
 
-room-is : (room : ℕ) (x : RuleRan) → ranStruct (runAnswer (housed room x)) ≡ roomAnswer room x
+pub room-is : (room : ℕ) (x : RuleRan) → ranStruct (runAnswer (housed room x)) ≡ roomAnswer room x
 unfolding housed housedRun unless _>>_
 room-is room x = go (ltb room (length (x .reel))) refl (ltb 65536 (length (x .reel))) refl
   where
@@ -217,6 +219,17 @@ module _ {task : Task} {fields s : List ℕ} {form : Form} {read : ReelRead} (f 
         let y = subst (Tells p s) t (told p x) in
         h .is p (y .1 .0) x (record { accepted = x .accepted; reel = y .0; records = y .1 .1 }) (y .1 .2) (y .1 .3);
   }
+
+-- ---- the lent output
+
+-- a refusal leaves it as it was
+pub refuses : (a : Answer RuleRan) (r : Ran) → r ≡ ranStruct (runAnswer a) → 0 < r .refusal → (old : List ℕ) → old ≡ outputAfter old a
+refuses (fine x) r e l old = absurd (let z = ap (λ (q : Ran). q .refusal) e in omega arith)
+refuses (refuse f) r e l old = refl
+
+-- a finished run puts its reel at the front
+pub over-front : (v old new : List ℕ) (x : RuleRan) → x .reel ≡ v → new ≡ over 0 v old → new ≡ outputAfter old (fine x)
+over-front v old new x e h = h ∙ sym (front-over (length v) old v refl) ∙ ap (λ (z : List ℕ). z ++ drop (length z) old) (sym e)
 
 -- ---- one answer
 

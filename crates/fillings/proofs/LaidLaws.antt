@@ -8,11 +8,12 @@ use native.Mathlib.Omega.{arith}
 use lib.ListN.{length, length-append, length-map}
 use Rattle.rules.specs.Base.{joined}
 use Rattle.rules.specs.Halves.{over}
-use Rattle.rules.specs.Reel.{word, ends}
+use Rattle.rules.specs.Reel.{word, ends, reelOf}
 use Rattle.rules.proofs.PartLaws.{joined-append}
 use Rattle.rules.proofs.SizeLaws.{length-over}
 use Rattle.rules.proofs.PlaceLaws.{over-nothing, over-behind, over-apart, over-part}
 use Rattle.rules.proofs.WordLaws.{length-word}
+use Rattle.rules.proofs.ReelLaws.{length-ends, length-reel}
 use Rattle.rules.proofs.BlockPlaces.{heads, length-heads, heads-snoc, heads-ends}
 
 -- ---- the bytes of blocks
@@ -156,3 +157,16 @@ module _ {P : Type 0} (x : Framing P) (base : ℕ) (old : List ℕ) where
         ∙ sym (x .is new))
         ∙ sym (bytes-snoc (x .block) closed new))
         (heads-in now ∙ sym (heads-in new))
+
+-- ---- the reel
+
+-- the block count, and behind it the offsets and the blocks
+pub reel-over : (bs : List (List ℕ)) (blocks : ℕ) → blocks ≡ length bs → (old : List ℕ) → length (reelOf bs) ≤ length old
+    → over 4 (ends (4 * blocks + 8) bs ++ joined bs) (over 0 (word blocks) old) ≡ over 0 (reelOf bs) old
+unfolding reelOf
+reel-over bs blocks e old fits =
+    let body = ends (4 * blocks + 8) bs ++ joined bs in
+    over-behind 0 4 (word blocks) body old (omega (arith, length-word blocks))
+    (omega (arith, length-append (ends (4 * blocks + 8) bs) (joined bs), length-ends (4 * blocks + 8) bs, length-reel bs))
+    ∙ ap (λ (x : List ℕ). over 0 x old)
+    (sym (append-assoc (word blocks) (ends (4 * blocks + 8) bs) (joined bs)) ∙ ap (λ (k : ℕ). word k ++ ends (4 * k + 8) bs ++ joined bs) e)

@@ -2,10 +2,10 @@
 -- finished run, and since no refusal has the number 0.
 use mathlib.Core.Path.{_≡_, refl, ap, sym, _∙_, subst}
 use mathlib.Core.Bool.{false}
-use mathlib.Core.List.{List, _++_}
+use mathlib.Core.List.{List}
 use Prim.Native.Nat.{ℕ, _≤_, _<_}
 use native.Mathlib.Omega.{arith}
-use lib.ListN.{length, drop}
+use lib.ListN.{length}
 use Rattle.rules.specs.Answer.{Answer, fine, refuse}
 use Rattle.rules.specs.Places.{All, Byte}
 use Rattle.rules.specs.Grammar.{tc}
@@ -17,7 +17,6 @@ use Rattle.rules.specs.Lent.{zoneF, runAnswer, outputAfter}
 use Rattle.rules.proofs.Bounds.{reel-most}
 use Rattle.rules.proofs.BlocksOutcome.{reads-give}
 use Rattle.rules.proofs.CopyLaws.{copy-reel}
-use Rattle.rules.proofs.LentParts.{front-over}
 use Rattle.rules.proofs.RunParts.{Finished, finished}
 use Rattle.rules.proofs.RunColumns.{Refuses, refuses-convert}
 use Rattle.terms.specs.declared.Asked.{Asked}
@@ -29,6 +28,7 @@ use Rattle.fixed.specs.Promise.{blocksIn, Lent}
 use Rattle.writers.specs.Promise.{ReelPut}
 use Rattle.checks.specs.declared.Ran.{Ran}
 use Rattle.checks.specs.Promise.{ranStruct, Given, GivenPlan, Checked}
+use Rattle.checks.proofs.RunLaws.{over-front, refuses}
 use Rattle.runs.specs.Promise.{Finishes, Finishing, Written, RanInto}
 
 -- ---- a run that finishes
@@ -75,9 +75,6 @@ module _ {task : Task} {fields s : List ℕ} {blocks room : ℕ} {p : Plan} {x :
         flat = y .given .flat;
       }
 
-over-front : (v old new : List ℕ) (x : RuleRan) → x .reel ≡ v → new ≡ over 0 v old → new ≡ outputAfter old (fine x)
-over-front v old new x e h = h ∙ sym (front-over (length v) old v refl) ∙ ap (λ (z : List ℕ). z ++ drop (length z) old) (sym e)
-
 module _ {task : Task} {fields s : List ℕ} {blocks : ℕ} {old new : List ℕ} where
   pub copied : modeOf (task .mode) ≡ tc → All Byte s → new ≡ over 0 s old → Written task fields s blocks old new
   copied e a h = record { is = λ p x y. over-front s old new x (copy-is y e a) h }
@@ -97,10 +94,6 @@ lent-on y e = lent-to (y .given) e
 -- no refusal of a run has the number 0
 never-none : (p : Plan) (room : ℕ) (s : List ℕ) → Refuses (λ f. 1 ≤ f .number) (convert room p s)
 never-none p room s = refuses-convert (λ f. 1 ≤ f .number) room p s (λ m h i. omega arith)
-
-refuses : (a : Answer RuleRan) (r : Ran) → r ≡ ranStruct (runAnswer a) → 0 < r .refusal → (old : List ℕ) → old ≡ outputAfter old a
-refuses (fine x) r e l old = absurd (let z = ap (λ (q : Ran). q .refusal) e in omega arith)
-refuses (refuse f) r e l old = refl
 
 ends : (a : Answer RuleRan) → Refuses (λ f. 1 ≤ f .number) a → (r : Ran) → r ≡ ranStruct (runAnswer a) → r .refusal ≤ 0 → (x : RuleRan) × (a ≡ fine x) × (r .blocks ≡ x .blocks)
 ends (fine x) w r e l = (x, refl, ap (λ (q : Ran). q .blocks) e)

@@ -1,10 +1,10 @@
 -- The block count, and behind it the offsets and the blocks, are the reel. By the laws of what is put over an output.
 use mathlib.Core.Path.{_≡_, refl, ap, sym, _∙_, subst}
 use mathlib.Core.Bool.{false}
-use mathlib.Core.List.{List, _++_, map, append-assoc}
+use mathlib.Core.List.{List, _++_, map}
 use Prim.Native.Nat.{ℕ, _+_, _*_, _≤_}
 use native.Mathlib.Omega.{arith}
-use lib.ListN.{length, drop, length-append}
+use lib.ListN.{length, drop}
 use Rattle.rules.specs.Base.{joined}
 use Rattle.rules.specs.Halves.{over}
 use Rattle.rules.specs.Reel.{word, ends, reelOf}
@@ -14,13 +14,12 @@ use Rattle.rules.specs.Run.{ranOf, outputBlocks}
 use Rattle.rules.specs.Lent.{zoneF}
 use Rattle.rules.proofs.LentParts.{front-over}
 use Rattle.rules.proofs.SizeLaws.{length-over}
-use Rattle.rules.proofs.PlaceLaws.{over-behind}
 use Rattle.rules.proofs.WordLaws.{length-word}
-use Rattle.rules.proofs.ReelLaws.{length-ends, length-reel}
 use Rattle.terms.specs.Meaning.{TaskIs}
 use Rattle.terms.specs.declared.Task.{Task}
 use Rattle.rows.specs.Flat.{flatOf}
 use Rattle.walks.specs.Promise.{Good}
+use Rattle.fillings.proofs.LaidLaws.{reel-over}
 use Rattle.fixed.specs.Promise.{blocksIn, Lent, BodyPut}
 use Rattle.writers.specs.Promise.{ReelPut}
 use Rattle.fixed.proofs.ReadyLaws.{count-is, header-fits}
@@ -59,17 +58,12 @@ module _ {task : Task} {xs s : List ℕ} {blocks : ℕ} (old : List ℕ) (y : Le
     first-lent = lent-as first-length y
 
     pub reel-put : (second : List ℕ) → BodyPut task xs s blocks first second → second ≡ over 0 (reelOf (blocksIn (y .ready .p) (y .ready .recs))) old
-    unfolding BodyPut reelOf
+    unfolding BodyPut
     reel-put second q =
         let bs = blocksIn (y .ready .p) (y .ready .recs) in
-        let body = ends (4 * blocks + 8) bs ++ joined bs in
         q (lent-as first-length y)
-        ∙ ap (over 4 body) count
-        ∙ over-behind 0 4 (word blocks) body old (omega (arith, length-word blocks))
-        (omega (arith, length-append (ends (4 * blocks + 8) bs) (joined bs), length-ends (4 * blocks + 8) bs, length-reel bs, count-is (y .ready), y .ready .roomy))
-        ∙ ap (λ (x : List ℕ). over 0 x old)
-        (sym (append-assoc (word blocks) (ends (4 * blocks + 8) bs) (joined bs))
-        ∙ ap (λ (k : ℕ). word k ++ ends (4 * k + 8) bs ++ joined bs) (sym (count-is (y .ready))))
+        ∙ ap (over 4 (ends (4 * blocks + 8) bs ++ joined bs)) count
+        ∙ reel-over bs blocks (sym (count-is (y .ready))) old (y .ready .roomy)
 
 -- ---- for callers
 

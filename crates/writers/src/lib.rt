@@ -1,7 +1,7 @@
 // Writing a reel: the block count, then the offsets and the blocks, in FV in one pass along the records, in FF (`fixed`) without a walk. Document 01, "The reel" and
 // "Blocks and records".
 ghost use mathlib.Core.Path.{_≡_};
-ghost use Prim.Native.Nat.{_+_, _≤_, _<_};
+ghost use Prim.Native.Nat.{_+_, _≤_};
 ghost use lib.ListN.{length};
 ghost use Rattle.rules.specs.Output.{cost};
 ghost use Rattle.records.specs.Promise.{Covers};
