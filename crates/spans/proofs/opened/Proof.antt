@@ -1,0 +1,23 @@
+-- Each outcome by the test that led there.
+use Rattle.spans.proofs.CutLaws.{opened-new, opened-same}
+use borrow.Author.Needs.{needs}
+use Rattle.spans.proofs.opened.Statement.{statement}
+use Rattle.spans.proofs.opened.Tie as tie
+
+sub-if1 : tie.Need-sub-if1
+sub-if1 c = search needs
+
+add-t5 : tie.Need-add-t5
+add-t5 c = search needs
+
+add-t6 : tie.Need-add-t6
+add-t6 c = search needs
+
+returns : tie.Need-returns
+returns c = opened-new _ _ (c .before .before .if1 .taken)
+
+returns-2 : tie.Need-returns-2
+returns-2 c = opened-same _ _ (c .if1 .left)
+
+pub opened-spec : {M : Type 1} → statement M
+opened-spec = tie.close (tie.spec sub-if1 add-t5 add-t6 returns returns-2)

@@ -1,0 +1,3 @@
+pub mod Cutting
+pub mod Putting
+pub mod Promise

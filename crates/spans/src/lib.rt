@@ -1,0 +1,246 @@
+// A run in FS. In TR the records from R on fill blocks of B: each is cut where a block is full, and goes from its segments in the input straight into those of the
+// output. TC leaves the blocks. Document 02, order 6.
+ghost use mathlib.Core.Path.{_≡_};
+ghost use Prim.Native.Nat.{_≤_, _<_, min};
+ghost use lib.ListN.{length};
+ghost use Rattle.rules.specs.Spanned.{codeOf};
+ghost use Rattle.rules.specs.SpannedRun.{spannedRun};
+ghost use Rattle.rules.specs.Lent.{runAnswer, outputAfter};
+ghost use Rattle.checks.specs.Promise.{ranStruct};
+ghost use Rattle.spans.specs.Cutting.{Small, openedOf, cutOf, behindOf, fullOf};
+ghost use Rattle.spans.specs.Promise.{Streaming, NextFits, NextPut, RecordFits, RecordPut, Standing, Measures, Lent, ReelPut, ranIn, RanAs, Taking, FilledRun};
+use checks::Ran;
+use fillings::Tally;
+use reels::ReelRead;
+use segments::Spot;
+
+// What a cut takes of a record: so many bytes of data, and the tally with the segment that they make.
+struct Part {
+    size: usize,
+    tally: Tally,
+}
+
+fn smaller(a: usize, b: usize) -> usize
+    ensures { λ r. ⌜ r ≡ min a b ⌝ }
+{
+    if a < b {
+        return a;
+    }
+    b
+}
+
+// Before the first segment: no block is there, and it is as if a full one were, so that the first segment opens one.
+fn full(m: usize) -> Tally
+    ensures { λ r. ⌜ r ≡ fullOf m ⌝ }
+{
+    Tally {
+        blocks: 0,
+        size: m,
+        bytes: 0,
+    }
+}
+
+// The block that a segment goes into: a new one, with its word, where fewer than 5 bytes are left of the last, which are a segment's word and a byte of data.
+fn opened(m: usize, tally: Tally) -> Tally
+    requires { ⌜ Small m tally 0 ⌝ }
+    ensures { λ r. ⌜ r ≡ openedOf m tally ⌝ }
+{
+    if m - tally.size < 5 {
+        return Tally {
+            blocks: tally.blocks + 1,
+            size: 4,
+            bytes: tally.bytes + 4,
+        };
+    }
+    tally
+}
+
+// The next segment of a record of which so many bytes are left: all of them, or as many as its block has room for. Measuring and writing both go by these steps.
+fn cut(m: usize, tally: Tally, rest: usize) -> Part
+    requires { ⌜ Small m tally rest ⌝ }
+    ensures { λ r. ⌜ r ≡ cutOf m tally rest ⌝ }
+{
+    let block = opened(m, tally);
+    let size = smaller(rest, m - block.size - 4);
+    Part {
+        size,
+        tally: Tally {
+            blocks: block.blocks,
+            size: block.size + (size + 4),
+            bytes: block.bytes + (size + 4),
+        },
+    }
+}
+
+// The tally behind a record of so many bytes.
+fn behind(m: usize, tally: Tally, size: usize) -> Tally
+    requires { ⌜ Small m tally size ⌝ }
+    ensures { λ r. ⌜ r ≡ behindOf m tally size ⌝ }
+{
+    let mut now = tally;
+    let mut rest = size;
+    while rest > 0 {
+        let part = cut(m, now, rest);
+        now = part.tally;
+        rest -= part.size;
+    }
+    now
+}
+
+// What so many records from a spot on measure as blocks of m bytes: along the words of their segments, in a pass that holds a few numbers and builds nothing.
+fn measure(m: usize, s: &[u8], from: Spot, count: usize) -> Tally
+    requires { ⌜ Standing (now s) from count × (9 ≤ m) × (m < 65536) ⌝ }
+    ensures { λ r. ⌜ Measures m (now (s .entry)) from count r ⌝ }
+{
+    let mut at = from;
+    let mut tally = full(m);
+    let mut number = 0;
+    while number < count {
+        let next = segments::ahead(s, at);
+        tally = behind(m, tally, next.size);
+        at = next.behind;
+        number += 1;
+    }
+    tally
+}
+
+// The code of a segment: a whole record, a first segment, a last one, a middle one.
+fn code(first: bool, last: bool) -> u8
+    ensures { λ r. ⌜ r ≡ codeOf first last ⌝ }
+{
+    if first {
+        if last {
+            return 0;
+        }
+        return 1;
+    }
+    if last {
+        return 2;
+    }
+    3
+}
+
+// A segment in its place: where it opens a block, the block's offset; then the word of its block, which says the block's size so far; then its own word, and its data.
+fn put_next(
+    s: &[u8],
+    at: Spot,
+    first: bool,
+    last: bool,
+    base: usize,
+    tally: Tally,
+    part: Part,
+    out: &mut [u8],
+) -> Spot
+    requires { ⌜ Streaming (now s) at (part .size) ⌝ }
+    requires { ⌜ NextFits base tally part (length (now out)) ⌝ }
+    ensures { λ r. ⌜ NextPut (now (s .entry)) at first last base tally part (now (out .entry)) (now (out .exit)) r ⌝ }
+{
+    let more = part.tally;
+    let size = more.size;
+    let end = base + more.bytes;
+    fillings::put_offset(base, tally, more, out);
+    reels::put_length_word(out, end - size, size);
+    let from = end - part.size;
+    reels::put_coded_word(out, from - 4, code(first, last), part.size + 4);
+    segments::copy(s, at, part.size, &mut out[from..])
+}
+
+// A record of so many bytes, segment by segment, and the tally behind it.
+fn put_record(
+    m: usize,
+    base: usize,
+    s: &[u8],
+    from: Spot,
+    size: usize,
+    tally: Tally,
+    out: &mut [u8],
+) -> Tally
+    requires { ⌜ Streaming (now s) from size ⌝ }
+    requires { ⌜ RecordFits m base tally size (length (now out)) ⌝ }
+    ensures { λ r. ⌜ RecordPut m base (now (s .entry)) from size tally (now (out .entry)) (now (out .exit)) r ⌝ }
+{
+    let mut at = from;
+    let mut now = tally;
+    let mut first = true;
+    let mut rest = size;
+    while rest > 0 {
+        let part = cut(m, now, rest);
+        at = put_next(s, at, first, part.size == rest, base, now, part, out);
+        now = part.tally;
+        first = false;
+        rest -= part.size;
+    }
+    now
+}
+
+// Writes the reel of so many records from a spot on, in blocks of m bytes, at the front of out. All refusals come before it.
+fn write(m: usize, s: &[u8], from: Spot, count: usize, blocks: usize, out: &mut [u8])
+    requires { ⌜ Lent m (now s) from count blocks (length (now out)) ⌝ }
+    ensures { λ _. ⌜ ReelPut m (now (s .entry)) from count blocks (now (out .entry)) (now (out .exit)) ⌝ }
+{
+    let base = 4 * blocks + 8;
+    let mut at = from;
+    let mut tally = full(m);
+    let mut number = 0;
+    reels::put_word(out, 0, blocks);
+    while number < count {
+        let next = segments::ahead(s, at);
+        tally = put_record(m, base, s, at, next.size, tally, out);
+        at = next.behind;
+        number += 1;
+    }
+    reels::put_word(out, 4 * blocks + 4, base + tally.bytes);
+}
+
+// TC leaves the blocks: its output is its input.
+fn copied(s: &[u8], records: usize, blocks: usize, out: &mut [u8]) -> Ran
+    requires { ⌜ length (now s) ≤ 65536 ⌝ }
+    ensures { λ r. ⌜ RanAs (ranIn (now (s .entry)) records blocks) (now (out .entry)) r (now (out .exit)) ⌝ }
+{
+    let answer = checks::housed(out.len(), s.len(), records, blocks);
+    let refusal = answer.refusal;
+    if refusal > 0 {
+        return answer;
+    }
+    copies::copy(s, out);
+    answer
+}
+
+// TR fills blocks of m bytes with the records behind those that are passed over.
+fn filled(m: usize, s: &[u8], passed: usize, records: usize, out: &mut [u8]) -> Ran
+    requires { ⌜ Taking (now s) passed records × (9 ≤ m) × (m < 65536) ⌝ }
+    ensures { λ r. ⌜ FilledRun m (now (s .entry)) passed records (now (out .entry)) r (now (out .exit)) ⌝ }
+{
+    let from = segments::taken(s, passed);
+    let tally = measure(m, s, from, records);
+    let blocks = tally.blocks;
+    let length = 4 * blocks + 8 + tally.bytes;
+    let answer = checks::housed(out.len(), length, records, blocks);
+    let refusal = answer.refusal;
+    if refusal > 0 {
+        return answer;
+    }
+    write(m, s, from, records, blocks, out);
+    answer
+}
+
+// The run of TC (`copies`) or TR over a reel in FS, whose blocks have at most g bytes: refusals 11, 12 and 15, or the output reel at the front of what is lent. Each
+// record is cut to fit, so that refusal 14 does not occur, and no field is selected, so that 13 does not.
+pub fn run_spanned(copies: bool, g: usize, m: usize, first: usize, s: &[u8], out: &mut [u8]) -> Ran
+    requires { ⌜ (9 ≤ m) × (m < 65536) × (g < 65536) × (1 ≤ first) × (first ≤ 65536) ⌝ }
+    ensures answer { λ r. ⌜ r ≡ ranStruct (runAnswer (spannedRun copies g m first (length (now (out .entry))) (now (s .entry)))) ⌝ }
+    ensures output { λ _. ⌜ now (out .exit) ≡ outputAfter (now (out .entry)) (spannedRun copies g m first (length (now (out .entry))) (now (s .entry))) ⌝ }
+{
+    let read = turns::read_spanned(g, s);
+    match read {
+        ReelRead::NotReel => checks::refused(11, 0),
+        ReelRead::BadBlock { block } => checks::refused(12, block),
+        ReelRead::Read { blocks, records } => {
+            let passed = smaller(first - 1, records);
+            if copies {
+                return copied(s, records - passed, blocks, out);
+            }
+            filled(m, s, passed, records - passed, out)
+        }
+    }
+}
