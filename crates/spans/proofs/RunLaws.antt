@@ -13,10 +13,9 @@ use Rattle.rules.specs.Answer.{Answer, fine, refused, _>>=_, _>>_, unless}
 use Rattle.rules.specs.Halves.{over}
 use Rattle.rules.specs.Places.{All, Byte}
 use Rattle.rules.specs.Reel.{isReel, blocksOf}
-use Rattle.rules.specs.Run.{Ran as RuleRan, housed}
+use Rattle.rules.specs.Run.{Ran as RuleRan, housed, spannedOut, spannedRan, spannedRun}
 use Rattle.rules.specs.Lent.{runAnswer, outputAfter}
 use Rattle.rules.specs.Spanned.{spanOf, spannedFrom, segmented}
-use Rattle.rules.specs.SpannedRun.{spannedOut, spannedRan, spannedRun}
 use Rattle.rules.proofs.Bounds.{reel-most}
 use Rattle.rules.proofs.ReelLaws.{length-reel, blocks-reel}
 use Rattle.reels.specs.declared.ReelRead.{ReelRead}

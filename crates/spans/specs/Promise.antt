@@ -8,8 +8,7 @@ use Rattle.rules.specs.Base.{joined}
 use Rattle.rules.specs.Halves.{over}
 use Rattle.rules.specs.Reel.{reelOf}
 use Rattle.rules.specs.Spanned.{spanOf, segmented}
-use Rattle.rules.specs.SpannedRun.{spannedRan}
-use Rattle.rules.specs.Run.{Ran as RuleRan, housed}
+use Rattle.rules.specs.Run.{Ran as RuleRan, housed, spannedRan}
 use Rattle.rules.specs.Lent.{runAnswer, outputAfter}
 use Rattle.fillings.specs.declared.Tally.{Tally}
 use Rattle.fillings.specs.Offsets.{OffsetFits}

@@ -4,7 +4,7 @@ ghost use mathlib.Core.Path.{_≡_};
 ghost use Prim.Native.Nat.{_≤_, _<_, min};
 ghost use lib.ListN.{length};
 ghost use Rattle.rules.specs.Spanned.{codeOf};
-ghost use Rattle.rules.specs.SpannedRun.{spannedRun};
+ghost use Rattle.rules.specs.Run.{spannedRun};
 ghost use Rattle.rules.specs.Lent.{runAnswer, outputAfter};
 ghost use Rattle.checks.specs.Promise.{ranStruct};
 ghost use Rattle.spans.specs.Cutting.{Small, openedOf, cutOf, behindOf, fullOf};
