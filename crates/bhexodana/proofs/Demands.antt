@@ -13,7 +13,7 @@ use borrow.Author.Tests.{eqb-true, eqb-false}
 use Rattle.rules.specs.Answer.{Answer, fine, refuse, refusedAt}
 use Rattle.rules.specs.Places.{All, Byte}
 use Rattle.rules.specs.Reel.{reelOf}
-use Rattle.rules.specs.Plan.{Plan, planAnswer}
+use Rattle.rules.specs.Plan.{Plan, isFS, planAnswer}
 use Rattle.rules.specs.Output.{blockOf, outRecord}
 use Rattle.rules.specs.Rows.{Row, Done}
 use Rattle.rules.specs.Run.{Ran as RuleRan}
@@ -22,7 +22,7 @@ use Rattle.rules.specs.Said.{PlanSays, TableSays, RunSays}
 use Rattle.rules.specs.Twins.{twinsInto, twinsAnswer}
 use Rattle.rules.specs.TwinWords.{Shows, Told, TwinsSays}
 use Rattle.rules.specs.Taken.{Takes}
-use Rattle.rules.specs.ShortBlocks.{NeverRefused, Under, ReadsBack, RunGives}
+use Rattle.rules.specs.ShortBlocks.{NeverRefused, Under, RunsAgain}
 use Rattle.rules.specs.Grammar.{tc}
 use Rattle.rules.proofs.AnswerLaws.{fine-same}
 use Rattle.rules.proofs.SaidLaws.{plan-says, table-says, run-says}
@@ -32,6 +32,8 @@ use Rattle.rules.proofs.OneRecord.{ownRan}
 use Rattle.rules.proofs.Confused.{alone-runs}
 use Rattle.rules.proofs.Apart.{run-never-0, took, same-taken}
 use Rattle.rules.proofs.ShortBlockLaws.{run-gives}
+use Rattle.rules.proofs.SpannedLaws.{spanned-deck}
+use Rattle.rules.proofs.Demand3.{not-lost}
 use Rattle.terms.specs.Meaning.{entryMeans}
 use Rattle.terms.specs.declared.Entry.{Entry}
 use Rattle.terms.proofs.Entries.{entries-hold}
@@ -211,11 +213,12 @@ module _ (deck reel before : List ℕ) (r : Ran) (after : List ℕ) (a : All Byt
       x : (x : RuleRan) × (run (length before) deck reel ≡ fine x) × (reelIn r after ≡ x .reel) × (r ≡ ranOf (runAnswer (fine x)))
       x = finished-run deck reel before r after a w z
 
-      gives : RunGives zoneF p reel (x .0)
-      gives = run-gives zoneF (length before) (omega arith) deck reel p (x .0) e a (x .1)
-
-      back : ReadsBack zoneF deck′ q (x .0) (gives .outs)
-      back = gives .back deck′ q e′ u
+      back : RunsAgain zoneF deck′ q (x .0)
+      back = go (isFS (p .format)) refl
+        where
+          go : (f : Bool) → isFS (p .format) ≡ f → RunsAgain zoneF deck′ q (x .0)
+          go false f = run-gives zoneF (length before) (omega arith) deck reel p (x .0) e f a (x .1) .back deck′ q e′ u .again
+          go true f = spanned-deck zoneF deck p e f (omega arith) .finished (length before) reel a (x .0) (x .1) .back deck′ q e′ u
 
       answer : r′ ≡ ranOf (runAnswer (run (length before′) deck′ (x .0 .reel)))
       answer = w′ .answer ∙ ap (λ (s : List ℕ). ranOf (runAnswer (run (length before′) deck′ s))) (x .2)
@@ -248,15 +251,23 @@ module _ (deck before : List ℕ) (t : Twins) (after : List ℕ) (told : Told de
       shows : Shows p (told .lost) (told .r) (told .s)
       shows = subst (λ (q : Plan). Shows q (told .lost) (told .r) (told .s)) (asks-once zoneF deck Done p (told .p) e (told .asks)) (told .shows)
 
+      -- a plan in FS keeps, so that there are no twins
+      other : isFS (p .format) ≡ false
+      other = go (isFS (p .format)) refl
+        where
+          go : (f : Bool) → isFS (p .format) ≡ f → isFS (p .format) ≡ false
+          go false f = f
+          go true f = absurd (not-lost p (told .lost) (spanned-deck zoneF deck p e f (omega arith) .keeping) (shows .place))
+
       x : RuleRan
       x = ownRan p (outRecord p (told .r))
 
       runs : run (length lent) deck (alone p (told .r)) ≡ fine x
-      runs = ap (λ (k : ℕ). run k deck (alone p (told .r))) room ∙ alone-runs zoneF deck p e first (told .r) (shows .r-converts)
+      runs = ap (λ (k : ℕ). run k deck (alone p (told .r))) room ∙ alone-runs zoneF deck p e first other (told .r) (shows .r-converts)
 
       runs′ : run (length lent′) deck (alone p (told .s)) ≡ fine x
       runs′ =
-          ap (λ (k : ℕ). run k deck (alone p (told .s))) room′ ∙ alone-runs zoneF deck p e first (told .s) (shows .s-converts)
+          ap (λ (k : ℕ). run k deck (alone p (told .s))) room′ ∙ alone-runs zoneF deck p e first other (told .s) (shows .s-converts)
           ∙ ap (λ (o : List ℕ). fine (ownRan p o)) (sym (shows .outputs))
 
       is : r ≡ ranOf (runAnswer (fine x))

@@ -6,9 +6,9 @@ use native.Mathlib.Omega.{arith}
 use lib.ListN.{length, take}
 use Rattle.rules.specs.Answer.{Answer, fine, refuse, refusedAt, _>>=_}
 use Rattle.rules.specs.Plan.{Plan}
-use Rattle.rules.specs.Run.{Ran as RuleRan, convert, runOf}
+use Rattle.rules.specs.Run.{Ran as RuleRan, conversion, runOf}
 use Rattle.rules.specs.Lent.{zoneF, plan, run, runAnswer}
-use Rattle.rules.proofs.RunColumns.{convert-column}
+use Rattle.rules.proofs.RunColumns.{conversion-column}
 use Rattle.terms.specs.Meaning.{planIn}
 use Rattle.rows.specs.Kept.{fieldsIn}
 use Rattle.rows.specs.Fair.{PlanFair}
@@ -25,17 +25,17 @@ abbrev pub ranFrom : Checked → Ran
 ranFrom r = record { refusal = r .refusal; place = r .place; column = 0; length = r .length; records = r .records; blocks = r .blocks }
 
 -- says all that the rules say of the run of a plan
-pub ran-same : (room : ℕ) (p : Plan) (s : List ℕ) → ranFrom (ranStruct (runAnswer (convert room p s))) ≡ ranOf (runAnswer (convert room p s))
-ran-same room p s = go (convert room p s) refl
+pub ran-same : (room : ℕ) (p : Plan) (s : List ℕ) → ranFrom (ranStruct (runAnswer (conversion room p s))) ≡ ranOf (runAnswer (conversion room p s))
+ran-same room p s = go (conversion room p s) refl
   where
-    go : (x : Answer RuleRan) → convert room p s ≡ x → ranFrom (ranStruct (runAnswer x)) ≡ ranOf (runAnswer x)
+    go : (x : Answer RuleRan) → conversion room p s ≡ x → ranFrom (ranStruct (runAnswer x)) ≡ ranOf (runAnswer x)
     go (fine x) e = refl
-    go (refuse q) e = ap (λ (c : ℕ). ranOf (runAnswer (refusedAt (q .number) (q .place) c))) (sym (convert-column room p s q e))
+    go (refuse q) e = ap (λ (c : ℕ). ranOf (runAnswer (refusedAt (q .number) (q .place) c))) (sym (conversion-column room p s q e))
 
 -- the plan is asked first
-run-plan : (room : ℕ) (deck s : List ℕ) (x : Answer Plan) → plan deck ≡ x → run room deck s ≡ (x >>= λ p. convert room p s)
+run-plan : (room : ℕ) (deck s : List ℕ) (x : Answer Plan) → plan deck ≡ x → run room deck s ≡ (x >>= λ p. conversion room p s)
 unfolding run runOf plan
-run-plan room deck s x e = ap (λ (y : Answer Plan). y >>= λ p. convert room p s) e
+run-plan room deck s x e = ap (λ (y : Answer Plan). y >>= λ p. conversion room p s) e
 
 module _ (deck : List ℕ) (r : Planned) (row : List ℕ) (w : Plans deck r row) where
   pub run-refused : (r .refusal ≡ 0 → ⊥) → (room : ℕ) (s : List ℕ) → run room deck s ≡ refusedAt (r .refusal) (r .place) (r .column)
@@ -52,11 +52,11 @@ module _ (deck : List ℕ) (r : Planned) (row : List ℕ) (w : Plans deck r row)
     all : let p = accepted-plan deck r row w z .0 in end ≡ 5 * length (p .fields)
     all = ap (λ (n : ℕ). 5 * n) (accepted-plan deck r row w z .3 .count)
 
-    pub run-accepted : (room : ℕ) (s : List ℕ) → run room deck s ≡ convert room (planIn zoneF (r .asked) (fieldsIn (take end row))) s
+    pub run-accepted : (room : ℕ) (s : List ℕ) → run room deck s ≡ conversion room (planIn zoneF (r .asked) (fieldsIn (take end row))) s
     unfolding _>>=_
     run-accepted room s =
         let a = accepted-plan deck r row w z in
-        run-plan room deck s (fine (a .0)) (a .1) ∙ ap (λ (p : Plan). convert room p s) (sym (plan-is deck (a .0) (r .asked) row (a .3) end all))
+        run-plan room deck s (fine (a .0)) (a .1) ∙ ap (λ (p : Plan). conversion room p s) (sym (plan-is deck (a .0) (r .asked) row (a .3) end all))
 
     pub runnable : PlanFair (r .asked) (take end row)
     runnable = let a = accepted-plan deck r row w z in plan-fair deck (a .0) (r .asked) row (a .3) end all (a .1)

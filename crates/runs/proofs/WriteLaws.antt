@@ -1,7 +1,7 @@
 -- A run that finishes has what the writers ask, and what they write is what the rules say; a run that is refused leaves the lent output. By the parts of a
 -- finished run, and since no refusal has the number 0.
 use mathlib.Core.Path.{_≡_, refl, ap, sym, _∙_, subst}
-use mathlib.Core.Bool.{false}
+use mathlib.Core.Bool.{Bool, true, false}
 use mathlib.Core.List.{List}
 use Prim.Native.Nat.{ℕ, _≤_, _<_}
 use native.Mathlib.Omega.{arith}
@@ -11,17 +11,18 @@ use Rattle.rules.specs.Places.{All, Byte}
 use Rattle.rules.specs.Grammar.{tc}
 use Rattle.rules.specs.Halves.{Field as RuleField, over}
 use Rattle.rules.specs.Reel.{reelOf}
-use Rattle.rules.specs.Plan.{Plan, isTC}
-use Rattle.rules.specs.Run.{Ran as RuleRan, ranOf, convert, outputBlocks}
+use Rattle.rules.specs.Plan.{Plan, isTC, isFS, blockLength}
+use Rattle.rules.specs.Run.{Ran as RuleRan, ranOf, convert, spannedRun, conversion, outputBlocks}
 use Rattle.rules.specs.Lent.{zoneF, runAnswer, outputAfter}
 use Rattle.rules.proofs.Bounds.{reel-most}
 use Rattle.rules.proofs.BlocksOutcome.{reads-give}
 use Rattle.rules.proofs.CopyLaws.{copy-reel}
 use Rattle.rules.proofs.RunParts.{Finished, finished}
+use Rattle.rules.proofs.SpannedOut.{low-B, most-A, most-B}
 use Rattle.rules.proofs.RunColumns.{Refuses, refuses-convert}
 use Rattle.terms.specs.declared.Asked.{Asked}
 use Rattle.terms.specs.declared.Task.{Task}
-use Rattle.terms.specs.Meaning.{modeOf, planIn, TaskIs}
+use Rattle.terms.specs.Meaning.{modeOf, formatOf, sizeOf, planIn, TaskIs}
 use Rattle.rows.specs.Kept.{fieldsIn}
 use Rattle.rows.specs.Fair.{PlanFair}
 use Rattle.fixed.specs.Promise.{blocksIn, Lent}
@@ -68,6 +69,7 @@ module _ {task : Task} {fields s : List ℕ} {blocks room : ℕ} {p : Plan} {x :
           good = record { accepted = y .given .accepted; reel = parts .reel; records = parts .reads };
           zone = y .given .zone;
           other = ap isTC (sym (y .given .is .mode)) ∙ e;
+          plain = y .given .plain;
           count = y .count ∙ blocks-are;
           roomy = subst (λ (z : List ℕ). length z ≤ room) reel-is (parts .roomy);
           most = subst (λ (z : List ℕ). length z ≤ 65536) reel-is (parts .most);
@@ -123,14 +125,38 @@ module _ {task : Task} {fields s : List ℕ} (old : List ℕ) {r : Ran} (h : Che
 -- ---- the plan of a struct and a row
 
 -- the row is lent as it is: it is just the numbers of the plan's fields
-pub given-plan : {asked : Asked} {row : List ℕ} → PlanFair asked row → (task : Task) → ((fs : List RuleField) → TaskIs task (planIn zoneF asked fs))
+pub given-plan : {asked : Asked} {row : List ℕ} → PlanFair asked row → isFS (formatOf (asked .format)) ≡ false → (task : Task) → ((fs : List RuleField) → TaskIs task (planIn zoneF asked fs))
     → Given task row (planIn zoneF asked (fieldsIn row))
 unfolding planIn
-given-plan {asked} {row} ok task is = record { is = is (fieldsIn row); accepted = ok .accepted; flat = ok .flat; zone = refl }
+given-plan {asked} {row} ok plain task is = record { is = is (fieldsIn row); accepted = ok .accepted; plain = plain; flat = ok .flat; zone = refl }
+
+-- ---- block by block, or in FS
+
+module _ (asked : Asked) (row : List ℕ) where
+  abbrev q : Plan
+  q = planIn zoneF asked (fieldsIn row)
+
+  pub by-blocks : isFS (formatOf (asked .format)) ≡ false → (room : ℕ) (s : List ℕ) → convert room q s ≡ conversion room q s
+  unfolding conversion planIn
+  by-blocks e room s = rw e refl
+
+  pub by-spans : isFS (formatOf (asked .format)) ≡ true
+      → (c : Bool) (g m : ℕ) → c ≡ isTC (modeOf (asked .mode)) → g ≡ blockLength (sizeOf (asked .input)) → m ≡ blockLength (sizeOf (asked .output))
+      → (room : ℕ) (s : List ℕ) → spannedRun c g m (asked .first) room s ≡ conversion room q s
+  unfolding conversion planIn
+  by-spans e c g m is-c is-g is-m room s = rw (is-c, is-g, is-m, e) refl
+
+  -- the numbers of A, B and R
+  pub spans-fair : PlanFair asked row → isFS (formatOf (asked .format)) ≡ true
+      → (9 ≤ blockLength (sizeOf (asked .output))) × (blockLength (sizeOf (asked .output)) < 65536) × (blockLength (sizeOf (asked .input)) < 65536) × (1 ≤ asked .first) × (asked .first ≤ 65536)
+  unfolding planIn
+  spans-fair ok e =
+      let w = ok .accepted in
+      (low-B q w e, omega (arith, most-B q w e), omega (arith, most-A q w e), w .first .0, w .first .1)
 
 -- ---- one outcome
 
 pub only-one : (p : Plan) (s old : List ℕ) (x y : Ran) (new new′ : List ℕ)
-    → (x ≡ ranStruct (runAnswer (convert (length old) p s))) × (new ≡ outputAfter old (convert (length old) p s))
-    → (y ≡ ranStruct (runAnswer (convert (length old) p s))) × (new′ ≡ outputAfter old (convert (length old) p s)) → (x ≡ y) × (new ≡ new′)
+    → (x ≡ ranStruct (runAnswer (conversion (length old) p s))) × (new ≡ outputAfter old (conversion (length old) p s))
+    → (y ≡ ranStruct (runAnswer (conversion (length old) p s))) × (new′ ≡ outputAfter old (conversion (length old) p s)) → (x ≡ y) × (new ≡ new′)
 only-one p s old x y new new′ h k = (h .0 ∙ sym (k .0), h .1 ∙ sym (k .1))

@@ -7,7 +7,7 @@ ghost use lib.Dec.{eqb};
 ghost use lib.ListN.{length};
 ghost use Rattle.rules.specs.Halves.{Field as RuleField};
 ghost use Rattle.rules.specs.Output.{cost as costOf};
-ghost use Rattle.rules.specs.Run.{convert};
+ghost use Rattle.rules.specs.Run.{conversion};
 ghost use Rattle.rules.specs.Lent.{zoneF, runAnswer, outputAfter};
 ghost use Rattle.terms.specs.Meaning.{formatOf, planIn, TaskIs};
 ghost use Rattle.rows.specs.Kept.{fieldsIn};
@@ -89,12 +89,23 @@ fn run(task: Task, fields: &[u16], s: &[u8], out: &mut [u8]) -> Ran
     answer
 }
 
-// The run of a plan over a reel: refusals 11 to 15, or the output reel at the front of what is lent.
+// The run of a plan over a reel: refusals 11 to 15, or the output reel at the front of what is lent. FS has a run of its own, since no record is in a block by
+// itself there.
 pub fn run_plan(asked: Asked, fields: &[u16], s: &[u8], out: &mut [u8]) -> Ran
     requires { ⌜ PlanFair asked (now fields) ⌝ }
-    ensures answer { λ r. ⌜ r ≡ ranStruct (runAnswer (convert (length (now (out .entry))) (planIn zoneF asked (fieldsIn (now (fields .entry)))) (now (s .entry)))) ⌝ }
-    ensures output { λ _. ⌜ now (out .exit) ≡ outputAfter (now (out .entry)) (convert (length (now (out .entry))) (planIn zoneF asked (fieldsIn (now (fields .entry)))) (now (s .entry))) ⌝ }
+    ensures answer { λ r. ⌜ r ≡ ranStruct (runAnswer (conversion (length (now (out .entry))) (planIn zoneF asked (fieldsIn (now (fields .entry)))) (now (s .entry)))) ⌝ }
+    ensures output { λ _. ⌜ now (out .exit) ≡ outputAfter (now (out .entry)) (conversion (length (now (out .entry))) (planIn zoneF asked (fieldsIn (now (fields .entry)))) (now (s .entry))) ⌝ }
 {
+    let format = asked.format;
+    if combinations::is_fs(format) {
+        let mode = asked.mode;
+        let input = asked.input;
+        let output = asked.output;
+        let copies = combinations::is_tc(mode);
+        let g = combinations::block_length(input);
+        let m = combinations::block_length(output);
+        return spans::run_spanned(copies, g, m, asked.first, s, out);
+    }
     let task = task_of(asked);
     run(task, fields, s, out)
 }
