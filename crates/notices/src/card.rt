@@ -164,11 +164,12 @@ fn is_open(part: &[u8]) -> bool {
     inside
 }
 
-// Says the limits of a number behind a parenthesis of the U card, which begins a part of it: a comma follows the first of two. Only FV has a V, before or behind.
+// Says the limits of a number behind a parenthesis of the U card, which begins a part of it: a comma follows the first of two. Only FV has a V, and only FS an S, before
+// or behind.
 fn size_limits(card: &[u8], part: &[u8]) {
     if behind_digits(part) == COMMA {
         say(b"1 to 4,096");
-    } else if column_of(card, b'V') > 0 {
+    } else if column_of(card, b'V') > 0 || column_of(card, b'S') > 0 {
         say(b"9 to 32,760");
     } else {
         say(b"1 to 32,760");

@@ -51,9 +51,11 @@ fn combining(place: usize) {
         );
         return;
     }
-    say(b"the parameters do not go together: FU only with TC; TC only with R1 and A equal to B; ");
     say(
-        b"two numbers in A and B for FF, one for FU, for FV two with TF or TRF and else one; in FF m a multiple of n; ",
+        b"the parameters do not go together: FU only with TC, format FS only with TC or TR; TC only with R1 and A equal to B; ",
+    );
+    say(
+        b"two numbers in A and B for FF, one for FU and FS, for FV two with TF or TRF and else one; in FF m a multiple of n; ",
     );
     say(
         b"in FF equal n for TR, equal m divided by n for TF; in FV n+8 at most m; TF and TRF need an FS card; a key only in FF with TF or TRF, and with TF one record to a block of B",

@@ -16,7 +16,13 @@ fn bad_block(place: usize) {
         b"in FF a multiple of n bytes, at most m, wherever it stands, and with keys just K and D bytes; in FU at most g; ",
     );
     say(
-        b"in FV at most m or g, with its length and that of each record in 2 bytes and 2 zero bytes before, and with fields at least n bytes of data in a record",
+        b"in FV at most m or g, with its length and that of each record in 2 bytes and 2 zero bytes before, and with fields at least n bytes of data in a record; ",
+    );
+    say(
+        b"in FS at most g, with its length as in FV, and before each segment its length in 2 bytes, its code and a zero byte: ",
+    );
+    say(
+        b"0 for a whole record, or 1 for the first segment, 3 for each between and 2 for the last, in turn; a record has at most 32,752 bytes, and is not left unfinished at the end",
     );
 }
 
