@@ -21,6 +21,7 @@ fn tell_format(format: Format) {
         Format::FF => say::words(b" FF"),
         Format::FV => say::words(b" FV"),
         Format::FU => say::words(b" FU"),
+        Format::FS => say::words(b" FS"),
     }
 }
 

@@ -5,10 +5,10 @@ use Rattle.answers.proofs.reel.lengths.Statement.{statement}
 use Rattle.answers.proofs.reel.lengths.Tie as tie
 
 abbrev Inv-loop : tie.InvT-loop
-Inv-loop form reel blocks i₀ i = Unit {0}
+Inv-loop form reel blocks told₀ i₀ told i = Unit {0}
 
 abbrev μ-loop : tie.MeasureT-loop
-μ-loop form reel blocks i₀ i = blocks - i
+μ-loop form reel blocks told₀ i₀ told i = blocks - i
 
 loop-holds : tie.Need-loop-holds Inv-loop μ-loop
 loop-holds c = tt
@@ -16,20 +16,8 @@ loop-holds c = tt
 block-requires : tie.Need-block-requires Inv-loop μ-loop
 block-requires c κs = search needs
 
-start-requires : tie.Need-start-requires Inv-loop μ-loop
-start-requires c κs = search needs
-
-enum-known-start : tie.Need-enum-known-start Inv-loop μ-loop
-enum-known-start c = search needs
-
-lengths-from-requires : tie.Need-lengths-from-requires Inv-loop μ-loop
-lengths-from-requires c κs = search needs
-
-enum-told : tie.Need-enum-told Inv-loop μ-loop
-enum-told c = search needs
-
-returns : tie.Need-returns Inv-loop μ-loop
-returns c = tt
+in-block-requires : tie.Need-in-block-requires Inv-loop μ-loop
+in-block-requires c κs = search needs
 
 add-i : tie.Need-add-i Inv-loop μ-loop
 add-i c = search needs
@@ -40,8 +28,8 @@ loop-less c = search needs
 loop-again : tie.Need-loop-again Inv-loop μ-loop
 loop-again c = tt
 
-returns-2 : tie.Need-returns-2 Inv-loop μ-loop
-returns-2 c = tt
+returns : tie.Need-returns Inv-loop μ-loop
+returns c = tt
 
 pub lengths-spec : {M : Type 1} → statement M
 lengths-spec =
@@ -51,12 +39,8 @@ lengths-spec =
     μ-loop
     loop-holds
     block-requires
-    start-requires
-    enum-known-start
-    lengths-from-requires
-    enum-told
-    returns
+    in-block-requires
     add-i
     loop-less
     loop-again
-    returns-2)
+    returns)

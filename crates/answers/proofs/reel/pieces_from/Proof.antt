@@ -1,4 +1,4 @@
--- `reel::lengths_from` is safe and ends: each piece takes a byte or more, so that fewer bytes are left at each turn.
+-- `reel::pieces_from` is safe and ends: each piece takes a byte or more, so that fewer bytes are left at each turn.
 use mathlib.Core.Path.{sym, subst, _∙_}
 use Prim.Native.Nat.{_-_}
 use native.Mathlib.Omega.{arith}
@@ -7,14 +7,14 @@ use lib.ListN.{length}
 use borrow.Author.Needs.{needs}
 use Rattle.terms.specs.Meaning.{formatOf}
 use Rattle.reels.proofs.PiecesLaws.{further, piece-further}
-use Rattle.answers.proofs.reel.lengths_from.Statement.{statement}
-use Rattle.answers.proofs.reel.lengths_from.Tie as tie
+use Rattle.answers.proofs.reel.pieces_from.Statement.{statement}
+use Rattle.answers.proofs.reel.pieces_from.Tie as tie
 
 abbrev Inv-loop : tie.InvT-loop
-Inv-loop form block first at₀ comma₀ t10 at comma = Unit {0}
+Inv-loop form block at₀ told₀ at told = Unit {0}
 
 abbrev μ-loop : tie.MeasureT-loop
-μ-loop form block first at₀ comma₀ t10 at comma = length block - at
+μ-loop form block at₀ told₀ at told = length block - at
 
 loop-holds : tie.Need-loop-holds Inv-loop μ-loop
 loop-holds c = tt
@@ -25,21 +25,15 @@ piece-requires c κs = search needs
 enum-known-read : tie.Need-enum-known-read Inv-loop μ-loop
 enum-known-read c = search needs
 
-slice-aggregate-words : tie.Need-slice-aggregate-words Inv-loop μ-loop
-slice-aggregate-words c = search needs
-
-words-requires : tie.Need-words-requires Inv-loop μ-loop
-words-requires c κs = tt
-
-number-requires : tie.Need-number-requires Inv-loop μ-loop
-number-requires c κs = tt
+with-piece-requires : tie.Need-with-piece-requires Inv-loop μ-loop
+with-piece-requires c κs = tt
 
 loop-less : tie.Need-loop-less Inv-loop μ-loop
 loop-less c =
-    let a = c .before .before .before .before .before .before .before .before .args in
-    let at = c .before .before .before .before .before .before .loop .at in
+    let a = c .before .before .before .before .before .before .before .args in
+    let at = c .before .before .before .before .before .loop .at in
     let g =
-    subst (further at (length (now (a .block)))) (sym (c .before .before .before .before .before .piece .ensures) ∙ c .before .before .before .read .given .1)
+    subst (further at (length (now (a .block)))) (sym (c .before .before .before .before .piece .ensures) ∙ c .before .before .read .given .1)
     (piece-further (formatOf (a .form .format)) (a .form .n) (now (a .block)) at) in
     omega (arith, g)
 
@@ -58,8 +52,8 @@ enum-told-2 c = search needs
 returns-2 : tie.Need-returns-2 Inv-loop μ-loop
 returns-2 c = tt
 
-pub lengths-from-spec : {M : Type 1} → statement M
-lengths-from-spec =
+pub pieces-from-spec : {M : Type 1} → statement M
+pieces-from-spec =
     tie.close
     (tie.spec
     Inv-loop
@@ -67,9 +61,7 @@ lengths-from-spec =
     loop-holds
     piece-requires
     enum-known-read
-    slice-aggregate-words
-    words-requires
-    number-requires
+    with-piece-requires
     loop-less
     loop-again
     enum-told
