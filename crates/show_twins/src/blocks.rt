@@ -1,4 +1,4 @@
-// Reels with a block for each twin: in FF the record, in FV the record behind its words.
+// Reels with a block for each twin: in FF the record, in FV the record behind its words. A plan in FU or FS keeps, and has no twins.
 ghost use Prim.Native.Nat.{_+_, _≤_};
 ghost use mathlib.Core.Path.{_≡_};
 ghost use lib.ListN.{length};
@@ -24,6 +24,7 @@ fn put_words(format: Format, length: usize, room: &mut [u8]) -> usize
         }
         Format::FF => 0,
         Format::FU => 0,
+        Format::FS => 0,
     }
 }
 

@@ -23,6 +23,7 @@ fn data_start(format: Format) -> usize {
         Format::FF => 12,
         Format::FV => 20,
         Format::FU => 12,
+        Format::FS => 12,
     }
 }
 
