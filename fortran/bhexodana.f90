@@ -57,7 +57,8 @@ module bhexodana
         integer(int64) :: fields = 0
     end type bhx_planned
 
-    ! What a run answers: how many bytes of the output are the reel that was written, and its records and blocks.
+    ! What a run answers: how many bytes of the output are the reel that was written, and its records and blocks. In FS records are counted, and not
+    ! their segments.
     type, bind(c) :: bhx_ran
         integer(c_int64_t) :: refusal = 0
         integer(c_int64_t) :: place = 0

@@ -39,15 +39,22 @@
  *
  *   A plan answers 1 to 10, and 15 where a table is lent; a run answers 1 to 15; twins answer 1 to 10, 15 and 16.
  *
- *   7: with a key, A=(K=l,D=l), both lengths are 1 to 4,096 and together at most 4,096; a greater total is a fault of D's number.
+ *   7: in FV and FS a single number of A or B is at least 9. With a key, A=(K=l,D=l), both lengths are 1 to 4,096 and together at most 4,096; a greater total is a
+ *   fault of D's number.
  *
- *   8: a key in A stands only with FF, and with TF or TRF; in TF a block of B then holds one record. (K,r) stands only where A has a key.
+ *   8: a key in A stands only with FF, and with TF or TRF; in TF a block of B then holds one record. (K,r) stands only where A has a key. Format FS stands only with
+ *   TC or TR, with one number each for A and B.
  *
  *   9: with a key a field reads the key or the data, and lies wholly in it; positions count from 1 in each.
  *
- *   12: each block obeys its rule by itself, wherever it stands. In FF it is a positive multiple of n bytes, at most m, so short blocks may stand inside a
+ *   12: in FF, FV and FU each block obeys its rule by itself, wherever it stands. In FF it is a positive multiple of n bytes, at most m, so short blocks may stand inside a
  *   reel; with a key it is one record, key and data, of exactly K+D bytes; in FV it has at most m or g bytes and is filled by its records, each with its length, and with fields at least n bytes of data in each; in FU
  *   it has at most g bytes.
+ *   In FS a block has at most g bytes and is filled by segments, each with its length and its code: 0 a whole record, 1 the first segment of one, 2 the last, 3 one
+ *   between. A record is its segments' data joined, and may be longer than a block. A segment out of turn, or one that takes its record past 32,752 bytes, is refused at
+ *   its block, and a record that is unfinished at the end at the last block.
+ *
+ *   13 and 14 do not occur in FS: it has no fields, and a record that does not fit a block is cut.
  *
  *   Half bytes, in 10 and in what a plan loses, are counted from 0, two to a byte. With a key they are numbered through the key first: the byte at position r of
  *   the data has the half bytes 2(K+r-1) and 2(K+r-1)+1.
@@ -121,7 +128,7 @@ typedef struct {
     uint64_t place;   /* where it was refused */
     uint64_t column;  /* for 3, 4 and 7 the byte of the card, from 1; otherwise 0 */
     uint64_t length;  /* how many bytes of the output are the reel that was written */
-    uint64_t records; /* how many records it has */
+    uint64_t records; /* how many records it has; in FS these, and not their segments */
     uint64_t blocks;  /* how many blocks it has */
 } bhx_ran;
 
