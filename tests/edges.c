@@ -353,6 +353,37 @@ static void test_keys(void)
     refuses_twins("a byte too little for key and data", lossy, 5, 15, 6, 0);
 }
 
+/* Records in segments: two of 6 and 3 bytes in three blocks of at most 12, and in two of at most 20, which are filled. */
+static void test_spanned(void)
+{
+    static const char same[] = "// U TC,FS,A=(12),B=(12)\n// END\n";
+    static const char wider[] = "// U TR,FS,A=(12),B=(20)\n// END\n";
+    static const uint8_t s[53] = {
+        0, 0, 0, 3, 0, 0, 0, 20, 0, 0, 0, 32, 0, 0, 0, 42, 0, 0, 0, 53,
+        0, 12, 0, 0, 0, 8, 1, 0, 1, 2, 3, 4,
+        0, 10, 0, 0, 0, 6, 2, 0, 5, 6,
+        0, 11, 0, 0, 0, 7, 0, 0, 7, 8, 9,
+    };
+    static const uint8_t filled[45] = {
+        0, 0, 0, 2, 0, 0, 0, 16, 0, 0, 0, 36, 0, 0, 0, 45,
+        0, 20, 0, 0, 0, 10, 0, 0, 1, 2, 3, 4, 5, 6, 0, 6, 1, 0, 7, 8,
+        0, 9, 0, 0, 0, 5, 2, 0, 9,
+    };
+    uint8_t bad[sizeof s];
+    plans("spanned records, a table of 0", wider, 0, planned(0, 0, 0, 1, 0, 0), NULL);
+    plain("a block under 9 in FS", "// U TR,FS,A=(8),B=(9)\n// END", planned(7, 1, 15, 0, 0, 0));
+    plain("fields in FS", "// U TRF,FS,A=(9),B=(9)\n// FS 1,1,1\n// END", planned(8, 1, 0, 0, 0, 0));
+    runs("segments, copied", same, s, sizeof s, ROOM, s, sizeof s, 2, 3);
+    runs("segments, filled", wider, s, sizeof s, ROOM, filled, sizeof filled, 2, 2);
+    refuses_run("a byte too little for segments", wider, s, sizeof s, sizeof filled - 1, 15, sizeof filled, 0);
+    memcpy(bad, s, sizeof bad);
+    bad[48] = 1;
+    refuses_run("a record that is unfinished at the end", wider, bad, sizeof bad, ROOM, 12, 3, 0);
+    bad[38] = 0;
+    refuses_run("a segment out of turn", same, bad, sizeof bad, ROOM, 12, 2, 0);
+    refuses_twins("twins of spanned records", wider, 0, 16, 0, 0);
+}
+
 /* Each reason, with the bytes of both records: halves that a field permits only some values of have the lowest, as the zone F and the sign A. */
 static void test_twins(void)
 {
@@ -421,6 +452,7 @@ int main(void)
     test_plans();
     test_many_fields();
     test_keys();
+    test_spanned();
     test_twins();
     test_long_twins();
     test_alike();

@@ -29,6 +29,7 @@ program edges
     call test_tables()
     call test_runs()
     call test_keys()
+    call test_spanned()
     call test_twins()
     print "(i0, a, i0, a)", tested, " tests, ", wrong, " wrong"
 
@@ -163,6 +164,31 @@ contains
         call check(same_twins(t, 0, 0, 0, bhx_dropped, 6) .and. all(output(1:6) == [-16, -96, 0, -15, -96, 0]) &
             .and. all(output(7:) == 77), "a digit of the key is dropped")
     end subroutine test_keys
+
+    ! Records in segments: two of 6 and 3 bytes in three blocks of at most 12, and in two of at most 20, which are filled.
+    subroutine test_spanned()
+        character(len=*), parameter :: wider(2) = [character(len=40) :: "// U TR,FS,A=(12),B=(20)", "// END"]
+        character(len=*), parameter :: under(2) = [character(len=40) :: "// U TR,FS,A=(8),B=(9)", "// END"]
+        integer(int8), parameter :: records(53) = int([0, 0, 0, 3, 0, 0, 0, 20, 0, 0, 0, 32, 0, 0, 0, 42, 0, 0, 0, 53, &
+            0, 12, 0, 0, 0, 8, 1, 0, 1, 2, 3, 4, 0, 10, 0, 0, 0, 6, 2, 0, 5, 6, 0, 11, 0, 0, 0, 7, 0, 0, 7, 8, 9], int8)
+        integer(int8), parameter :: blocks(45) = int([0, 0, 0, 2, 0, 0, 0, 16, 0, 0, 0, 36, 0, 0, 0, 45, &
+            0, 20, 0, 0, 0, 10, 0, 0, 1, 2, 3, 4, 5, 6, 0, 6, 1, 0, 7, 8, 0, 9, 0, 0, 0, 5, 2, 0, 9], int8)
+        integer(int8) :: output(100), unfinished(53)
+        type(bhx_ran) :: r
+        type(bhx_twinned) :: t
+        call check(same_plan(plan_deck(wider), 0, 0, 0, .true., 0, 0), "the plan of spanned records")
+        call check(same_plan(plan_deck(under), 7, 1, 15, .false., 0, 0), "a block under 9 in FS")
+        output = 77
+        unfinished = records
+        unfinished(49) = 1
+        call run_deck(wider, unfinished, output, r)
+        call check(same_run(r, 12, 3, 0, 0, 0, 0) .and. all(output == 77), "a record that is unfinished at the end")
+        call show_twins(wider, output, t)
+        call check(same_twins(t, 16, 0, 0, 0, 0) .and. all(output == 77), "twins of spanned records")
+        call run_deck(wider, records, output, r)
+        call check(same_run(r, 0, 0, 0, 45, 2, 2) .and. all(output(1:45) == blocks) .and. all(output(46:) == 77), &
+            "segments, filled")
+    end subroutine test_spanned
 
     logical function same_twins(t, refusal, place, column, reason, length)
         type(bhx_twinned), intent(in) :: t
