@@ -235,3 +235,9 @@ over-front v old new x e h = h ∙ sym (front-over (length v) old v refl) ∙ ap
 
 pub only-one : (task : Task) (fields s : List ℕ) (room : ℕ) → GivenPlan task fields → (x y : Ran) → Checked task fields s room x → Checked task fields s room y → x ≡ y
 only-one task fields s room g x y h k = h .is (g .p) (g .given) ∙ sym (k .is (g .p) (g .given))
+
+pub refused-only-one : (number place : ℕ) (x y : Ran) → x ≡ refusedRun number place → y ≡ refusedRun number place → x ≡ y
+refused-only-one number place x y h k = h ∙ sym k
+
+pub housed-only-one : (room size records blocks : ℕ) (x y : Ran) → x ≡ housedRun room size records blocks → y ≡ housedRun room size records blocks → x ≡ y
+housed-only-one room size records blocks x y h k = h ∙ sym k

@@ -1,4 +1,5 @@
 -- Each outcome by the test that led there.
+use native.Mathlib.Omega.{arith}
 use Rattle.spans.proofs.CutLaws.{opened-new, opened-same}
 use borrow.Author.Needs.{needs}
 use Rattle.spans.proofs.opened.Statement.{statement}
@@ -14,10 +15,10 @@ add-t6 : tie.Need-add-t6
 add-t6 c = search needs
 
 returns : tie.Need-returns
-returns c = opened-new _ _ (c .before .before .if1 .taken)
+returns c = opened-new _ _ (omega (arith, c .before .before .if1 .taken))
 
 returns-2 : tie.Need-returns-2
-returns-2 c = opened-same _ _ (c .if1 .left)
+returns-2 c = opened-same _ _ (omega (arith, c .if1 .left))
 
 pub opened-spec : {M : Type 1} → statement M
 opened-spec = tie.close (tie.spec sub-if1 add-t5 add-t6 returns returns-2)
