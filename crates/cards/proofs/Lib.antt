@@ -1,7 +1,6 @@
 pub mod ListSteps
 pub mod NotedLaws
 pub mod RowLaws
-pub mod LimitLaws
 pub mod ColumnLaws
 pub mod ListedLaws
 pub mod ParameterLaws

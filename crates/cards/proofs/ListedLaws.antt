@@ -36,9 +36,9 @@ use Rattle.readers.specs.declared.Places.{Places}
 use Rattle.readers.specs.declared.ItemRead.the-variants.{IsField, IsCV, NoItem}
 use Rattle.readers.specs.Meaning.{Reads, placesIn, fieldPlaces, ItemSays}
 use Rattle.readers.proofs.Callers.{item-places, places-inside}
+use Rattle.limits.specs.Limits.{shifted, fieldOutside}
 use Rattle.cards.specs.declared.Noted.{Noted}
 use Rattle.cards.specs.declared.ListRead.{ListRead}
-use Rattle.cards.specs.Limits.{shifted}
 use Rattle.cards.specs.Selected.{fieldNoted, cvNoted, keptRow, Taken, withItem, withWords, ListSays}
 use Rattle.cards.proofs.RowLaws.{Fair, words-key}
 
@@ -133,7 +133,7 @@ module _ (s : List ℕ) (part : Part) (f : Field) (p : Places) (n : ℕ) (e : It
       ap (λ (c : ℕ). numberColumns false c (take n s)) (sym z) ∙ columns-shift false column 0 (take n s) ∙ ap (shifted column) (item-places s part f p n e)
 
   -- the column of the first outside its limits, as code finds it
-  pub outside-is : (column : ℕ) → outsideColumn (shifted column (fieldPlaces (f .kind) p)) (itemNumbers (field (cardField part f))) ≡ outsideIn itemNumbers column theWord
+  pub outside-is : (column : ℕ) → fieldOutside part f p column ≡ outsideIn itemNumbers column theWord
   outside-is column = ap (λ (cs : List ℕ). outsideColumn cs (itemNumbers (field (cardField part f)))) (sym (columns-are column))
 
   -- each begins inside the field
@@ -201,7 +201,7 @@ words-fair o is t = parts-all (fs-worded o is t .0)
 module _ (card column : ℕ) (t : Taken) (s : List ℕ) where
   -- a field: its first number outside its limits, the row, and what is noted
   pub listed-field : (part : Part) (f : Field) (p : Places) (n : ℕ) → ItemSays s (IsField part f p n)
-      → (out : ℕ) → out ≡ outsideColumn (shifted column (fieldPlaces (f .kind) p)) (itemNumbers (field (cardField part f)))
+      → (out : ℕ) → out ≡ fieldOutside part f p column
       → (own : Field) → fieldOf own ≡ laid (t .0 .key) (cardField part f)
       → (row : List ℕ) → row ≡ keptRow (t .0 .count) out (fieldOf own) (t .1)
       → (m : Noted) → m ≡ fieldNoted (t .0) card (partOf part) out

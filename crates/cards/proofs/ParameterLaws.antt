@@ -27,11 +27,11 @@ use Rattle.readers.specs.declared.UParameter.the-variants.{ModeIs, FormatIs, In
 use Rattle.readers.specs.declared.ParameterRead.the-variants.{IsParameter, NoParameter}
 use Rattle.readers.specs.Meaning.{secondIn, parameterOf, parameterPlaces, ParameterSays}
 use Rattle.readers.proofs.Callers.{parameter-places, places-inside}
+use Rattle.limits.specs.Limits.{shifted, parameterOutside}
 use Rattle.cards.specs.declared.Parameters.{Parameters}
 use Rattle.cards.specs.declared.Outside.{Outside}
 use Rattle.cards.specs.declared.URead.{URead}
-use Rattle.cards.specs.Limits.{shifted}
-use Rattle.cards.specs.Parameters.{noParameter, withPart, withLetter, withSecond, withParameter, noneOutside, parameterOutside, withNumbers, hasSeen, option, givenOf, Notes, NotesOutside, uRead, UListed}
+use Rattle.cards.specs.Parameters.{noParameter, withPart, withLetter, withSecond, withParameter, noneOutside, withNumbers, hasSeen, option, givenOf, Notes, NotesOutside, uRead, UListed}
 
 pub letter-small : (p : Parameter) → letter p < 7
 letter-small (modeIs m) = omega arith

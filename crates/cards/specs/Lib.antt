@@ -1,5 +1,5 @@
 pub mod Promise
-pub mod Limits
+pub mod Stops
 pub mod Selected
 pub mod Parameters
 pub mod Verdict

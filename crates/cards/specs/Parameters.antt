@@ -7,8 +7,8 @@ use Prim.Native.Nat.{ℕ}
 use lib.Dec.{eqb}
 use lib.ListN.{length, getD, set, replicate}
 use Rattle.rules.specs.Reader.{Read, read, stopped}
-use Rattle.rules.specs.Grammar.{Parameter, Format as RuleFormat, ff, fv}
-use Rattle.rules.specs.Words.{Worded, valuesOf, againColumn, outsideColumn, firstOf, outsideAmong}
+use Rattle.rules.specs.Grammar.{Parameter, ff, fv}
+use Rattle.rules.specs.Words.{Worded, valuesOf, againColumn, firstOf, outsideAmong}
 use Rattle.rules.specs.Asked.{letter, among, distinct, sameLetter, parameterNumbers, Given, given}
 use Rattle.terms.specs.Meaning.{modeOf, formatOf, sizeOf, inputOf}
 use Rattle.terms.specs.declared.Mode.the-variants.{TC}
@@ -17,11 +17,12 @@ use Rattle.terms.specs.declared.Size.the-variants.{One}
 use Rattle.terms.specs.declared.Input.the-variants.{Plain}
 use Rattle.readers.specs.declared.UParameter.{UParameter}
 use Rattle.readers.specs.declared.UParameter.the-variants.{ModeIs, FormatIs, InputIs, OutputIs, RewindIn, RewindOut, FirstIs}
-use Rattle.readers.specs.Meaning.{parameterOf, parameterPlaces}
+use Rattle.readers.specs.Meaning.{parameterOf}
+use Rattle.limits.specs.Limits.{parameterOutside}
 use Rattle.cards.specs.declared.Parameters.{Parameters}
 use Rattle.cards.specs.declared.Outside.{Outside}
 use Rattle.cards.specs.declared.URead.{URead}
-use Rattle.cards.specs.Limits.{shifted, StopsAt}
+use Rattle.cards.specs.Stops.{StopsAt}
 
 unfoldable pub noParameter : Parameters
 noParameter = record { mode = TC; format = FF; input = Plain (One 0); output = One 0; first = 1; seen = replicate 7 false; twice = 0 }
@@ -64,10 +65,6 @@ withParameter st p column =
 
 abbrev pub noneOutside : Outside
 noneOutside = record { plain = 0; variable = 0 }
-
--- the column of a parameter's first number outside its limits, where F is this
-abbrev pub parameterOutside : RuleFormat → UParameter → ℕ → ℕ → ℕ
-parameterOutside f p second column = outsideColumn (shifted column (parameterPlaces p second)) (parameterNumbers f (parameterOf p))
 
 abbrev pub withNumbers : Outside → UParameter → ℕ → ℕ → Outside
 withNumbers o p second column =

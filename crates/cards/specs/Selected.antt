@@ -17,7 +17,7 @@ use Rattle.rows.specs.Flat.{flatOf, Short}
 use Rattle.rows.specs.Kept.{rowOf}
 use Rattle.cards.specs.declared.Noted.{Noted}
 use Rattle.cards.specs.declared.ListRead.{ListRead}
-use Rattle.cards.specs.Limits.{StopsAt}
+use Rattle.cards.specs.Stops.{StopsAt}
 
 -- ---- what is noted
 

@@ -4,35 +4,31 @@ use lines::LineRead;
 use lines::OrderRead;
 use readers::ItemRead;
 use readers::ParameterRead;
-use readers::Places;
 use readers::UParameter;
 use terms::Asked;
 use terms::Field;
 use terms::Format;
 use terms::Input;
-use terms::Kind;
 use terms::Mode;
 use terms::Part;
 use terms::Size;
 ghost use mathlib.Core.Path.{_≡_};
-ghost use mathlib.Core.Bool.{cond};
 ghost use mathlib.Core.List.{List, []};
-ghost use Prim.Native.Nat.{_+_, _-_, _*_, _≤_};
+ghost use Prim.Native.Nat.{_+_, _≤_};
 ghost use lib.ListN.{length, drop, getD};
-ghost use Rattle.rules.specs.Base.{within};
 ghost use Rattle.rules.specs.Places.{All};
 ghost use Rattle.rules.specs.Answer.{fine};
 ghost use Rattle.rules.specs.Reader.{listOf, restOf};
-ghost use Rattle.rules.specs.Grammar.{Item, parameter as ruleParameter, item, field as fieldItem};
-ghost use Rattle.rules.specs.Words.{worded, outsideColumn, firstOf};
-ghost use Rattle.rules.specs.Asked.{letter, least, sizeNumbers, inputNumbers, parameterNumbers, itemNumbers, itemsFrom, askedOf};
-ghost use Rattle.terms.specs.Meaning.{formatOf, sizeOf, inputOf, fieldOf, partOf, cardField, laidAt, laid as laidField, fieldCards};
+ghost use Rattle.rules.specs.Grammar.{Item, parameter as ruleParameter, item};
+ghost use Rattle.rules.specs.Words.{worded};
+ghost use Rattle.rules.specs.Asked.{letter, itemsFrom, askedOf};
+ghost use Rattle.terms.specs.Meaning.{formatOf, fieldOf, partOf, cardField, laidAt, laid as laidField, fieldCards};
 ghost use Rattle.rows.specs.Kept.{rowOf};
 ghost use Rattle.readers.specs.declared.UParameter.the-variants.{ModeIs, FormatIs, InputIs, OutputIs};
-ghost use Rattle.readers.specs.Meaning.{OneSize, parameterOf, parameterPlaces, fieldPlaces};
+ghost use Rattle.readers.specs.Meaning.{parameterOf};
+ghost use Rattle.limits.specs.Limits.{Reaches};
 ghost use Rattle.lines.specs.declared.LineRead.the-variants.{Line};
 ghost use Rattle.lines.specs.Meaning.{IsCard, LineSays};
-ghost use Rattle.cards.specs.Limits.{Reaches, sizePlaces, inputPlaces, mostOf, shifted};
 ghost use Rattle.cards.specs.Selected.{nothingNoted, counted, keyNoted, fieldNoted, cvNoted, Layable, Keepable, keptRow, ListSays, noSelection};
 ghost use Rattle.cards.specs.Parameters.{noParameter, withPart, withParameter, noneOutside, withNumbers, uRead, UListed};
 ghost use Rattle.cards.specs.Deck.{cardsIn, fsFirst, CardAtSays, FsSaid, FsFine};
@@ -45,126 +41,6 @@ const SLASH: u8 = b'/';
 
 // At most so many fields are selected.
 const FIELDS: usize = 64;
-
-// ---- limits of numbers (refusal 7)
-
-// Whether a number is within its limits.
-fn allowed(low: usize, high: usize, number: usize) -> bool
-    ensures { λ r. ⌜ r ≡ within low high number ⌝ }
-{
-    low <= number && number <= high
-}
-
-// The column of a number that is outside its limits, or 0.
-fn number_outside(low: usize, high: usize, number: usize, column: usize) -> usize
-    ensures { λ r. ⌜ r ≡ cond (within low high number) 0 column ⌝ }
-{
-    if allowed(low, high, number) {
-        return 0;
-    }
-    column
-}
-
-// The first of two columns or cards; 0 is none.
-fn first_of(noted: usize, next: usize) -> usize
-    ensures { λ r. ⌜ r ≡ firstOf noted next ⌝ }
-{
-    if noted == 0 {
-        return next;
-    }
-    noted
-}
-
-// The most that a field's sizes may be.
-fn most(kind: Kind) -> usize
-    ensures { λ r. ⌜ r ≡ mostOf kind ⌝ }
-{
-    match kind {
-        Kind::Copy => 4096,
-        Kind::Pack => 16,
-        Kind::Unpack => 16,
-    }
-}
-
-// The column of the first number of a field that is outside its limits, or 0. The field begins at this column.
-fn field_outside(part: Part, field: Field, places: Places, column: usize) -> usize
-    requires { ⌜ OneSize (field .kind) (field .input) (field .output) × (1 ≤ column) × Reaches column (places .r) × Reaches column (places .input) × Reaches column (places .output) × Reaches column (places .t) ⌝ }
-    ensures { λ r. ⌜ r ≡ outsideColumn (shifted column (fieldPlaces (field .kind) places)) (itemNumbers (fieldItem (cardField part field))) ⌝ }
-{
-    let kind = field.kind;
-    let most = most(kind);
-    let r = number_outside(1, 4096, field.r, column + places.r);
-    let input = number_outside(1, most, field.input, column + places.input);
-    let output = number_outside(1, most, field.output, column + places.output);
-    let t = number_outside(1, 4096, field.t, column + places.t);
-    first_of(first_of(r, input), first_of(output, t))
-}
-
-// The least that a single size may be.
-fn least(format: Format) -> usize
-    ensures { λ r. ⌜ r ≡ least (formatOf format) ⌝ }
-{
-    match format {
-        Format::FF => 1,
-        Format::FV => 9,
-        Format::FU => 1,
-        Format::FS => 9,
-    }
-}
-
-// The column of the first number of A or B that is outside its limits, or 0, where F is this. The parameter begins at this column.
-fn size_outside(format: Format, size: Size, second: usize, column: usize) -> usize
-    requires { ⌜ Reaches column 3 × Reaches column second ⌝ }
-    ensures { λ r. ⌜ r ≡ outsideColumn (shifted column (sizePlaces size second)) (sizeNumbers (formatOf format) (sizeOf size)) ⌝ }
-{
-    match size {
-        Size::Two { n, m } => {
-            let first = number_outside(1, 4096, n, column + 3);
-            first_of(first, number_outside(1, 32760, m, column + second))
-        }
-        Size::One { g } => number_outside(least(format), 32760, g, column + 3),
-    }
-}
-
-// What a key of so many bytes leaves of 4,096.
-fn left(key: usize) -> usize
-    ensures { λ r. ⌜ r ≡ 4096 - key ⌝ }
-{
-    if key < 4096 {
-        return 4096 - key;
-    }
-    0
-}
-
-// The same of what A says.
-fn input_outside(format: Format, input: Input, second: usize, column: usize) -> usize
-    requires { ⌜ Reaches column 5 × Reaches column second ⌝ }
-    ensures { λ r. ⌜ r ≡ outsideColumn (shifted column (inputPlaces input second)) (inputNumbers (formatOf format) (inputOf input)) ⌝ }
-{
-    match input {
-        Input::Plain(size) => size_outside(format, size, second, column),
-        Input::Keyed { key, data } => {
-            let first = number_outside(1, 4096, key, column + 5);
-            first_of(first, number_outside(1, left(key), data, column + second))
-        }
-    }
-}
-
-// The column of the first number of a parameter that is outside its limits, or 0, where F is this.
-fn parameter_outside(format: Format, parameter: UParameter, second: usize, column: usize) -> usize
-    requires { ⌜ Reaches column 5 × Reaches column second ⌝ }
-    ensures { λ r. ⌜ r ≡ outsideColumn (shifted column (parameterPlaces parameter second)) (parameterNumbers (formatOf format) (parameterOf parameter)) ⌝ }
-{
-    match parameter {
-        UParameter::ModeIs(_) => 0,
-        UParameter::FormatIs(_) => 0,
-        UParameter::InputIs(input) => input_outside(format, input, second, column),
-        UParameter::OutputIs(size) => size_outside(format, size, second, column),
-        UParameter::RewindIn => 0,
-        UParameter::RewindOut => 0,
-        UParameter::FirstIs(n) => number_outside(1, 65536, n, column + 1),
-    }
-}
 
 // ---- FS cards
 
@@ -208,7 +84,7 @@ fn counted(noted: Noted, card: usize) -> Noted
         next.count = count + 1;
         return next;
     }
-    next.sixty_fifth = first_of(noted.sixty_fifth, card);
+    next.sixty_fifth = limits::first_of(noted.sixty_fifth, card);
     next
 }
 
@@ -220,7 +96,7 @@ fn key_noted(noted: Noted, card: usize, part: Part) -> Noted
     match part {
         Part::Data => noted,
         Part::Key => {
-            next.keyed = first_of(noted.keyed, card);
+            next.keyed = limits::first_of(noted.keyed, card);
             next
         }
     }
@@ -315,7 +191,7 @@ fn list(operand: &[u8], card: usize, column: usize, noted: Noted, row: &mut [u16
             places,
             used,
         } => {
-            let outside = field_outside(part, field, places, column);
+            let outside = limits::field_outside(part, field, places, column);
             let own = laid(part, field, noted.key);
             keep(row, noted.count, own, outside);
             let after = field_noted(noted, card, part, outside);
@@ -495,7 +371,7 @@ fn with_parameter(state: Parameters, parameter: UParameter, column: usize) -> Pa
     let at = letter(parameter);
     let mut same = state;
     if same.seen[at] {
-        same.twice = first_of(same.twice, column);
+        same.twice = limits::first_of(same.twice, column);
         return same;
     }
     let mut next = with_part(state, parameter);
@@ -524,13 +400,13 @@ fn with_numbers(before: Outside, parameter: UParameter, second: usize, column: u
     ensures { λ r. ⌜ r ≡ withNumbers before parameter second column ⌝ }
 {
     Outside {
-        plain: first_of(
+        plain: limits::first_of(
             before.plain,
-            parameter_outside(Format::FF, parameter, second, column),
+            limits::parameter_outside(Format::FF, parameter, second, column),
         ),
-        variable: first_of(
+        variable: limits::first_of(
             before.variable,
-            parameter_outside(Format::FV, parameter, second, column),
+            limits::parameter_outside(Format::FV, parameter, second, column),
         ),
     }
 }

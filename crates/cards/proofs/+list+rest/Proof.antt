@@ -13,6 +13,7 @@ use Rattle.readers.specs.declared.ItemRead.the-variants.{IsField, IsCV, NoItem}
 use Rattle.readers.specs.Meaning.{ItemSays}
 use Rattle.readers.proofs.Callers.{field-takes, field-small, cv-takes}
 use Rattle.readers.proofs.item.Reads as item-reads
+use Rattle.limits.proofs.field_outside.Reads as field-outside-reads
 use Rattle.terms.specs.Meaning.{partOf}
 use Rattle.rows.specs.Flat.{Short}
 use Rattle.cards.specs.declared.Noted.{Noted}
@@ -20,7 +21,6 @@ use Rattle.cards.proofs.RowLaws.{field-key, cv-key}
 use Rattle.cards.proofs.ListedLaws.{outside-is, places-low, kept-short, listed-field, listed-cv, listed-none, rest-ended, rest-slash, rest-other-byte}
 use Rattle.cards.proofs.cv_noted.Reads as cv-noted-reads
 use Rattle.cards.proofs.field_noted.Reads as field-noted-reads
-use Rattle.cards.proofs.field_outside.Reads as field-outside-reads
 use Rattle.cards.proofs.keep.Reads as keep-reads
 use Rattle.cards.proofs.laid.Reads as laid-reads
 use Rattle.cards.proofs.+list+rest.{statement}

@@ -1,7 +1,7 @@
--- `cards::allowed` meets its contract: each way through its test gives what the test of a number gives.
+-- `limits::allowed` meets its contract: each way through its test gives what the test of a number gives.
 use borrow.Author.Tests.{le-leb, lt-leb}
-use Rattle.cards.proofs.allowed.Statement.{statement}
-use Rattle.cards.proofs.allowed.Tie as tie
+use Rattle.limits.proofs.allowed.Statement.{statement}
+use Rattle.limits.proofs.allowed.Tie as tie
 
 returns : tie.Need-returns
 returns c = rw (le-leb _ _ (c .if1 .taken))

@@ -21,7 +21,7 @@ use Rattle.terms.specs.Meaning.{kindOf, fieldOf, partOf, cardField}
 use Rattle.readers.specs.declared.Places.{Places}
 use Rattle.readers.specs.declared.UParameter.the-variants.{InputIs, OutputIs}
 use Rattle.readers.specs.Meaning.{OneSize, parameterPlaces, fieldPlaces}
-use Rattle.cards.specs.Limits.{shifted, sizePlaces, inputPlaces, mostOf}
+use Rattle.limits.specs.Limits.{shifted, sizePlaces, inputPlaces, mostOf, fieldOutside}
 
 -- the columns of two and of four numbers, 0 for one that is within its limits
 pub two-first : (a b : Bool) (x y : ℕ) → 1 ≤ x → firstOf (cond a 0 x) (cond b 0 y) ≡ cond a (cond b 0 y) x
@@ -60,7 +60,7 @@ module _ (q : RulePart) (r t : ℕ) (p : Places) (c : ℕ) (low : 1 ≤ c) where
 pub field-first : (q : Part) (f : Field) (p : Places) (c : ℕ) → OneSize (f .kind) (f .input) (f .output) → 1 ≤ c
     → firstOf (firstOf (cond (within 1 4096 (f .r)) 0 (c + p .r)) (cond (within 1 (mostOf (f .kind)) (f .input)) 0 (c + p .input)))
     (firstOf (cond (within 1 (mostOf (f .kind)) (f .output)) 0 (c + p .output)) (cond (within 1 4096 (f .t)) 0 (c + p .t)))
-    ≡ outsideColumn (shifted c (fieldPlaces (f .kind) p)) (itemNumbers (field (cardField q f)))
+    ≡ fieldOutside q f p c
 unfolding fieldOf cardField
 field-first q f p c e l = kind-first (partOf q) (f .r) (f .t) p c l (f .kind) (f .input) (f .output) e
 

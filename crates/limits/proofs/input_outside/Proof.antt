@@ -1,11 +1,11 @@
--- `cards::input_outside` meets its contract: of a size as it is, and of key and data the column of the first outside its limits.
+-- `limits::input_outside` meets its contract: of a size as it is, and of key and data the column of the first outside its limits.
 use Prim.Native.Nat.{_+_, _-_}
 use native.Mathlib.Omega.{arith}
 use Rattle.rules.specs.Base.{within}
-use Rattle.cards.proofs.LimitLaws.{two-first}
+use Rattle.limits.proofs.LimitLaws.{two-first}
 use borrow.Author.Needs.{needs}
-use Rattle.cards.proofs.input_outside.Statement.{statement}
-use Rattle.cards.proofs.input_outside.Tie as tie
+use Rattle.limits.proofs.input_outside.Statement.{statement}
+use Rattle.limits.proofs.input_outside.Tie as tie
 
 enum-known-input : tie.Need-enum-known-input
 enum-known-input c = search needs

@@ -1,8 +1,8 @@
--- `cards::number_outside` meets its contract: by whether the number is within its limits.
+-- `limits::number_outside` meets its contract: by whether the number is within its limits.
 use mathlib.Core.Path.{sym, _∙_}
 use borrow.Author.Needs.{needs}
-use Rattle.cards.proofs.number_outside.Statement.{statement}
-use Rattle.cards.proofs.number_outside.Tie as tie
+use Rattle.limits.proofs.number_outside.Statement.{statement}
+use Rattle.limits.proofs.number_outside.Tie as tie
 
 allowed-requires : tie.Need-allowed-requires
 allowed-requires c κs = search needs

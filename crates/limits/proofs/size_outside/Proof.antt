@@ -1,11 +1,11 @@
--- `cards::size_outside` meets its contract: of one or two numbers the column of the first outside its limits is taken.
+-- `limits::size_outside` meets its contract: of one or two numbers the column of the first outside its limits is taken.
 use Prim.Native.Nat.{_+_}
 use native.Mathlib.Omega.{arith}
 use Rattle.rules.specs.Base.{within}
-use Rattle.cards.proofs.LimitLaws.{two-first}
+use Rattle.limits.proofs.LimitLaws.{two-first}
 use borrow.Author.Needs.{needs}
-use Rattle.cards.proofs.size_outside.Statement.{statement}
-use Rattle.cards.proofs.size_outside.Tie as tie
+use Rattle.limits.proofs.size_outside.Statement.{statement}
+use Rattle.limits.proofs.size_outside.Tie as tie
 
 enum-known-size : tie.Need-enum-known-size
 enum-known-size c = search needs

@@ -1,8 +1,8 @@
--- `cards::field_outside` meets its contract: of the columns of the four numbers the first that is not 0 is taken, in the order of the card.
-use Rattle.cards.proofs.LimitLaws.{field-first}
+-- `limits::field_outside` meets its contract: of the columns of the four numbers the first that is not 0 is taken, in the order of the card.
+use Rattle.limits.proofs.LimitLaws.{field-first}
 use borrow.Author.Needs.{needs}
-use Rattle.cards.proofs.field_outside.Statement.{statement}
-use Rattle.cards.proofs.field_outside.Tie as tie
+use Rattle.limits.proofs.field_outside.Statement.{statement}
+use Rattle.limits.proofs.field_outside.Tie as tie
 
 most-requires : tie.Need-most-requires
 most-requires c κs = search needs

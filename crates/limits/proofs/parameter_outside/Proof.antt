@@ -1,8 +1,8 @@
--- `cards::parameter_outside` meets its contract: only A, B and R have numbers.
-use Rattle.cards.proofs.LimitLaws.{input-places, output-places}
+-- `limits::parameter_outside` meets its contract: only A, B and R have numbers.
+use Rattle.limits.proofs.LimitLaws.{input-places, output-places}
 use borrow.Author.Needs.{needs}
-use Rattle.cards.proofs.parameter_outside.Statement.{statement}
-use Rattle.cards.proofs.parameter_outside.Tie as tie
+use Rattle.limits.proofs.parameter_outside.Statement.{statement}
+use Rattle.limits.proofs.parameter_outside.Tie as tie
 
 enum-told : tie.Need-enum-told
 enum-told c = search needs

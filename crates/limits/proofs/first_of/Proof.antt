@@ -1,7 +1,7 @@
--- `cards::first_of` meets its contract: each way through its test gives what the rule gives.
+-- `limits::first_of` meets its contract: each way through its test gives what the rule gives.
 use borrow.Author.Tests.{eq-eqb, ne-eqb}
-use Rattle.cards.proofs.first_of.Statement.{statement}
-use Rattle.cards.proofs.first_of.Tie as tie
+use Rattle.limits.proofs.first_of.Statement.{statement}
+use Rattle.limits.proofs.first_of.Tie as tie
 
 returns : tie.Need-returns
 returns c = rw (eq-eqb _ 0 (c .if1 .taken))

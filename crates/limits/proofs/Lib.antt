@@ -1,0 +1,2 @@
+pub mod LimitLaws
+pub mod OnlyOne
