@@ -10,8 +10,7 @@ use lib.Seq.{drop-cons, drop-drop, length-take-le}
 use borrow.Author.Tests.{eq-eqb}
 use Rattle.rules.specs.Places.{All, noMore, also}
 use Rattle.rules.specs.Reader.{Read, read, stopped, pure, onward, listOf, restOf}
-use Rattle.rules.specs.Grammar.{CardField, Item, field, cv, item}
-use Rattle.rules.specs.Rows.{FieldWithin}
+use Rattle.rules.specs.Grammar.{Item, field, cv, item}
 use Rattle.rules.specs.Texts.{ListText, RestText, ItemText, FsText}
 use Rattle.rules.specs.Words.{Worded, worded, fsWords, numberColumns, outsideColumn, outsideIn}
 use Rattle.rules.specs.Asked.{itemNumbers}
@@ -29,14 +28,13 @@ use Rattle.terms.specs.declared.Kind.the-variants.{Copy, Pack, Unpack}
 use Rattle.terms.specs.declared.Part.{Part}
 use Rattle.terms.specs.declared.Field.{Field}
 use Rattle.terms.specs.Meaning.{kindOf, fieldOf, partOf, cardField, laid}
-use Rattle.terms.proofs.Laid.{laid-within}
 use Rattle.rows.specs.Flat.{Short}
-use Rattle.rows.proofs.RowLaws.{short-one}
 use Rattle.readers.specs.declared.Places.{Places}
 use Rattle.readers.specs.declared.ItemRead.the-variants.{IsField, IsCV, NoItem}
 use Rattle.readers.specs.Meaning.{Reads, placesIn, fieldPlaces, ItemSays}
 use Rattle.readers.proofs.Callers.{item-places, places-inside}
 use Rattle.limits.specs.Limits.{shifted, fieldOutside}
+use Rattle.keys.proofs.KeyLaws.{laid-short}
 use Rattle.cards.specs.declared.Noted.{Noted}
 use Rattle.cards.specs.declared.ListRead.{ListRead}
 use Rattle.cards.specs.Selected.{fieldNoted, cvNoted, keptRow, Taken, withItem, withWords, ListSays}
@@ -111,15 +109,6 @@ module _ (card column : ℕ) (t : Taken) (s : List ℕ) where
       subst (λ (x : Read (List (Worded Item))). ListSays card (1 + column) column t s x r row)
       (sym (ap (restOf "/" (worded item)) d ∙ rest-other "/" (worded item) takes 47 refl (getD s 0 0) (drop 1 s) e ∙ ap stopped (sym d)))
       (0, omega arith, refl, omega arith)
-
--- ---- a field of the row
-
-laid-short : (key : ℕ) (f : CardField) → key ≤ 4096 → FieldWithin (f .field) → Short (laid key f)
-unfolding laid
-laid-short key f h w =
-    let own = short-one (f .field) w in
-    let place = laid-within key f h w in
-    record { r = omega (arith, place .high); input = own .input; output = own .output; t = own .t }
 
 -- ---- the numbers of a field
 

@@ -6,11 +6,6 @@ use mathlib.Core.List.{List, [], _∷_, _++_, map}
 use mathlib.Core.Option.{some}
 use Prim.Native.Nat.{ℕ, suc, _+_, _-_, _≤_}
 use native.Mathlib.Omega.{arith}
-use mathlib.Core.Bool.{Bool, true, false, cond}
-use lib.Dec.{leb}
-use borrow.Author.Tests.{leb-true}
-use Rattle.terms.specs.declared.Input.{Input}
-use Rattle.terms.specs.declared.Input.the-variants.{Plain, Keyed}
 use denote.Enum.Declared.{tagOf}
 use lib.ListN.{length, drop}
 use lib.Seq.{slice}
@@ -32,6 +27,7 @@ use Rattle.rules.proofs.WordedLaws.{fs-worded}
 use Rattle.rules.proofs.WordColumns.{plainRead, list-plain}
 use Rattle.lines.specs.Meaning.{IsCard}
 use Rattle.lines.specs.Scanning.{cardCount}
+use Rattle.keys.specs.Keys.{keyOf}
 use Rattle.cards.specs.declared.CardAt.{CardAt}
 use Rattle.cards.specs.declared.CardAt.the-variants.{UAt, FsAt, NoOperand}
 use Rattle.cards.specs.declared.URead.{URead}
@@ -39,7 +35,7 @@ use Rattle.cards.specs.declared.FsCards.{FsCards}
 use Rattle.cards.specs.Selected.{Taken, noSelection, withCards}
 use Rattle.cards.specs.Parameters.{UListed}
 use Rattle.cards.specs.Deck.{cardsIn, fsFirst, OperandAt, Operandless, CardAtSays, FsRead, FsSaid}
-use Rattle.cards.specs.Verdict.{keyOf, judgedAs}
+use Rattle.cards.specs.Verdict.{judgedAs}
 use Rattle.cards.specs.Promise.{refusedDeck, Reads, DeckReads, InOrder}
 use Rattle.cards.proofs.CardAt as card-type
 use Rattle.cards.proofs.RowLaws.{Fair, Holds, holds-cards}
@@ -234,12 +230,3 @@ module _ (deck : List ℕ) (fs : ℕ) (order : InOrder deck fs) where
                 subst (λ (x : Answer RuleAsked). Reads x (judgedAs (r .state) (r .outside) (f .noted) fs) row) (sym a)
                 (judged-said operands (r .state) (r .outside) ws t (ap partsOf e) (l .1) (l .2) (f .noted, row) (w .1) cs b
                 (subst (λ (x : Taken). Holds key x cs) (sym (w .1)) (subst (Holds key (withCards 2 (map fsWords (operands .fs)) (noSelection key))) (v .1) (holds-cards key (map fsWords (operands .fs)) (v .0)))) fs m)
-
--- a key that is kept is within its limits
-pub key-most : (i : Input) → keyOf i ≤ 4096
-key-most (Plain s) = omega arith
-key-most (Keyed k d) = go (leb k 4096) refl
-  where
-    go : (t : Bool) → leb k 4096 ≡ t → cond (leb k 4096) k 0 ≤ 4096
-    go true e = rw e (leb-true k 4096 e)
-    go false e = rw e (omega arith)

@@ -7,7 +7,7 @@ use Prim.Native.Nat.{ℕ, zero, suc, _+_, _≤_}
 use native.Mathlib.Omega.{arith}
 use lib.Dec.{eqb}
 use lib.ListN.{length}
-use borrow.Author.Tests.{ne-eqb, le-leb}
+use borrow.Author.Tests.{ne-eqb}
 use Rattle.rules.specs.Base.{every, joined}
 use Rattle.rules.specs.Places.{Both}
 use Rattle.rules.specs.Answer.{Answer, fine, refused, refusedAt, located, _>>=_, _>>_, unless, each}
@@ -18,7 +18,7 @@ use Rattle.rules.specs.Words.{Worded, uWords, fsWords, valuesOf, againColumn, n
 use Rattle.rules.specs.Asked.{Cards, letter, distinct, sameLetter, cvs, upTo, cvColumn, once, given, Utility, complete, fieldLimits, utilityLimits, parameterNumbers, fieldColumn, limits, Asked as RuleAsked}
 use Rattle.rules.specs.Plan.{joinedSize, keyLength}
 use Rattle.rules.specs.Keys.{throughUtility}
-use Rattle.rules.specs.Rows.{InputWithin, UtilityWithin, Twice}
+use Rattle.rules.specs.Rows.{UtilityWithin, Twice}
 use Rattle.rules.specs.ColumnRows.{UParts}
 use Rattle.rules.proofs.Tests.{all-every}
 use Rattle.rules.proofs.AnswerLaws.{fine-same, bind-fine, then-fine, unless-fine, each-fine, located-fine}
@@ -30,17 +30,17 @@ use Rattle.rules.proofs.WordedLaws.{u-worded}
 use Rattle.rules.proofs.NumberColumns.{parameter-count, u-count}
 use Rattle.rules.proofs.NumberLimits.{utility-exactly, numbers-least}
 use Rattle.rules.proofs.WordColumns.{columns-low, outside-none, outside-parts}
-use Rattle.terms.specs.declared.Input.{Input}
-use Rattle.terms.specs.declared.Input.the-variants.{Plain, Keyed}
 use Rattle.terms.specs.Meaning.{modeOf, formatOf, sizeOf, inputOf, laid, laidFields, utilityOf, Means}
 use Rattle.rows.specs.Kept.{rowOf}
+use Rattle.keys.specs.Keys.{joinedOf, keyOf}
+use Rattle.keys.proofs.KeyLaws.{joined-is, key-told}
 use Rattle.cards.specs.declared.Parameters.{Parameters}
 use Rattle.cards.specs.declared.Outside.{Outside}
 use Rattle.cards.specs.declared.Noted.{Noted}
 use Rattle.cards.specs.declared.Verdict.{Verdict}
 use Rattle.cards.specs.Selected.{Taken, noSelection, withCards}
 use Rattle.cards.specs.Parameters.{hasSeen, givenOf, Notes, NotesOutside}
-use Rattle.cards.specs.Verdict.{isComplete, utilityIn, uOutside, verdict, orNoted, orColumn, limitsOf, verdictOf, joinedOf, keyOf, askedFor, judgedAs}
+use Rattle.cards.specs.Verdict.{isComplete, utilityIn, uOutside, verdict, orNoted, orColumn, limitsOf, verdictOf, askedFor, judgedAs}
 use Rattle.cards.specs.Promise.{Accepts, Reads}
 use Rattle.cards.proofs.NotedLaws.{allFields, manyFields, limited}
 use Rattle.cards.proofs.RowLaws.{Holds}
@@ -110,16 +110,6 @@ outside-same : {A : Type 0} (f g : A → List Limit) → ((a : A) → f a ≡ g 
 outside-same f g h c [] = refl
 outside-same f g h c (w ∷ ws) =
     λ i. firstOf (outsideColumn (numberColumns false c (w .text)) (h (w .value) i)) (outside-same f g h (c + suc (length (w .text))) ws i)
-
--- ---- key and data joined, within their limits
-
-joined-is : (f : Format) (i : Input) → InputWithin f (inputOf i) → sizeOf (joinedOf i) ≡ joinedSize (inputOf i)
-joined-is f (Plain s) w = refl
-joined-is f (Keyed k d) w = rw (le-leb k 4096 (w .0 .1), le-leb d 4096 (w .1 .1))
-
-key-told : (f : Format) (i : Input) → InputWithin f (inputOf i) → keyOf i ≡ keyLength (inputOf i)
-key-told f (Plain s) w = refl
-key-told f (Keyed k d) w = rw (le-leb k 4096 (w .0 .1))
 
 module _ (os : Operands) (p : Parameters) (o : Outside) (ws : List (Worded Parameter)) (t : UText (os .u) (valuesOf ws)) (same : uWords (os .u) ≡ ws)
     (n : Notes (suc (os .before)) p ws) (nums : NotesOutside (suc (os .before)) o ws) (s : Taken) (is : s ≡ withCards 2 (map fsWords (os .fs)) (noSelection (keyOf (p .input))))

@@ -2,7 +2,7 @@
 use mathlib.Core.Path.{_≡_}
 use mathlib.Core.Bool.{cond}
 use mathlib.Core.List.{List, [], _∷_}
-use Prim.Native.Nat.{ℕ, suc, _+_, _*_, _≤_, _<_}
+use Prim.Native.Nat.{ℕ, suc, _+_, _*_}
 use lib.Dec.{ltb, eqb}
 use lib.ListN.{length}
 use Rattle.rules.specs.Halves.{Field as RuleField, over}
@@ -60,12 +60,6 @@ unfoldable pub cvNoted : Noted → ℕ → ℕ → Noted
 cvNoted n card column = cond (eqb (n .cv) 0) (firstNoted n card) (cond (eqb (n .«second_cv») 0) (secondNoted n card column) n)
 
 -- ---- the row
-
--- numbers that were read, and a key within its limits
-pub record Layable (r size key : ℕ) : Type 0 where
-  pub small : r < 100000
-  pub short : size < 100000
-  pub within : key ≤ 4096
 
 -- 16 bits hold the numbers of a field that are within their limits
 abbrev pub Keepable : Field → ℕ → Type 0

@@ -1,15 +1,12 @@
 -- Refusals 4 to 7 as they are told from what was noted of the U card and of the FS cards.
 use mathlib.Core.Bool.{Bool, cond, _&&_}
-use Prim.Native.Nat.{ℕ, _+_}
-use lib.Dec.{leb, eqb}
+use Prim.Native.Nat.{ℕ}
+use lib.Dec.{eqb}
 use Rattle.rules.specs.Grammar.{Format, ff, fv, fu, fsp}
 use Rattle.rules.specs.Asked.{Utility}
 use Rattle.terms.specs.declared.Asked.{Asked}
-use Rattle.terms.specs.declared.Size.{Size}
-use Rattle.terms.specs.declared.Size.the-variants.{Two}
-use Rattle.terms.specs.declared.Input.{Input}
-use Rattle.terms.specs.declared.Input.the-variants.{Plain, Keyed}
 use Rattle.terms.specs.Meaning.{modeOf, formatOf, sizeOf, inputOf}
+use Rattle.keys.specs.Keys.{joinedOf}
 use Rattle.cards.specs.declared.Parameters.{Parameters}
 use Rattle.cards.specs.declared.Outside.{Outside}
 use Rattle.cards.specs.declared.Noted.{Noted}
@@ -54,19 +51,6 @@ verdictOf p o n =
     orColumn 4 (p .twice)
     (orNoted 4 (n .«second_cv») (n .«second_column»)
     (cond (isComplete p) (limitsOf (formatOf (p .format)) o n) (verdict 5 1 0)))
-
--- the bytes of key and data together, and what A is then; 0 where one of them is outside its limits
-abbrev pub together : ℕ → ℕ → ℕ
-together k d = cond (leb k 4096) (cond (leb d 4096) (k + d) 0) 0
-
-abbrev pub joinedOf : Input → Size
-joinedOf (Plain s) = s
-joinedOf (Keyed k d) = Two (together k d) (together k d)
-
--- how long the key is; 0 where there is none, or one outside its limits
-abbrev pub keyOf : Input → ℕ
-keyOf (Plain s) = 0
-keyOf (Keyed k d) = cond (leb k 4096) k 0
 
 -- what the cards ask for, where they are not refused
 unfoldable pub askedFor : Parameters → Noted → ℕ → Asked

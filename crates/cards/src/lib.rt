@@ -22,17 +22,17 @@ ghost use Rattle.rules.specs.Reader.{listOf, restOf};
 ghost use Rattle.rules.specs.Grammar.{Item, parameter as ruleParameter, item};
 ghost use Rattle.rules.specs.Words.{worded};
 ghost use Rattle.rules.specs.Asked.{letter, itemsFrom, askedOf};
-ghost use Rattle.terms.specs.Meaning.{formatOf, fieldOf, partOf, cardField, laidAt, laid as laidField, fieldCards};
+ghost use Rattle.terms.specs.Meaning.{formatOf, fieldOf, partOf, fieldCards};
 ghost use Rattle.rows.specs.Kept.{rowOf};
 ghost use Rattle.readers.specs.declared.UParameter.the-variants.{ModeIs, FormatIs, InputIs, OutputIs};
 ghost use Rattle.readers.specs.Meaning.{parameterOf};
 ghost use Rattle.limits.specs.Limits.{Reaches};
 ghost use Rattle.lines.specs.declared.LineRead.the-variants.{Line};
 ghost use Rattle.lines.specs.Meaning.{IsCard, LineSays};
-ghost use Rattle.cards.specs.Selected.{nothingNoted, counted, keyNoted, fieldNoted, cvNoted, Layable, Keepable, keptRow, ListSays, noSelection};
+ghost use Rattle.cards.specs.Selected.{nothingNoted, counted, keyNoted, fieldNoted, cvNoted, Keepable, keptRow, ListSays, noSelection};
 ghost use Rattle.cards.specs.Parameters.{noParameter, withPart, withParameter, noneOutside, withNumbers, uRead, UListed};
 ghost use Rattle.cards.specs.Deck.{cardsIn, fsFirst, CardAtSays, FsSaid, FsFine};
-ghost use Rattle.cards.specs.Verdict.{isComplete, uOutside, limitsOf, verdictOf, together, joinedOf, keyOf, askedFor, judgedAs};
+ghost use Rattle.cards.specs.Verdict.{isComplete, uOutside, limitsOf, verdictOf, askedFor, judgedAs};
 ghost use Rattle.cards.specs.Promise.{refusedDeck, nothingAsked, InOrder, DeckReads, DeckSays, cardOfField};
 
 const COMMA: u8 = b',';
@@ -133,33 +133,6 @@ fn cv_noted(noted: Noted, card: usize, column: usize) -> Noted
     next
 }
 
-// Where a field that reads so many bytes from position r of its part on stands in the row, behind a key of so many bytes: it counts through key and data. One
-// that is taken from the key and runs past it stands past every record.
-fn laid_at(part: Part, r: usize, size: usize, key: usize) -> usize
-    requires { ⌜ Layable r size key ⌝ }
-    ensures { λ x. ⌜ x ≡ laidAt key (partOf part) r size ⌝ }
-{
-    match part {
-        Part::Data => key + r,
-        Part::Key => {
-            if r + size <= key + 1 {
-                return r;
-            }
-            8192
-        }
-    }
-}
-
-// The field as it stands there.
-fn laid(part: Part, field: Field, key: usize) -> Field
-    requires { ⌜ Layable (field .r) (field .input) key ⌝ }
-    ensures { λ x. ⌜ fieldOf x ≡ laidField key (cardField part field) ⌝ }
-{
-    let mut next = field;
-    next.r = laid_at(part, field.r, field.input, key);
-    next
-}
-
 // A field goes into the row behind those before it, while there is room. One with a number outside its limits does not: its deck is refused.
 fn keep(row: &mut [u16; 320], count: usize, field: Field, outside: usize)
     requires { ⌜ (length (now row) ≡ 320) × Keepable field outside ⌝ }
@@ -192,7 +165,7 @@ fn list(operand: &[u8], card: usize, column: usize, noted: Noted, row: &mut [u16
             used,
         } => {
             let outside = limits::field_outside(part, field, places, column);
-            let own = laid(part, field, noted.key);
+            let own = keys::laid(part, field, noted.key);
             keep(row, noted.count, own, outside);
             let after = field_noted(noted, card, part, outside);
             rest(&operand[used..], card, column + used, after, row)
@@ -669,46 +642,6 @@ pub struct DeckRead {
     pub asked: Asked,
 }
 
-// The bytes of key and data together; 0 where one of them is outside its limits, which is refused.
-fn together(key: usize, own: usize) -> usize
-    ensures { λ r. ⌜ r ≡ together key own ⌝ }
-{
-    if key <= 4096 {
-        if own <= 4096 {
-            return key + own;
-        }
-    }
-    0
-}
-
-// What A is where key and data are joined.
-fn joined(input: Input) -> Size
-    ensures { λ r. ⌜ r ≡ joinedOf input ⌝ }
-{
-    match input {
-        Input::Plain(size) => size,
-        Input::Keyed { key, data } => {
-            let n = together(key, data);
-            Size::Two { n, m: n }
-        }
-    }
-}
-
-// How long the key is; 0 where there is none, or one outside its limits, which is refused.
-fn key_length(input: Input) -> usize
-    ensures { λ r. ⌜ r ≡ keyOf input ⌝ }
-{
-    match input {
-        Input::Plain(_) => 0,
-        Input::Keyed { key, data: _ } => {
-            if key <= 4096 {
-                return key;
-            }
-            0
-        }
-    }
-}
-
 // What the cards ask for, where they are not refused.
 fn asked_for(parameters: Parameters, noted: Noted, fs: usize) -> Asked
     ensures { λ r. ⌜ r ≡ askedFor parameters noted fs ⌝ }
@@ -720,7 +653,7 @@ fn asked_for(parameters: Parameters, noted: Noted, fs: usize) -> Asked
     Asked {
         mode,
         format,
-        input: joined(input),
+        input: keys::joined(input),
         output,
         first: parameters.first,
         key: noted.key,
@@ -797,7 +730,7 @@ fn read_ordered(deck: &[u8], fs: usize, row: &mut [u16; 320]) -> DeckRead
     }
     let parameters = u.state;
     let input = parameters.input;
-    let selected = fs_cards(deck, next, key_length(input), row);
+    let selected = fs_cards(deck, next, keys::key_length(input), row);
     let unread = selected.unread;
     if unread != 0 {
         return refused(3, unread, selected.column);

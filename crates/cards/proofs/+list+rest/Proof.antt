@@ -14,6 +14,7 @@ use Rattle.readers.specs.Meaning.{ItemSays}
 use Rattle.readers.proofs.Callers.{field-takes, field-small, cv-takes}
 use Rattle.readers.proofs.item.Reads as item-reads
 use Rattle.limits.proofs.field_outside.Reads as field-outside-reads
+use Rattle.keys.proofs.laid.Reads as laid-reads
 use Rattle.terms.specs.Meaning.{partOf}
 use Rattle.rows.specs.Flat.{Short}
 use Rattle.cards.specs.declared.Noted.{Noted}
@@ -22,7 +23,6 @@ use Rattle.cards.proofs.ListedLaws.{outside-is, places-low, kept-short,
 use Rattle.cards.proofs.cv_noted.Reads as cv-noted-reads
 use Rattle.cards.proofs.field_noted.Reads as field-noted-reads
 use Rattle.cards.proofs.keep.Reads as keep-reads
-use Rattle.cards.proofs.laid.Reads as laid-reads
 use Rattle.cards.proofs.+list+rest.{statement}
 use Rattle.cards.proofs.list.Reads as list
 use Rattle.cards.proofs.list.Kinds as list-kinds
@@ -99,7 +99,7 @@ list-keep-requires t c κs =
     let g = n .next .given .0 in
     let e = is-field t n in (
       s .pre .1 .0,
-      λ z. subst Short (sym (c .before .laid .ensures))
+      λ z. subst Short (sym (c .before .laid .ensures .0))
           (kept-short o (g .0) (g .1 .0) (g .1 .1 .0) (g .1 .1 .1 .0) e (s .args .noted .key) (s .args .column) (s .pre .1 .3) (s .pre .1 .1)
           (sym (outside-is o (g .0) (g .1 .0) (g .1 .1 .0) (g .1 .1 .1 .0) e (s .args .column)) ∙ sym (c .before .before .field-outside .ensures) ∙ z)),
     )
@@ -173,7 +173,7 @@ list-returns t c =
     let g = n .next .given .0 in (
       c .rest .ensures .0,
       listed-field (s .args .card) (s .args .column) (s .args .noted, now (s .args .row)) o (g .0) (g .1 .0) (g .1 .1 .0) (g .1 .1 .1 .0) (is-field t n)
-          _ (c .before .before .before .before .before .before .before .field-outside .ensures) _ (c .before .before .before .before .before .before .laid .ensures)
+          _ (c .before .before .before .before .before .before .before .field-outside .ensures) _ (c .before .before .before .before .before .before .laid .ensures .0)
           _ (c .before .before .before .before .keep .ensures .1) _ (c .before .before .before .field-noted .ensures)
           _ (part-to-end o (g .1 .1 .1 .0)) (c .rest .result) _ (c .rest .ensures .1),
     )

@@ -16,13 +16,14 @@ use Rattle.rules.proofs.AllLaws.{all-tail}
 use Rattle.rules.proofs.LineLaws.{slice-part}
 use Rattle.rows.proofs.RowLaws.{length-row}
 use Rattle.lines.specs.Meaning.{IsCard}
+use Rattle.keys.specs.Keys.{keyOf}
+use Rattle.keys.proofs.KeyLaws.{key-most}
 use Rattle.cards.specs.declared.DeckRead.{DeckRead}
 use Rattle.cards.specs.Selected.{noSelection}
 use Rattle.cards.specs.Parameters.{UListed}
 use Rattle.cards.specs.Deck.{cardsIn, fsFirst, OperandAt, CardAtSays, FsSaid}
-use Rattle.cards.specs.Verdict.{keyOf}
 use Rattle.cards.specs.Promise.{DeckReads}
-use Rattle.cards.proofs.OrderedLaws.{all-cards, first-known, unread-u, unread-fs, all-read, key-most}
+use Rattle.cards.proofs.OrderedLaws.{all-cards, first-known, unread-u, unread-fs, all-read}
 use Rattle.cards.proofs.read_ordered.Statement.{statement}
 use Rattle.cards.proofs.read_ordered.Tie as tie
 

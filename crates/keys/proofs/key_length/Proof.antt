@@ -1,8 +1,8 @@
--- `cards::key_length` meets its contract: by whether there is a key, and whether it is within its limits.
+-- `keys::key_length` meets its contract: by whether there is a key, and whether it is within its limits.
 use borrow.Author.Tests.{le-leb, lt-leb}
 use borrow.Author.Needs.{needs}
-use Rattle.cards.proofs.key_length.Statement.{statement}
-use Rattle.cards.proofs.key_length.Tie as tie
+use Rattle.keys.proofs.key_length.Statement.{statement}
+use Rattle.keys.proofs.key_length.Tie as tie
 
 enum-told : tie.Need-enum-told
 enum-told c = search needs

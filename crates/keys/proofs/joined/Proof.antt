@@ -1,7 +1,7 @@
--- `cards::joined` meets its contract: a size stays, and of key and data each block is one record.
+-- `keys::joined` meets its contract: a size stays, and of key and data each block is one record.
 use borrow.Author.Needs.{needs}
-use Rattle.cards.proofs.joined.Statement.{statement}
-use Rattle.cards.proofs.joined.Tie as tie
+use Rattle.keys.proofs.joined.Statement.{statement}
+use Rattle.keys.proofs.joined.Tie as tie
 
 enum-known-input : tie.Need-enum-known-input
 enum-known-input c = search needs

@@ -1,8 +1,8 @@
--- `cards::together` meets its contract: by whether both are within their limits.
+-- `keys::together` meets its contract: by whether both are within their limits.
 use borrow.Author.Tests.{le-leb, lt-leb}
 use borrow.Author.Needs.{needs}
-use Rattle.cards.proofs.together.Statement.{statement}
-use Rattle.cards.proofs.together.Tie as tie
+use Rattle.keys.proofs.together.Statement.{statement}
+use Rattle.keys.proofs.together.Tie as tie
 
 add-result : tie.Need-add-result
 add-result c = search needs

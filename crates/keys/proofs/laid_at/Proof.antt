@@ -1,10 +1,10 @@
--- `cards::laid_at` meets its contract: by the part, and of one taken from the key by whether it ends inside the key.
+-- `keys::laid_at` meets its contract: by the part, and of one taken from the key by whether it ends inside the key.
 use Prim.Native.Nat.{_+_, _-_}
 use native.Mathlib.Omega.{arith}
 use borrow.Author.Tests.{le-leb, lt-leb}
 use borrow.Author.Needs.{needs}
-use Rattle.cards.proofs.laid_at.Statement.{statement}
-use Rattle.cards.proofs.laid_at.Tie as tie
+use Rattle.keys.proofs.laid_at.Statement.{statement}
+use Rattle.keys.proofs.laid_at.Tie as tie
 
 enum-told : tie.Need-enum-told
 enum-told c = search needs
