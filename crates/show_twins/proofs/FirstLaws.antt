@@ -31,9 +31,11 @@ required-first : (t : Mode) (f : Format) (a b : Size) (n : ℕ) → Required t f
 required-first t f a b n h =
     record {
       FU-with-TC = h .FU-with-TC;
+      FS-with = h .FS-with;
       TC-with-R1 = λ e. refl;
       FF-two = h .FF-two;
       FU-one = h .FU-one;
+      FS-one = h .FS-one;
       FV-two = h .FV-two;
       FV-one = h .FV-one;
       FF-multiple = h .FF-multiple;
