@@ -53,6 +53,7 @@ const LETTER_R: usize = b'R' as usize;
 const LETTER_T: usize = b'T' as usize;
 
 const LETTER_S: usize = b'S' as usize;
+
 const LETTER_U: usize = b'U' as usize;
 
 const LETTER_V: usize = b'V' as usize;
