@@ -38,6 +38,16 @@ use Rattle.rules.proofs.SpannedRuns.{span-input, gives-once, converts-s
 use Rattle.rules.proofs.SpannedOut.{low-A, low-B, most-A, most-B, not-selects, spans-only}
 use Rattle.rules.proofs.SpannedDeck.{gives-read, converts-any, any-converts, Done, done, never-late, span-never, copied-span, back-span}
 
+-- a run over a reel that gives records goes on with these
+spanned-gives : (c : Bool) (g m first room : ℕ) → g < 65536 → (s : List ℕ) (rs : List (List ℕ)) → GivesSpanned g s rs
+    → spannedRun c g m first room s ≡ housed room (spannedRan (spannedOut c m (blocksOf s) (drop (first - 1) rs)) (drop (first - 1) rs))
+unfolding spannedRun
+spanned-gives c g m first room high s rs h =
+    let k = gives-read g high s rs h in
+    fine-then (unless (isReel s) 11 0) _ (fine-unless (isReel s) 11 0 (k .0))
+    ∙ fine-bind (spannedFrom g 1 none (blocksOf s)) _ (k .1) (k .2)
+    ∙ ap (λ (rs : List (List ℕ)). housed room (spannedRan (spannedOut c m (blocksOf s) (drop (first - 1) rs)) (drop (first - 1) rs))) (k .3)
+
 module _ (zone : ℕ) (deck : List ℕ) (p : Plan) (e : planOf zone deck ≡ fine p) (t : isFS (p .format) ≡ true) where
   ok : Accepted p
   ok = accepted zone deck p e
@@ -75,12 +85,9 @@ module _ (zone : ℕ) (deck : List ℕ) (p : Plan) (e : planOf zone deck ≡ fin
     -- where the records of what is written are its own, it is written again: with TC, or with TR from R1 on into the same blocks
     module _ (rs : List (List ℕ)) (g : GivesSpanned B (x .reel) rs) (room′ : ℕ) (l : length (x .reel) ≤ room′) where
       written-by : (c : Bool) → x ≡ spannedRan (spannedOut c B (blocksOf (x .reel)) rs) rs → spannedRun c B B 1 room′ (x .reel) ≡ fine x
-      unfolding spannedRun housed _>>_ unless
+      unfolding housed _>>_ unless
       written-by c is =
-          let k = gives-read B high′ (x .reel) rs g in
-          fine-then (unless (isReel (x .reel)) 11 0) _ (fine-unless (isReel (x .reel)) 11 0 (k .0))
-          ∙ fine-bind (spannedFrom B 1 none (blocksOf (x .reel))) _ (k .1) (k .2)
-          ∙ ap (λ (rs : List (List ℕ)). housed room′ (spannedRan (spannedOut c B (blocksOf (x .reel)) rs) rs)) (k .3)
+          spanned-gives c B B 1 room′ high′ (x .reel) rs g
           ∙ ap (housed room′) (sym is)
           ∙ rw (le-leb (length (x .reel)) room′ l, le-leb (length (x .reel)) 65536 (w .most)) refl
 
@@ -165,6 +172,7 @@ module _ (zone : ℕ) (deck : List ℕ) (p : Plan) (e : planOf zone deck ≡ fin
           λ h. let k = converts-span A low high r .1 (h .0) (h .1) in converts-any zone deck p e t r b (k .0) (k .1),
         );
         filled = λ r c. let h = any-converts zone deck p e t r c in converts-span B low′ high′ r .0 (h .1, h .2);
+        runs = λ room s rs g. the-span zone room deck s p e t ∙ spanned-gives (isTC (p .mode)) A B (p .first) room high s rs g;
         keeping = kept-plan p (rw (zone-of zone deck p e) z) ok carries-all;
         no-13 = λ s. never-late zone deck p e t s 13 (omega arith) (omega arith);
         no-14 = λ s. never-late zone deck p e t s 14 (omega arith) (omega arith);

@@ -9,10 +9,11 @@ use Rattle.rules.specs.Places.{All, Byte}
 use Rattle.rules.specs.Answer.{fine, refusedAt}
 use Rattle.rules.specs.Grammar.{tc, tr, fsp}
 use Rattle.rules.specs.Asked.{Asked, askedOf}
-use Rattle.rules.specs.Plan.{Plan, planOf, blockLength}
+use Rattle.rules.specs.Plan.{Plan, planOf, isTC, blockLength}
 use Rattle.rules.specs.Output.{converts}
 use Rattle.rules.specs.Spanned.{spanOf, segmented, Spans}
-use Rattle.rules.specs.Run.{Ran, runOf}
+use Rattle.rules.specs.Run.{Ran, housed, spannedOut, spannedRan, runOf}
+use Rattle.rules.specs.Reel.{blocksOf}
 use Rattle.rules.specs.RunRows.{GivesSpanned}
 use Rattle.rules.specs.Demand.{Keeping}
 use Rattle.rules.specs.ShortBlocks.{NeverRefused, Under, RunsAgain}
@@ -40,6 +41,10 @@ pub record SpannedDeck (zone : ℕ) (deck : List ℕ) (p : Plan) : Type 0 where
   pub held : (r : List ℕ) → All Byte r → (converts p r ≡ true) ↔ ((bs : List (List ℕ)) × Spans (blockLength (p .input)) bs (r ∷ []))
   -- and then the blocks of B that are filled with it hold it and nothing else
   pub filled : (r : List ℕ) → converts p r ≡ true → Spans (blockLength (p .output)) (map spanOf (segmented (blockLength (p .output)) (r ∷ []))) (r ∷ [])
+  -- over a reel of blocks that hold records, a run takes those from R on, and nothing but 15 is refused
+  pub runs : (room : ℕ) (s : List ℕ) (rs : List (List ℕ)) → GivesSpanned (blockLength (p .input)) s rs
+      → runOf zone room deck s
+      ≡ housed room (spannedRan (spannedOut (isTC (p .mode)) (blockLength (p .output)) (blocksOf s) (drop (p .first - 1) rs)) (drop (p .first - 1) rs))
   pub keeping : Keeping p
   pub no-13 : (s : List ℕ) → NeverRefused zone deck s 13
   pub no-14 : (s : List ℕ) → NeverRefused zone deck s 14
