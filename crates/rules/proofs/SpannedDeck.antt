@@ -81,16 +81,16 @@ module _ (zone : ℕ) (deck : List ℕ) (p : Plan) (e : planOf zone deck ≡ fin
   abbrev B : ℕ
   B = blockLength (p .output)
 
-  low : 9 ≤ A
+  pub low : 9 ≤ A
   low = low-A p ok t
 
-  low′ : 9 ≤ B
+  pub low′ : 9 ≤ B
   low′ = low-B p ok t
 
-  high : A < 65536
+  pub high : A < 65536
   high = omega (arith, most-A p ok t)
 
-  high′ : B < 65536
+  pub high′ : B < 65536
   high′ = omega (arith, most-B p ok t)
 
   -- ---- which records it converts
@@ -132,6 +132,10 @@ module _ (zone : ℕ) (deck : List ℕ) (p : Plan) (e : planOf zone deck ≡ fin
       (refuses-spanned _ room p s (isTC (p .mode)) A B (p .first) (refuses-fine _ _ tt (fine-unless (isReel s) 11 0 (w .0))) (refuses-fine _ _ (w .1) (w .2)) (λ q z. omega arith))
 
   module _ (room : ℕ) (s : List ℕ) (a : All Byte s) (x : Ran) where
+    -- the records of the reel that was read
+    pub input-span : (w : Done room s x) → GivesSpanned (blockLength (p .input)) s (joined (w .recs))
+    input-span w = span-input A B low high low′ high′ (p .first) room s a x (isTC (p .mode)) w
+
     -- TC: the same
     pub copied-span : p .mode ≡ tc → Done room s x → x .reel ≡ s
     copied-span q w = span-copy A B low high low′ high′ (p .first) room s a x (subst (λ (c : Bool). FinishedSpan c A B (p .first) room s x) (ap isTC q) w)
@@ -147,8 +151,7 @@ module _ (zone : ℕ) (deck : List ℕ) (p : Plan) (e : planOf zone deck ≡ fin
 
     -- the records taken
     pub taken-span : (w : Done room s x) → Takes p s (drop (p .first - 1) (joined (w .recs)))
-    taken-span w =
-        record { records = joined (w .recs); gives = of-spans t (span-input A B low high low′ high′ (p .first) room s a x (isTC (p .mode)) w); from-R = refl }
+    taken-span w = record { records = joined (w .recs); gives = of-spans t (input-span w); from-R = refl }
 
   -- where two runs write the same reel, the same records were taken
   pub told-span : (room room′ : ℕ) (s s′ : List ℕ) → All Byte s → All Byte s′ → (x x′ : Ran) (w : Done room s x) (w′ : Done room′ s′ x′) → x .reel ≡ x′ .reel
@@ -157,7 +160,7 @@ module _ (zone : ℕ) (deck : List ℕ) (p : Plan) (e : planOf zone deck ≡ fin
 
   pub convert-span : (room : ℕ) (s : List ℕ) → All Byte s → (x : Ran) (w : Done room s x) → All (λ r. converts p r ≡ true) (drop (p .first - 1) (joined (w .recs)))
   convert-span room s a x w =
-      let g = span-input A B low high low′ high′ (p .first) room s a x (isTC (p .mode)) w in
+      let g = input-span room s a x w in
       let b = subst (All (All Byte)) (reel-blocks s (g .0) (g .1)) (all-blocks s a) in
       all-drop (p .first - 1)
       (all-imply (λ r v. converts-any r (v .1) (v .0 .0) (v .0 .1))

@@ -34,9 +34,9 @@ use Rattle.rules.proofs.RunParts.{the-span}
 use Rattle.rules.proofs.PlanTable.{asks-once}
 use Rattle.rules.proofs.RunTable.{run-table}
 use Rattle.rules.proofs.Demand3.{kept-plan}
-use Rattle.rules.proofs.SpannedRuns.{span-input, gives-once, converts-span, out-most}
-use Rattle.rules.proofs.SpannedOut.{low-A, low-B, most-A, most-B, not-selects, spans-only}
-use Rattle.rules.proofs.SpannedDeck.{gives-read, converts-any, any-converts, Done, done, never-late, span-never, copied-span, back-span}
+use Rattle.rules.proofs.SpannedRuns.{gives-once, converts-span, out-most}
+use Rattle.rules.proofs.SpannedOut.{most-A, not-selects, spans-only}
+use Rattle.rules.proofs.SpannedDeck.{gives-read, low, low′, high, high′, converts-any, any-converts, Done, done, never-late, span-never, input-span, copied-span, back-span}
 
 -- a run over a reel that gives records goes on with these
 spanned-gives : (c : Bool) (g m first room : ℕ) → g < 65536 → (s : List ℕ) (rs : List (List ℕ)) → GivesSpanned g s rs
@@ -58,26 +58,11 @@ module _ (zone : ℕ) (deck : List ℕ) (p : Plan) (e : planOf zone deck ≡ fin
   abbrev B : ℕ
   B = blockLength (p .output)
 
-  low : 9 ≤ A
-  low = low-A p ok t
-
-  low′ : 9 ≤ B
-  low′ = low-B p ok t
-
-  high : A < 65536
-  high = omega (arith, most-A p ok t)
-
-  high′ : B < 65536
-  high′ = omega (arith, most-B p ok t)
-
   -- ---- a finished run
 
   module _ (room : ℕ) (s : List ℕ) (a : All Byte s) (x : Ran) (w : Done zone deck p e t room s x) where
     abbrev taken : List (List ℕ)
     taken = drop (p .first - 1) (joined (w .recs))
-
-    input : GivesSpanned A s (joined (w .recs))
-    input = span-input A B low high low′ high′ (p .first) room s a x (isTC (p .mode)) w
 
     back-TR : p .mode ≡ tr → GivesSpanned B (x .reel) taken
     back-TR q = back-span zone deck p e t room s a x (ap isTC q) w
@@ -87,7 +72,7 @@ module _ (zone : ℕ) (deck : List ℕ) (p : Plan) (e : planOf zone deck ≡ fin
       written-by : (c : Bool) → x ≡ spannedRan (spannedOut c B (blocksOf (x .reel)) rs) rs → spannedRun c B B 1 room′ (x .reel) ≡ fine x
       unfolding housed _>>_ unless
       written-by c is =
-          spanned-gives c B B 1 room′ high′ (x .reel) rs g
+          spanned-gives c B B 1 room′ (high′ zone deck p e t) (x .reel) rs g
           ∙ ap (housed room′) (sym is)
           ∙ rw (le-leb (length (x .reel)) room′ l, le-leb (length (x .reel)) 65536 (w .most)) refl
 
@@ -105,6 +90,7 @@ module _ (zone : ℕ) (deck : List ℕ) (p : Plan) (e : planOf zone deck ≡ fin
             let m = is-TC (p .mode) q in
             let r = copied-span zone deck p e t room s a x m w in
             let one : p .first ≡ 1 = ok .required .TC-with-R1 m in
+            let input = input-span zone deck p e t room s a x w in
             record {
               rs = taken;
               given =
@@ -125,11 +111,11 @@ module _ (zone : ℕ) (deck : List ℕ) (p : Plan) (e : planOf zone deck ≡ fin
     says =
         record {
           records = joined (w .recs);
-          gives = input;
+          gives = input-span zone deck p e t room s a x w;
           counted = ap (λ (z : Ran). z .records) (w .writes);
           TC = λ m. copied-span zone deck p e t room s a x m w;
           TR = back-TR;
-          only = λ m rs g. gives-once B high′ (x .reel) rs taken g (back-TR m);
+          only = λ m rs g. gives-once B (high′ zone deck p e t) (x .reel) rs taken g (back-TR m);
           back = back;
           refilled = λ m deck′ q e′ u m′ one in-B room′ l.
               let is : x ≡ spannedRan (map spanOf (segmented B taken)) taken = w .writes ∙ ap (λ (m : Mode). spannedRan (spannedOut (isTC m) B (blocksOf s) taken) taken) m in
@@ -168,11 +154,11 @@ module _ (zone : ℕ) (deck : List ℕ) (p : Plan) (e : planOf zone deck ≡ fin
       record {
         converting = λ r. (any-converts zone deck p e t r, λ h. converts-any zone deck p e t r (h .0) (h .1) (h .2));
         held = λ r b. (
-          λ c. let h = any-converts zone deck p e t r c in (map spanOf (segmented A (r ∷ [])), converts-span A low high r .0 (h .1, h .2)),
-          λ h. let k = converts-span A low high r .1 (h .0) (h .1) in converts-any zone deck p e t r b (k .0) (k .1),
+          λ c. let h = any-converts zone deck p e t r c in (map spanOf (segmented A (r ∷ [])), converts-span A (low zone deck p e t) (high zone deck p e t) r .0 (h .1, h .2)),
+          λ h. let k = converts-span A (low zone deck p e t) (high zone deck p e t) r .1 (h .0) (h .1) in converts-any zone deck p e t r b (k .0) (k .1),
         );
-        filled = λ r c. let h = any-converts zone deck p e t r c in converts-span B low′ high′ r .0 (h .1, h .2);
-        runs = λ room s rs g. the-span zone room deck s p e t ∙ spanned-gives (isTC (p .mode)) A B (p .first) room high s rs g;
+        filled = λ r c. let h = any-converts zone deck p e t r c in converts-span B (low′ zone deck p e t) (high′ zone deck p e t) r .0 (h .1, h .2);
+        runs = λ room s rs g. the-span zone room deck s p e t ∙ spanned-gives (isTC (p .mode)) A B (p .first) room (high zone deck p e t) s rs g;
         keeping = kept-plan p (rw (zone-of zone deck p e) z) ok carries-all;
         no-13 = λ s. never-late zone deck p e t s 13 (omega arith) (omega arith);
         no-14 = λ s. never-late zone deck p e t s 14 (omega arith) (omega arith);
@@ -191,7 +177,7 @@ module _ (zone : ℕ) (deck : List ℕ) (p : Plan) (e : planOf zone deck ≡ fin
               long : (blocks : List (List ℕ)) (n : ℕ) → RunWrites p s blocks n → length (reelOf blocks) ≤ 851560
               long blocks n (in-blocks o g b) = absurd (true≢false (sym t ∙ o))
               long blocks n (in-segments {bs = bs} {rs = rs} o r w b) =
-                  omega (arith, ap (λ (z : List (List ℕ)). length (reelOf z)) (spans-only p ok t bs rs w blocks b), out-most (isTC (p .mode)) A B (p .first) low (most-A p ok t) low′ high′ s bs rs r w)
+                  omega (arith, ap (λ (z : List (List ℕ)). length (reelOf z)) (spans-only p ok t bs rs w blocks b), out-most (isTC (p .mode)) A B (p .first) (low zone deck p e t) (most-A p ok t) (low′ zone deck p e t) (high′ zone deck p e t) s bs rs r w)
 
 -- ---- no 10
 
