@@ -1,7 +1,7 @@
 -- The promises, as a caller uses them, and that each allows one outcome only. By what each says of every input: each spot is the one behind so many bytes.
 use mathlib.Core.Path.{_≡_, ap, sym, _∙_}
 use mathlib.Core.List.{List, _++_, map}
-use Prim.Native.Nat.{ℕ, _≤_}
+use Prim.Native.Nat.{ℕ, _≤_, min}
 use lib.ListN.{length}
 use Rattle.rules.specs.Base.{joined}
 use Rattle.rules.specs.Places.{All}
@@ -46,3 +46,6 @@ pub copy-only-one : (s : List ℕ) (v : Spot) (n : ℕ) (old : List ℕ) → Cop
     → Copied s v n old new x → Copied s v n old new′ y → (new ≡ new′) × (x ≡ y)
 copy-only-one s v n old t a b =
     (a .written (t .g) (t .«data») (t .streams) (t .enough) ∙ sym (b .written (t .g) (t .«data») (t .streams) (t .enough)), a .is ∙ sym (b .is))
+
+pub smaller-only-one : (a b : ℕ) {x y : ℕ} → x ≡ min a b → y ≡ min a b → x ≡ y
+smaller-only-one a b p q = p ∙ sym q

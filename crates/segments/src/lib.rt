@@ -1,5 +1,5 @@
 // The segments of a good reel one after the other, through all its blocks: the length of each record, and the data copied straight from where it lies.
-// Document 02, order 6. The header and the rule of each block were asked when the reel was read: nothing is asked again here.
+// Document 02, order 6. The header and the rule of each block were asked when the reel was read, so that each segment is there and no answer says that one is not.
 ghost use mathlib.Core.Path.{_≡_};
 ghost use Prim.Native.Nat.{_+_, _≤_, min};
 ghost use lib.ListN.{length, take, drop};
@@ -145,7 +145,7 @@ fn on_data(s: &[u8], v: Spot) -> Spot
 }
 
 // The smaller of two numbers.
-fn smaller(a: usize, b: usize) -> usize
+pub fn smaller(a: usize, b: usize) -> usize
     ensures { λ r. ⌜ r ≡ min a b ⌝ }
 {
     if a < b {

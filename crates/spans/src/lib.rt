@@ -1,7 +1,7 @@
 // A run in FS. In TR the records from R on fill blocks of B: each is cut where a block is full, and goes from its segments in the input straight into those of the
 // output. TC leaves the blocks. Document 02, order 6.
 ghost use mathlib.Core.Path.{_≡_};
-ghost use Prim.Native.Nat.{_≤_, _<_, min};
+ghost use Prim.Native.Nat.{_≤_, _<_};
 ghost use lib.ListN.{length};
 ghost use Rattle.rules.specs.Spanned.{codeOf};
 ghost use Rattle.rules.specs.Run.{spannedRun};
@@ -18,15 +18,6 @@ use segments::Spot;
 struct Part {
     size: usize,
     tally: Tally,
-}
-
-fn smaller(a: usize, b: usize) -> usize
-    ensures { λ r. ⌜ r ≡ min a b ⌝ }
-{
-    if a < b {
-        return a;
-    }
-    b
 }
 
 // Before the first segment: no block is there, and it is as if a full one were, so that the first segment opens one.
@@ -61,7 +52,7 @@ fn cut(m: usize, tally: Tally, rest: usize) -> Part
     ensures { λ r. ⌜ r ≡ cutOf m tally rest ⌝ }
 {
     let block = opened(m, tally);
-    let size = smaller(rest, m - block.size - 4);
+    let size = segments::smaller(rest, m - block.size - 4);
     Part {
         size,
         tally: Tally {
@@ -236,7 +227,7 @@ pub fn run_spanned(copies: bool, g: usize, m: usize, first: usize, s: &[u8], out
         ReelRead::NotReel => checks::refused(11, 0),
         ReelRead::BadBlock { block } => checks::refused(12, block),
         ReelRead::Read { blocks, records } => {
-            let passed = smaller(first - 1, records);
+            let passed = segments::smaller(first - 1, records);
             if copies {
                 return copied(s, records - passed, blocks, out);
             }
