@@ -446,8 +446,14 @@ only-one x fs r q e f = answer-once r q (e ∙ sym f)
 pub selects-only-one : (m : DeclaredMode) (r s : Bool) → r ≡ selects (modeOf m) → s ≡ selects (modeOf m) → r ≡ s
 selects-only-one m r s e q = e ∙ sym q
 
+pub tc-only-one : (m : DeclaredMode) (r s : Bool) → r ≡ isTC (modeOf m) → s ≡ isTC (modeOf m) → r ≡ s
+tc-only-one m r s e q = e ∙ sym q
+
 pub fv-only-one : (f : DeclaredFormat) (r s : Bool) → r ≡ isFV (formatOf f) → s ≡ isFV (formatOf f) → r ≡ s
 fv-only-one f r s e q = e ∙ sym q
+
+pub fs-only-one : (f : DeclaredFormat) (r s : Bool) → r ≡ isFS (formatOf f) → s ≡ isFS (formatOf f) → r ≡ s
+fs-only-one f r s e q = e ∙ sym q
 
 pub record-length-only-one : (z : DeclaredSize) (r s : ℕ) → r ≡ recordLength (sizeOf z) → s ≡ recordLength (sizeOf z) → r ≡ s
 record-length-only-one z r s e q = e ∙ sym q
