@@ -15,8 +15,8 @@ use Rattle.rows.specs.Fair.{PlanFair}
 use Rattle.plans.specs.Promise.{Plans}
 use Rattle.plans.specs.declared.Planned.{Planned}
 use Rattle.plans.proofs.FilledLaws.{refused-plan, accepted-plan, plan-is, plan-fair, row-holds}
-use Rattle.checks.specs.declared.Ran.{Ran as Checked}
-use Rattle.checks.specs.Promise.{ranStruct}
+use Rattle.outcomes.specs.declared.Ran.{Ran as Checked}
+use Rattle.outcomes.specs.Promise.{ranStruct}
 use Rattle.bhexodana.specs.Promise.{ranOf}
 use Rattle.bhexodana.specs.declared.Ran.{Ran}
 

@@ -1,13 +1,11 @@
 -- The answer of a run, step by step: each refusal is that of the first step that refuses. By the definition of a run.
 use mathlib.Core.Path.{_≡_, refl, ap, sym, _∙_, subst}
-use mathlib.Core.Bool.{Bool, true, false}
-use mathlib.Core.List.{List, [], _∷_, _++_}
+use mathlib.Core.Bool.{true, false}
+use mathlib.Core.List.{List, [], _∷_}
 use mathlib.Core.Logic.{inl}
 use Prim.Native.Nat.{ℕ, zero, suc, _-_, _≤_, _<_}
 use native.Mathlib.Omega.{arith}
-use lib.Dec.{ltb}
-use lib.ListN.{length, getD, drop}
-use borrow.Author.Tests.{ltb-true, ltb-false, lt-ltb, le-ltb, le-leb, lt-leb}
+use lib.ListN.{length, getD}
 use Rattle.rules.specs.Base.{joined}
 use Rattle.rules.specs.Answer.{Answer, fine, refuse, refused, _>>=_, _>>_, unless, each}
 use Rattle.rules.specs.Places.{All, noMore, also, Byte}
@@ -17,10 +15,8 @@ use Rattle.rules.specs.Plan.{Plan, selects, isTC, recordLength}
 use Rattle.rules.specs.Blocks.{takenFrom}
 use Rattle.rules.specs.Output.{permits}
 use Rattle.rules.specs.Run.{Ran as RuleRan, outBlocks, ranOf, housed, convert, outputBlocks}
-use Rattle.rules.specs.Halves.{over}
-use Rattle.rules.specs.Lent.{runAnswer, outputAfter}
+use Rattle.rules.specs.Lent.{runAnswer}
 use Rattle.rules.proofs.AnswerLaws.{fine-each}
-use Rattle.rules.proofs.LentParts.{front-over}
 use Rattle.rules.proofs.AllLaws.{all-imply}
 use Rattle.rules.proofs.ReelLaws.{all-joined, all-blocks}
 use Rattle.rules.proofs.BlocksOutcome.{holds-of, reads-give}
@@ -44,10 +40,12 @@ use Rattle.reels.specs.declared.Form.{Form}
 use Rattle.reels.proofs.ReelTold.{Tells, tells}
 use Rattle.terms.specs.Meaning.{modeOf}
 use Rattle.terms.specs.declared.Task.{Task}
-use Rattle.checks.specs.declared.Ran.{Ran}
+use Rattle.outcomes.specs.declared.Ran.{Ran}
+use Rattle.outcomes.specs.Promise.{ranStruct, refusedRun, housedRun}
+use Rattle.outcomes.proofs.OutcomeLaws.{room-is}
 use Rattle.tasks.specs.Promise.{formOf}
 use Rattle.tasks.proofs.LengthLaws.{form-given}
-use Rattle.checks.specs.Promise.{ranStruct, refusedRun, finishedRun, housedRun, Given, GivenPlan, ReadBy, Unpermitted, MeasuredRun, CheckedRun, Checked}
+use Rattle.checks.specs.Promise.{Given, GivenPlan, ReadBy, Unpermitted, MeasuredRun, CheckedRun, Checked}
 
 -- ---- the steps of a run
 
@@ -74,19 +72,6 @@ module _ (room : ℕ) (p : Plan) (s : List ℕ) where
       sizes-left : convert room p s ≡ asked (fine tt) (fitAnswer p recs)
       sizes-left = reads ∙ ap (λ (h : Answer Unit). asked h (fitAnswer p recs)) permitted
 
--- 15
-abbrev pub roomAnswer : ℕ → RuleRan → Ran
-roomAnswer room x = housedRun room (length (x .reel)) (x .records) (x .blocks)
-
-pub room-is : (room : ℕ) (x : RuleRan) → ranStruct (runAnswer (housed room x)) ≡ roomAnswer room x
-unfolding housed housedRun unless _>>_
-room-is room x = go (ltb room (length (x .reel))) refl (ltb 65536 (length (x .reel))) refl
-  where
-    go : (t : Bool) → ltb room (length (x .reel)) ≡ t → (u : Bool) → ltb 65536 (length (x .reel)) ≡ u → ranStruct (runAnswer (housed room x)) ≡ roomAnswer room x
-    go true t u w = rw (lt-leb (length (x .reel)) room (ltb-true room (length (x .reel)) t), t) refl
-    go false t true w = rw (le-leb (length (x .reel)) room (ltb-false room (length (x .reel)) t), lt-leb (length (x .reel)) 65536 (ltb-true 65536 (length (x .reel)) w), t, w) refl
-    go false t false w = rw (le-leb (length (x .reel)) room (ltb-false room (length (x .reel)) t), le-leb (length (x .reel)) 65536 (ltb-false 65536 (length (x .reel)) w), t, w) refl
-
 -- what is answered of a measure: 14, or 15 and the numbers
 abbrev pub measuredRun : ℕ → Answer (ℕ × ℕ × ℕ) → Ran
 measuredRun room (fine x) = housedRun room (x .2) (x .1) (x .0)
@@ -101,20 +86,6 @@ measured-run room p s recs g permitted = go (fitAnswer p recs) refl ∙ ap (λ (
     go : (h : Answer Unit) → fitAnswer p recs ≡ h → measuredRun room (measuredOf p recs) ≡ ranStruct (runAnswer (asked room p s recs g (fine tt) (fitAnswer p recs)))
     go (fine a) e = rw e (sym (room-is room (ranOf p (outputBlocks p recs))))
     go (refuse r) e = rw e
-
--- as the code asks it
-module _ (room size records blocks : ℕ) (r : Ran) where
-  pub room-over : room < size → r ≡ refusedRun 15 size → r ≡ housedRun room size records blocks
-  unfolding housedRun
-  room-over l e = rw (lt-ltb room size l) e
-
-  pub most-over : size ≤ room → 65536 < size → r ≡ refusedRun 15 size → r ≡ housedRun room size records blocks
-  unfolding housedRun
-  most-over k l e = rw (le-ltb room size k, lt-ltb 65536 size l) e
-
-pub room-enough : (room size records blocks : ℕ) → size ≤ room → size ≤ 65536 → finishedRun size records blocks ≡ housedRun room size records blocks
-unfolding housedRun
-room-enough room size records blocks k l = rw (le-ltb room size k, le-ltb 65536 size l) refl
 
 -- ---- 13
 
@@ -220,24 +191,7 @@ module _ {task : Task} {fields s : List ℕ} {form : Form} {read : ReelRead} (f 
         h .is p (y .1 .0) x (record { accepted = x .accepted; reel = y .0; records = y .1 .1 }) (y .1 .2) (y .1 .3);
   }
 
--- ---- the lent output
-
--- a refusal leaves it as it was
-pub refuses : (a : Answer RuleRan) (r : Ran) → r ≡ ranStruct (runAnswer a) → 0 < r .refusal → (old : List ℕ) → old ≡ outputAfter old a
-refuses (fine x) r e l old = absurd (let z = ap (λ (q : Ran). q .refusal) e in omega arith)
-refuses (refuse f) r e l old = refl
-
--- a finished run puts its reel at the front
-pub over-front : (v old new : List ℕ) (x : RuleRan) → x .reel ≡ v → new ≡ over 0 v old → new ≡ outputAfter old (fine x)
-over-front v old new x e h = h ∙ sym (front-over (length v) old v refl) ∙ ap (λ (z : List ℕ). z ++ drop (length z) old) (sym e)
-
 -- ---- one answer
 
 pub only-one : (task : Task) (fields s : List ℕ) (room : ℕ) → GivenPlan task fields → (x y : Ran) → Checked task fields s room x → Checked task fields s room y → x ≡ y
 only-one task fields s room g x y h k = h .is (g .p) (g .given) ∙ sym (k .is (g .p) (g .given))
-
-pub refused-only-one : (number place : ℕ) (x y : Ran) → x ≡ refusedRun number place → y ≡ refusedRun number place → x ≡ y
-refused-only-one number place x y h k = h ∙ sym k
-
-pub housed-only-one : (room size records blocks : ℕ) (x y : Ran) → x ≡ housedRun room size records blocks → y ≡ housedRun room size records blocks → x ≡ y
-housed-only-one room size records blocks x y h k = h ∙ sym k

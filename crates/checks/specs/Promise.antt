@@ -1,9 +1,8 @@
 -- What is promised of a run before anything is written, for every plan that the numbers may be.
 use mathlib.Core.Path.{_≡_}
-use mathlib.Core.Bool.{false, cond}
+use mathlib.Core.Bool.{false}
 use mathlib.Core.List.{List}
 use Prim.Native.Nat.{ℕ}
-use lib.Dec.{ltb}
 use lib.ListN.{length}
 use Rattle.rules.specs.Base.{joined}
 use Rattle.rules.specs.Answer.{each}
@@ -12,31 +11,15 @@ use Rattle.rules.specs.Blocks.{takenFrom}
 use Rattle.rules.specs.Output.{permits}
 use Rattle.rules.specs.Run.{convert}
 use Rattle.rules.specs.Accepted.{Accepted}
-use Rattle.rules.specs.Lent.{zoneF, RunAnswer, runAnswer}
+use Rattle.rules.specs.Lent.{zoneF, runAnswer}
 use Rattle.terms.specs.declared.Task.{Task}
 use Rattle.terms.specs.Meaning.{TaskIs}
 use Rattle.rows.specs.Flat.{flatOf}
 use Rattle.walks.specs.Promise.{Good}
 use Rattle.measures.specs.declared.Measured.{Measured}
 use Rattle.measures.specs.Promise.{answerAt, answerOf, measuredOf}
-use Rattle.checks.specs.declared.Ran.{Ran}
-
--- ---- answers
-
--- the struct that says what the rules say
-abbrev pub ranStruct : RunAnswer → Ran
-ranStruct x = record { refusal = x .refusal; place = x .place; length = x .reelLength; records = x .records; blocks = x .blocks }
-
-abbrev pub refusedRun : ℕ → ℕ → Ran
-refusedRun number place = record { refusal = number; place = place; length = 0; records = 0; blocks = 0 }
-
-abbrev pub finishedRun : ℕ → ℕ → ℕ → Ran
-finishedRun size records blocks = record { refusal = 0; place = 0; length = size; records = records; blocks = blocks }
-
--- refusal 15
-unfoldable pub housedRun : ℕ → ℕ → ℕ → ℕ → Ran
-housedRun room size records blocks =
-    cond (ltb room size) (refusedRun 15 size) (cond (ltb 65536 size) (refusedRun 15 size) (finishedRun size records blocks))
+use Rattle.outcomes.specs.declared.Ran.{Ran}
+use Rattle.outcomes.specs.Promise.{ranStruct}
 
 -- ---- plans
 

@@ -1,55 +1,12 @@
 // Refusals 11 to 15 of a run, in their order and each over the whole reel, before anything is written: document 01, "Refusal numbers".
 ghost use mathlib.Core.Path.{_≡_};
 ghost use Rattle.measures.specs.Promise.{Selected, FirstUnpermitted};
-ghost use Rattle.checks.specs.Promise.{refusedRun, housedRun, GivenPlan, ReadBy, Unpermitted, MeasuredRun, CheckedRun, Checked};
+ghost use Rattle.checks.specs.Promise.{GivenPlan, ReadBy, Unpermitted, MeasuredRun, CheckedRun, Checked};
 use measures::Measured;
+use outcomes::Ran;
 use reels::ReelRead;
 use terms::Mode;
 use terms::Task;
-
-// At most so many bytes has an output reel.
-const MOST: usize = 65536;
-
-// What a run answers: refusal and place, or 0 and 0; the length of the output reel, and how many records and blocks are written.
-pub struct Ran {
-    pub refusal: usize,
-    pub place: usize,
-    pub length: usize,
-    pub records: usize,
-    pub blocks: usize,
-}
-
-// A run that is refused.
-pub fn refused(number: usize, place: usize) -> Ran
-    ensures { λ r. ⌜ r ≡ refusedRun number place ⌝ }
-{
-    Ran {
-        refusal: number,
-        place,
-        length: 0,
-        records: 0,
-        blocks: 0,
-    }
-}
-
-// Refusal 15: the output reel is longer than the lent room, or than 65,536.
-pub fn housed(room: usize, length: usize, records: usize, blocks: usize) -> Ran
-    ensures { λ r. ⌜ r ≡ housedRun room length records blocks ⌝ }
-{
-    if length > room {
-        return refused(15, length);
-    }
-    if length > MOST {
-        return refused(15, length);
-    }
-    Ran {
-        refusal: 0,
-        place: 0,
-        length,
-        records,
-        blocks,
-    }
-}
 
 // Refusal 13 of a plan that selects fields: where all of them are copies, no record need be looked at.
 fn unpermitted_selected(task: Task, fields: &[u16], s: &[u8]) -> usize
@@ -101,16 +58,16 @@ fn checked(task: Task, fields: &[u16], s: &[u8], blocks: usize, records: usize, 
 {
     let number = unpermitted(task, fields, s);
     if number > 0 {
-        return refused(13, number);
+        return outcomes::refused(13, number);
     }
     let output = measured(task, fields, s, blocks, records);
     match output {
-        Measured::TooLong { record } => refused(14, record),
+        Measured::TooLong { record } => outcomes::refused(14, record),
         Measured::Fits {
             blocks,
             records,
             length,
-        } => housed(room, length, records, blocks),
+        } => outcomes::housed(room, length, records, blocks),
     }
 }
 
@@ -121,8 +78,8 @@ pub fn check(task: Task, fields: &[u16], s: &[u8], room: usize) -> Ran
 {
     let read = reels::read_reel(tasks::form_of(task), s);
     match read {
-        ReelRead::NotReel => refused(11, 0),
-        ReelRead::BadBlock { block } => refused(12, block),
+        ReelRead::NotReel => outcomes::refused(11, 0),
+        ReelRead::BadBlock { block } => outcomes::refused(12, block),
         ReelRead::Read { blocks, records } => checked(task, fields, s, blocks, records, room),
     }
 }

@@ -27,9 +27,10 @@ use Rattle.rows.specs.Kept.{fieldsIn}
 use Rattle.rows.specs.Fair.{PlanFair}
 use Rattle.fixed.specs.Promise.{blocksIn, Lent}
 use Rattle.writers.specs.Promise.{ReelPut}
-use Rattle.checks.specs.declared.Ran.{Ran}
-use Rattle.checks.specs.Promise.{ranStruct, Given, GivenPlan, Checked}
-use Rattle.checks.proofs.RunLaws.{over-front, refuses}
+use Rattle.outcomes.specs.declared.Ran.{Ran}
+use Rattle.outcomes.specs.Promise.{ranStruct}
+use Rattle.outcomes.proofs.OutcomeLaws.{over-front, refuses}
+use Rattle.checks.specs.Promise.{Given, GivenPlan, Checked}
 use Rattle.runs.specs.Promise.{Finishes, Finishing, Written, RanInto}
 
 -- ---- a run that finishes

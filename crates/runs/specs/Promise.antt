@@ -8,8 +8,9 @@ use Rattle.rules.specs.Plan.{Plan}
 use Rattle.rules.specs.Run.{Ran as RuleRan, convert}
 use Rattle.rules.specs.Lent.{runAnswer, outputAfter}
 use Rattle.terms.specs.declared.Task.{Task}
-use Rattle.checks.specs.declared.Ran.{Ran}
-use Rattle.checks.specs.Promise.{ranStruct, Given}
+use Rattle.outcomes.specs.declared.Ran.{Ran}
+use Rattle.outcomes.specs.Promise.{ranStruct}
+use Rattle.checks.specs.Promise.{Given}
 
 -- the run finishes, with so many blocks
 pub record Finishes (task : Task) (fields s : List ℕ) (blocks room : ℕ) (p : Plan) (x : RuleRan) : Type 0 where

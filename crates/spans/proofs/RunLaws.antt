@@ -25,9 +25,9 @@ use Rattle.turns.proofs.SpannedTold.{Tells, tells}
 use Rattle.fillings.specs.declared.Tally.{Tally}
 use Rattle.segments.specs.declared.Spot.{Spot}
 use Rattle.segments.specs.Promise.{Takeable, Taken}
-use Rattle.checks.specs.declared.Ran.{Ran}
-use Rattle.checks.specs.Promise.{ranStruct, refusedRun, housedRun}
-use Rattle.checks.proofs.RunLaws.{room-is, refuses, over-front}
+use Rattle.outcomes.specs.declared.Ran.{Ran}
+use Rattle.outcomes.specs.Promise.{ranStruct, refusedRun, housedRun}
+use Rattle.outcomes.proofs.OutcomeLaws.{room-is, refuses, over-front}
 use Rattle.spans.specs.Promise.{Standing, Measures, Lent, ReelPut, RanAs, ranIn, Taking, FilledRun}
 
 -- ---- refusal 15

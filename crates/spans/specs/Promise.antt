@@ -14,8 +14,8 @@ use Rattle.fillings.specs.declared.Tally.{Tally}
 use Rattle.fillings.specs.Offsets.{OffsetFits}
 use Rattle.segments.specs.declared.Spot.{Spot}
 use Rattle.segments.specs.Promise.{GoodSpans, Streams, Before}
-use Rattle.checks.specs.declared.Ran.{Ran}
-use Rattle.checks.specs.Promise.{ranStruct}
+use Rattle.outcomes.specs.declared.Ran.{Ran}
+use Rattle.outcomes.specs.Promise.{ranStruct}
 use Rattle.spans.specs.declared.Part.{Part}
 use Rattle.spans.specs.Cutting.{Small, Fair, behindOf}
 use Rattle.spans.specs.Putting.{segmentPut, recordPut}

@@ -6,11 +6,11 @@ ghost use lib.ListN.{length};
 ghost use Rattle.rules.specs.Spanned.{codeOf};
 ghost use Rattle.rules.specs.Run.{spannedRun};
 ghost use Rattle.rules.specs.Lent.{runAnswer, outputAfter};
-ghost use Rattle.checks.specs.Promise.{ranStruct};
+ghost use Rattle.outcomes.specs.Promise.{ranStruct};
 ghost use Rattle.spans.specs.Cutting.{Small, openedOf, cutOf, behindOf, fullOf};
 ghost use Rattle.spans.specs.Promise.{Streaming, NextFits, NextPut, RecordFits, RecordPut, Standing, Measures, Lent, ReelPut, ranIn, RanAs, Taking, FilledRun};
-use checks::Ran;
 use fillings::Tally;
+use outcomes::Ran;
 use reels::ReelRead;
 use segments::Spot;
 
@@ -188,7 +188,7 @@ fn copied(s: &[u8], records: usize, blocks: usize, out: &mut [u8]) -> Ran
     requires { ⌜ length (now s) ≤ 65536 ⌝ }
     ensures { λ r. ⌜ RanAs (ranIn (now (s .entry)) records blocks) (now (out .entry)) r (now (out .exit)) ⌝ }
 {
-    let answer = checks::housed(out.len(), s.len(), records, blocks);
+    let answer = outcomes::housed(out.len(), s.len(), records, blocks);
     let refusal = answer.refusal;
     if refusal > 0 {
         return answer;
@@ -206,7 +206,7 @@ fn filled(m: usize, s: &[u8], passed: usize, records: usize, out: &mut [u8]) -> 
     let tally = measure(m, s, from, records);
     let blocks = tally.blocks;
     let length = 4 * blocks + 8 + tally.bytes;
-    let answer = checks::housed(out.len(), length, records, blocks);
+    let answer = outcomes::housed(out.len(), length, records, blocks);
     let refusal = answer.refusal;
     if refusal > 0 {
         return answer;
@@ -224,8 +224,8 @@ pub fn run_spanned(copies: bool, g: usize, m: usize, first: usize, s: &[u8], out
 {
     let read = turns::read_spanned(g, s);
     match read {
-        ReelRead::NotReel => checks::refused(11, 0),
-        ReelRead::BadBlock { block } => checks::refused(12, block),
+        ReelRead::NotReel => outcomes::refused(11, 0),
+        ReelRead::BadBlock { block } => outcomes::refused(12, block),
         ReelRead::Read { blocks, records } => {
             let passed = segments::smaller(first - 1, records);
             if copies {

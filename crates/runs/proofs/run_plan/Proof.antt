@@ -5,7 +5,7 @@ use Rattle.rules.specs.Answer.{Answer}
 use Rattle.rules.specs.Lent.{zoneF, runAnswer, outputAfter}
 use Rattle.terms.specs.Meaning.{planIn}
 use Rattle.rows.specs.Kept.{fieldsIn}
-use Rattle.checks.specs.Promise.{ranStruct}
+use Rattle.outcomes.specs.Promise.{ranStruct}
 use borrow.Author.Needs.{needs}
 use denote.Ref.{now}
 use lib.ListN.{length}

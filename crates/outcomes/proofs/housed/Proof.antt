@@ -1,8 +1,8 @@
 -- The two tests of the length.
-use Rattle.checks.proofs.RunLaws.{room-over, most-over, room-enough}
+use Rattle.outcomes.proofs.OutcomeLaws.{room-over, most-over, room-enough}
 use borrow.Author.Needs.{needs}
-use Rattle.checks.proofs.housed.Statement.{statement}
-use Rattle.checks.proofs.housed.Tie as tie
+use Rattle.outcomes.proofs.housed.Statement.{statement}
+use Rattle.outcomes.proofs.housed.Tie as tie
 
 refused-requires : tie.Need-refused-requires
 refused-requires c κs = search needs
