@@ -23,11 +23,11 @@ use Rattle.fillings.specs.declared.Tally.{Tally}
 use Rattle.fillings.specs.Offsets.{offsetPut}
 use Rattle.fillings.proofs.OffsetLaws.{offset-opens, offset-stays}
 use Rattle.fillings.proofs.LaidLaws.{Framing, bytesBy, length-more, laid, laid-nothing, laid-length, laid-ends, laid-opens, laid-behind}
-use Rattle.spans.specs.declared.Part.{Part}
-use Rattle.spans.specs.Cutting.{Fair, fullOf, openedOf, cutOf, tallyFrom}
+use Rattle.cuts.specs.declared.Part.{Part}
+use Rattle.cuts.specs.Cutting.{Fair, fullOf, openedOf, cutOf, tallyFrom}
 use Rattle.spans.specs.Putting.{segmentPut, putFrom}
 use Rattle.spans.proofs.PutLaws.{put-none, put-step}
-use Rattle.spans.proofs.CutLaws.{opened-new, opened-same, opened-is, cut-is, tally-none, tally-step, grown}
+use Rattle.cuts.proofs.CutLaws.{opened-new, opened-same, opened-is, cut-is, tally-none, tally-step, grown}
 
 -- ---- a block is its word and its segments, each with its own
 

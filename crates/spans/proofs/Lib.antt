@@ -1,4 +1,3 @@
-pub mod CutLaws
 pub mod MeasureLaws
 pub mod PutLaws
 pub mod LayingLaws

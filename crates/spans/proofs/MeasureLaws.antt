@@ -12,8 +12,8 @@ use Rattle.rules.specs.Places.{All, also}
 use Rattle.rules.specs.Spanned.{spanOf, segmented}
 use Rattle.rules.proofs.SpannedMeasure.{bytesLeft, blocksLeft, left-start, left-end, left-new, left-all, left-part}
 use Rattle.fillings.specs.declared.Tally.{Tally}
-use Rattle.spans.specs.Cutting.{fullOf, openedOf, cutOf, tallyFrom, behindOf}
-use Rattle.spans.proofs.CutLaws.{opened-new, opened-same, opened-is, cut-is, tally-none, tally-step}
+use Rattle.cuts.specs.Cutting.{fullOf, openedOf, cutOf, tallyFrom, behindOf}
+use Rattle.cuts.proofs.CutLaws.{opened-new, opened-same, opened-is, cut-is, tally-none, tally-step}
 
 module _ (m : ℕ) (rs : List (List ℕ)) where
   -- this is tallied, and the rest is the filling of what is pending; its first record is begun, or not

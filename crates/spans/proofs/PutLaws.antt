@@ -20,11 +20,11 @@ use Rattle.fillings.specs.declared.Tally.{Tally}
 use Rattle.fillings.specs.Offsets.{offsetPut}
 use Rattle.segments.specs.declared.Spot.{Spot}
 use Rattle.segments.specs.Promise.{Streams, Copyable, Copied}
-use Rattle.spans.specs.declared.Part.{Part}
-use Rattle.spans.specs.Cutting.{Fair, cutOf}
+use Rattle.cuts.specs.declared.Part.{Part}
+use Rattle.cuts.specs.Cutting.{Fair, cutOf}
 use Rattle.spans.specs.Putting.{segmentPut, putFrom, recordPut}
 use Rattle.spans.specs.Promise.{Streaming, NextFits, NextPut, RecordFits}
-use Rattle.spans.proofs.CutLaws.{Going, going-next, going-most, going-more, fair-next}
+use Rattle.cuts.proofs.CutLaws.{Going, going-next, going-most, going-more, fair-next}
 
 -- ---- a segment
 

@@ -13,9 +13,9 @@ use Rattle.segments.specs.declared.Spot.{Spot}
 use Rattle.segments.specs.declared.RecordAhead.{RecordAhead}
 use Rattle.segments.specs.Promise.{Before, Coming, Comes}
 use Rattle.segments.proofs.PromiseLaws.{before-some, before-few}
-use Rattle.spans.specs.Cutting.{Small, fullOf, behindOf}
+use Rattle.cuts.specs.Cutting.{Small, fullOf, behindOf}
 use Rattle.spans.specs.Promise.{Standing, Measures}
-use Rattle.spans.proofs.CutLaws.{behind-grown}
+use Rattle.cuts.proofs.CutLaws.{behind-grown}
 use Rattle.spans.proofs.MeasureLaws.{Measured, measured-start, measured-record, measured-end}
 
 module _ (m : ℕ) {s : List ℕ} {v : Spot} {count : ℕ} (y : Standing s v count) where

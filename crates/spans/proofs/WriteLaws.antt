@@ -16,7 +16,7 @@ use Rattle.fillings.proofs.LaidLaws.{reel-over}
 use Rattle.segments.specs.declared.Spot.{Spot}
 use Rattle.segments.specs.declared.RecordAhead.{RecordAhead}
 use Rattle.segments.proofs.PromiseLaws.{before-streams, before-some}
-use Rattle.spans.specs.Cutting.{fullOf, tallyFrom, behindOf}
+use Rattle.cuts.specs.Cutting.{fullOf, tallyFrom, behindOf}
 use Rattle.spans.specs.Putting.{putFrom, recordPut}
 use Rattle.spans.specs.Promise.{Streaming, RecordFits, RecordPut, Lent}
 use Rattle.spans.proofs.MeasureLaws.{Measured}

@@ -16,8 +16,8 @@ use Rattle.segments.specs.declared.Spot.{Spot}
 use Rattle.segments.specs.Promise.{GoodSpans, Streams, Before}
 use Rattle.outcomes.specs.declared.Ran.{Ran}
 use Rattle.outcomes.specs.Promise.{ranStruct}
-use Rattle.spans.specs.declared.Part.{Part}
-use Rattle.spans.specs.Cutting.{Small, Fair, behindOf}
+use Rattle.cuts.specs.declared.Part.{Part}
+use Rattle.cuts.specs.Cutting.{Small, Fair, behindOf}
 use Rattle.spans.specs.Putting.{segmentPut, recordPut}
 
 -- ---- a segment

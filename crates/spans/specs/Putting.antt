@@ -9,8 +9,8 @@ use Rattle.rules.specs.Output.{lengthWord}
 use Rattle.rules.specs.Spanned.{codeOf, codedWord}
 use Rattle.fillings.specs.declared.Tally.{Tally}
 use Rattle.fillings.specs.Offsets.{offsetPut}
-use Rattle.spans.specs.declared.Part.{Part}
-use Rattle.spans.specs.Cutting.{cutOf}
+use Rattle.cuts.specs.declared.Part.{Part}
+use Rattle.cuts.specs.Cutting.{cutOf}
 
 -- the offset of the block that the segment opens, the word of its block, which says the block's size so far, and its own word and data
 unfoldable pub segmentPut : ℕ → Tally → Part → Bool → Bool → List ℕ → List ℕ → List ℕ

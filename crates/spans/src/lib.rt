@@ -7,76 +7,12 @@ ghost use Rattle.rules.specs.Spanned.{codeOf};
 ghost use Rattle.rules.specs.Run.{spannedRun};
 ghost use Rattle.rules.specs.Lent.{runAnswer, outputAfter};
 ghost use Rattle.outcomes.specs.Promise.{ranStruct};
-ghost use Rattle.spans.specs.Cutting.{Small, openedOf, cutOf, behindOf, fullOf};
 ghost use Rattle.spans.specs.Promise.{Streaming, NextFits, NextPut, RecordFits, RecordPut, Standing, Measures, Lent, ReelPut, ranIn, RanAs, Taking, FilledRun};
+use cuts::Part;
 use fillings::Tally;
 use outcomes::Ran;
 use reels::ReelRead;
 use segments::Spot;
-
-// What a cut takes of a record: so many bytes of data, and the tally with the segment that they make.
-struct Part {
-    size: usize,
-    tally: Tally,
-}
-
-// Before the first segment: no block is there, and it is as if a full one were, so that the first segment opens one.
-fn full(m: usize) -> Tally
-    ensures { λ r. ⌜ r ≡ fullOf m ⌝ }
-{
-    Tally {
-        blocks: 0,
-        size: m,
-        bytes: 0,
-    }
-}
-
-// The block that a segment goes into: a new one, with its word, where fewer than 5 bytes are left of the last, which are a segment's word and a byte of data.
-fn opened(m: usize, tally: Tally) -> Tally
-    requires { ⌜ Small m tally 0 ⌝ }
-    ensures { λ r. ⌜ r ≡ openedOf m tally ⌝ }
-{
-    if m - tally.size < 5 {
-        return Tally {
-            blocks: tally.blocks + 1,
-            size: 4,
-            bytes: tally.bytes + 4,
-        };
-    }
-    tally
-}
-
-// The next segment of a record of which so many bytes are left: all of them, or as many as its block has room for. Measuring and writing both go by these steps.
-fn cut(m: usize, tally: Tally, rest: usize) -> Part
-    requires { ⌜ Small m tally rest ⌝ }
-    ensures { λ r. ⌜ r ≡ cutOf m tally rest ⌝ }
-{
-    let block = opened(m, tally);
-    let size = segments::smaller(rest, m - block.size - 4);
-    Part {
-        size,
-        tally: Tally {
-            blocks: block.blocks,
-            size: block.size + (size + 4),
-            bytes: block.bytes + (size + 4),
-        },
-    }
-}
-
-// The tally behind a record of so many bytes.
-fn behind(m: usize, tally: Tally, size: usize) -> Tally
-    requires { ⌜ Small m tally size ⌝ }
-    ensures { λ r. ⌜ r ≡ behindOf m tally size ⌝ }
-{
-    let mut now = tally;
-    let mut rest = size;
-    while rest > 0 {
-        let part = cut(m, now, rest);
-        now = part.tally;
-        rest -= part.size;
-    }
-    now
-}
 
 // What so many records from a spot on measure as blocks of m bytes: along the words of their segments, in a pass that holds a few numbers and builds nothing.
 fn measure(m: usize, s: &[u8], from: Spot, count: usize) -> Tally
@@ -84,11 +20,11 @@ fn measure(m: usize, s: &[u8], from: Spot, count: usize) -> Tally
     ensures { λ r. ⌜ Measures m (now (s .entry)) from count r ⌝ }
 {
     let mut at = from;
-    let mut tally = full(m);
+    let mut tally = cuts::full(m);
     let mut number = 0;
     while number < count {
         let next = segments::ahead(s, at);
-        tally = behind(m, tally, next.size);
+        tally = cuts::behind(m, tally, next.size);
         at = next.behind;
         number += 1;
     }
@@ -155,7 +91,7 @@ fn put_record(
     let mut first = true;
     let mut rest = size;
     while rest > 0 {
-        let part = cut(m, now, rest);
+        let part = cuts::cut(m, now, rest);
         at = put_next(s, at, first, part.size == rest, base, now, part, out);
         now = part.tally;
         first = false;
@@ -171,7 +107,7 @@ fn write(m: usize, s: &[u8], from: Spot, count: usize, blocks: usize, out: &mut 
 {
     let base = 4 * blocks + 8;
     let mut at = from;
-    let mut tally = full(m);
+    let mut tally = cuts::full(m);
     let mut number = 0;
     reels::put_word(out, 0, blocks);
     while number < count {

@@ -2,9 +2,9 @@
 use mathlib.Core.Path.{_≡_, refl, _∙_}
 use native.Mathlib.Omega.{arith}
 use lib.ListN.{length}
-use Rattle.spans.specs.Cutting.{Fair}
+use Rattle.cuts.specs.Cutting.{Fair}
 use Rattle.spans.specs.Promise.{Streaming}
-use Rattle.spans.proofs.CutLaws.{Going, next-is, going-start, going-next, going-end, fair-next}
+use Rattle.cuts.proofs.CutLaws.{Going, next-is, going-start, going-next, going-end, fair-next}
 use Rattle.spans.proofs.PutLaws.{Puts, puts-start, puts-streaming, puts-next, puts-end, next-fits}
 use Rattle.spans.proofs.put_record.Statement.{statement}
 use Rattle.spans.proofs.put_record.Tie as tie

@@ -6,8 +6,8 @@ use native.Mathlib.Omega.{arith}
 use lib.Dec.{ltb}
 use borrow.Author.Tests.{ltb-true, ltb-false, lt-ltb, le-ltb}
 use Rattle.fillings.specs.declared.Tally.{Tally}
-use Rattle.spans.specs.declared.Part.{Part}
-use Rattle.spans.specs.Cutting.{Small, Fair, openedOf, partIn, cutOf, tallyFrom, behindOf}
+use Rattle.cuts.specs.declared.Part.{Part}
+use Rattle.cuts.specs.Cutting.{Small, Fair, fullOf, openedOf, partIn, cutOf, tallyFrom, behindOf}
 
 -- ---- the block that a segment goes into
 
@@ -224,3 +224,14 @@ fair-next {m} low {t} f rest e = subst (λ (p : Part). Fair m (p .tally) × (1 �
         some-block : (k : ℕ) → t .blocks ≡ k → 1 ≤ t .blocks
         some-block zero e = absurd (omega (arith, f .none e, ltb-false (m - t .size) 5 q))
         some-block (suc k) e = omega arith
+
+-- ---- one outcome only
+
+pub full-only-one : (m : ℕ) {x y : Tally} → x ≡ fullOf m → y ≡ fullOf m → x ≡ y
+full-only-one m a b = a ∙ sym b
+
+pub cut-only-one : (m : ℕ) (t : Tally) (rest : ℕ) {x y : Part} → x ≡ cutOf m t rest → y ≡ cutOf m t rest → x ≡ y
+cut-only-one m t rest a b = a ∙ sym b
+
+pub behind-only-one : (m : ℕ) (t : Tally) (size : ℕ) {x y : Tally} → x ≡ behindOf m t size → y ≡ behindOf m t size → x ≡ y
+behind-only-one m t size a b = a ∙ sym b

@@ -1,9 +1,9 @@
 -- A block with room for a segment has room for a word and a byte of data.
 use native.Mathlib.Omega.{arith}
-use Rattle.spans.proofs.CutLaws.{block-is, cut-as}
+use Rattle.cuts.proofs.CutLaws.{block-is, cut-as}
 use borrow.Author.Needs.{needs}
-use Rattle.spans.proofs.cut.Statement.{statement}
-use Rattle.spans.proofs.cut.Tie as tie
+use Rattle.cuts.proofs.cut.Statement.{statement}
+use Rattle.cuts.proofs.cut.Tie as tie
 
 opened-requires : tie.Need-opened-requires
 opened-requires c κs = search needs

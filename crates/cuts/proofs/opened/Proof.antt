@@ -1,9 +1,9 @@
 -- Each outcome by the test that led there.
 use native.Mathlib.Omega.{arith}
-use Rattle.spans.proofs.CutLaws.{opened-new, opened-same}
+use Rattle.cuts.proofs.CutLaws.{opened-new, opened-same}
 use borrow.Author.Needs.{needs}
-use Rattle.spans.proofs.opened.Statement.{statement}
-use Rattle.spans.proofs.opened.Tie as tie
+use Rattle.cuts.proofs.opened.Statement.{statement}
+use Rattle.cuts.proofs.opened.Tie as tie
 
 sub-if1 : tie.Need-sub-if1
 sub-if1 c = search needs

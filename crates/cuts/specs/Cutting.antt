@@ -4,7 +4,7 @@ use mathlib.Core.Bool.{cond}
 use Prim.Native.Nat.{ℕ, zero, suc, _+_, _-_, _*_, _≤_, _<_, min}
 use lib.Dec.{ltb}
 use Rattle.fillings.specs.declared.Tally.{Tally}
-use Rattle.spans.specs.declared.Part.{Part}
+use Rattle.cuts.specs.declared.Part.{Part}
 
 -- numbers that are far from wrapping, where so many bytes are to come: each takes at most a block's word and its segment's besides
 pub record Small (m : ℕ) (t : Tally) (rest : ℕ) : Type 0 where

@@ -1,8 +1,8 @@
 -- Each turn is one cut, which takes a byte or more.
 use native.Mathlib.Omega.{arith}
-use Rattle.spans.proofs.CutLaws.{Going, next-is, going-start, going-next, going-end}
-use Rattle.spans.proofs.behind.Statement.{statement}
-use Rattle.spans.proofs.behind.Tie as tie
+use Rattle.cuts.proofs.CutLaws.{Going, next-is, going-start, going-next, going-end}
+use Rattle.cuts.proofs.behind.Statement.{statement}
+use Rattle.cuts.proofs.behind.Tie as tie
 
 abbrev Inv-loop : tie.InvT-loop
 Inv-loop m size now₀ rest₀ now rest = Going m now₀ size now rest
