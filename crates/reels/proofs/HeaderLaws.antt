@@ -12,7 +12,7 @@ use Rattle.rules.specs.ReelPlaces.{wordAt, offsetAt}
 use Rattle.rules.proofs.HeaderSteps.{next-at}
 use Rattle.rules.proofs.PieceLaws.{slice-taken}
 use Rattle.rules.proofs.ReelLaws.{header-is}
-use Rattle.rules.proofs.ReelSteps.{offset-most, blocks-step, block-at}
+use Rattle.rules.proofs.ReelSteps.{offset-most, blocks-step, block-at, length-block}
 use Rattle.reels.specs.Header.{headerOf, partAt}
 use Rattle.reels.specs.declared.HeaderRead.the-variants.{Reel, NoReel}
 
@@ -74,6 +74,9 @@ part-is s i e l = part-there s i (omega (arith, header-is s e .there)) (omega (a
 
 pub part-block : (s : List ℕ) (i : ℕ) → isReel s ≡ true → i < blockCount s → partAt s i ≡ getD (blocksOf s) i []
 part-block s i e l = part-is s i e l ∙ sym (block-at s e i l)
+
+pub part-length : (s : List ℕ) (i : ℕ) → isReel s ≡ true → i < blockCount s → length (partAt s i) ≡ offsetAt s (suc i) - offsetAt s i
+part-length s i e l = ap length (part-block s i e l) ∙ length-block s e i l
 
 -- the walk over the blocks
 pub part-step : (s : List ℕ) (i : ℕ) → isReel s ≡ true → i < blockCount s → drop i (blocksOf s) ≡ partAt s i ∷ drop (suc i) (blocksOf s)

@@ -13,7 +13,7 @@ use Rattle.rules.specs.Reel.{blockCount, isReel, blocksOf}
 use Rattle.rules.specs.Plan.{Plan}
 use Rattle.rules.specs.Blocks.{recordsIn, recordsFrom}
 use Rattle.rules.specs.ReelPlaces.{offsetAt}
-use Rattle.rules.proofs.ReelSteps.{offset-most, offset-rises, blocks-end, length-block}
+use Rattle.rules.proofs.ReelSteps.{offset-most, offset-rises, blocks-end}
 use Rattle.rules.proofs.TakenLaws.{after, after-none, blocks-good, blocks-bad}
 use Rattle.reels.specs.Form.{planBy}
 use Rattle.reels.specs.Header.{headerOf, partAt}
@@ -22,7 +22,7 @@ use Rattle.reels.specs.declared.Form.{Form}
 use Rattle.reels.specs.declared.HeaderRead.the-variants.{Reel, NoReel}
 use Rattle.reels.specs.declared.BlockRead.the-variants.{Records, Breaks}
 use Rattle.reels.specs.declared.ReelRead.the-variants.{Read, NotReel, BadBlock}
-use Rattle.reels.proofs.HeaderLaws.{reel-told, no-reel-told, part-block, part-step}
+use Rattle.reels.proofs.HeaderLaws.{reel-told, no-reel-told, part-length, part-step}
 
 -- ---- what was counted before, and what is left
 
@@ -105,12 +105,9 @@ module _ {form : Form} {s : List ℕ} {blocks records i : ℕ} (w : Reading form
     left : recordsFrom p (suc i) (drop i (blocksOf s)) ≡ recordsFrom p (suc i) (partAt s i ∷ drop (suc i) (blocksOf s))
     left = ap (recordsFrom p (suc i)) (part-step s i (w .reel) here)
 
-    part-length : length (partAt s i) ≡ offsetAt s (suc i) - offsetAt s i
-    part-length = ap length (part-block s i (w .reel) here) ∙ length-block s (w .reel) i here
-
     -- it is not empty, since the offsets rise
     pub part-full : 1 ≤ length (partAt s i)
-    part-full = omega (arith, part-length, offset-rises s (w .reel) i here)
+    part-full = omega (arith, part-length s i (w .reel) here, offset-rises s (w .reel) i here)
 
     -- its records are counted
     pub reading-step : (k : ℕ) → Judged form (partAt s i) (Records k) → Reading form s blocks (records + k) (i + 1)
@@ -119,7 +116,7 @@ module _ {form : Form} {s : List ℕ} {blocks records i : ℕ} (w : Reading form
           reel = w .reel;
           count = w .count;
           inside = omega arith;
-          few = subst (λ (n : ℕ). records + k ≤ offsetAt s n) (sym (add-one i)) (omega (arith, w .few, j .most, part-length, offset-rises s (w .reel) i here));
+          few = subst (λ (n : ℕ). records + k ≤ offsetAt s n) (sym (add-one i)) (omega (arith, w .few, j .most, part-length s i (w .reel) here, offset-rises s (w .reel) i here));
           same = step (block-some (recordsIn p (partAt s i)) k (j .is));
         }
       where

@@ -21,12 +21,14 @@ use Rattle.rules.specs.RunRows.{GivesSpanned}
 use Rattle.rules.proofs.Tests.{and-left, and-right}
 use Rattle.rules.proofs.AllLaws.{all-imply, all-drop, all-head}
 use Rattle.rules.proofs.AnswerLaws.{fine-same, bind-fine, then-fine, unless-fine}
+use Rattle.rules.proofs.PartLaws.{drop-less}
 use Rattle.rules.proofs.BlockSizes.{all-map, all-with}
 use Rattle.rules.proofs.ReelLaws.{reel-blocks, reel-of, blocks-reel, all-blocks, length-reel, length-full}
 use Rattle.rules.proofs.CodedWords.{length-spelled}
 use Rattle.rules.proofs.SpannedFill.{joined-data, segmented-spanned}
 use Rattle.rules.proofs.SpannedBlocks.{length-span, spanned-blocks}
 use Rattle.rules.proofs.SpannedRead.{spans-exactly, spans-once, spanned-spans}
+use Rattle.rules.proofs.SpannedMeasure.{spelled-append}
 
 -- ---- what a finished run wrote
 
@@ -133,10 +135,6 @@ length-joins (ending {fresh = f} {d = d} {ss = ss} {rs = rs} j) = omega (arith, 
 length-joins (going {fresh = f} {d = d} {ss = ss} {r = r} {rs = rs} j) =
     omega (arith, length-joins j, length-spelled (segment f false d) ss, length-append (d ++ r) (joined rs), length-append d r, length-append r (joined rs))
 
-spelled-append : (xs ys : List Segment) → length (spelled (xs ++ ys)) ≡ length (spelled xs) + length (spelled ys)
-spelled-append [] ys = omega arith
-spelled-append (x ∷ xs) ys = omega (arith, spelled-append xs ys, length-spelled x (xs ++ ys), length-spelled x xs)
-
 some-one : (ss : List Segment) → (ss ≡ [] → ⊥) → 1 ≤ length ss
 some-one [] o = absurd (o refl)
 some-one (s ∷ ss) o = omega arith
@@ -147,7 +145,7 @@ length-blocks g none-left = (refl, omega arith, omega arith)
 length-blocks g (both {x = b} {y = ss} {xs = bs} {ys = sss} v h) =
     let k = length-blocks g h in
     let n = length-append ss (joined sss) in
-    let q = spelled-append ss (joined sss) in (
+    let q = ap length (spelled-append ss (joined sss)) ∙ length-append (spelled ss) (spelled (joined sss)) in (
       omega (arith, k .0, length-append b (joined bs), ap length (v .is), length-span ss),
       omega (arith, k .1, some-one ss (v .some)),
       omega (arith, k .2, with-data (v .parts)),
@@ -168,11 +166,6 @@ data-most g l bs rs w h =
     let t = blocks-most g l (w .blocks) in
     let j = length-joins (w .joins) in
     omega (arith, length-reel bs, k .0, k .1)
-
-drop-less : (n : ℕ) (rs : List (List ℕ)) → length (joined (drop n rs)) ≤ length (joined rs)
-drop-less zero rs = omega arith
-drop-less (suc n) [] = omega arith
-drop-less (suc n) (r ∷ rs) = omega (arith, drop-less n rs, length-append r (joined rs))
 
 -- each block costs 8 bytes besides its segments, each segment 4, and each has a byte or more
 pub span-length : (g : ℕ) (bs rs : List (List ℕ)) → Spans g bs rs → length (reelOf bs) ≤ 8 + 13 * length (joined rs)

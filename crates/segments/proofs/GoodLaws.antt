@@ -17,6 +17,7 @@ use Rattle.rules.specs.Reel.{blockCount, isReel, blocksOf}
 use Rattle.rules.specs.ReelPlaces.{offsetAt}
 use Rattle.rules.specs.Spanned.{Segment, part, segmentsIn, State, joinFrom, spannedFrom, Joined, no-segment, ending, going, Turns, no-turn}
 use Rattle.rules.proofs.AllLaws.{all-append}
+use Rattle.rules.proofs.PartLaws.{drop-less}
 use Rattle.rules.proofs.AnswerLaws.{not-fine, fine-same, bind-fine}
 use Rattle.rules.proofs.Bounds.{parts-length}
 use Rattle.rules.proofs.ReelLaws.{header-is, length-blocks}
@@ -142,11 +143,6 @@ later-parts g (both {x = b} {y = ss} {xs = bs} {ys = sss} v w) =
     let k = later-parts g w in
     let f = from-parts (length b) b 4 ss (omega arith) (read-from g b ss v .0) in
     (all-append (f .0) (k .0), omega (arith, f .1, k .1, ap length (parts-append ss (joined sss)), length-append (joined (map part ss)) (joined (map part (joined sss))), length-append b (joined bs)))
-
-drop-less : (n : ℕ) (bs : List (List ℕ)) → length (joined (drop n bs)) ≤ length (joined bs)
-drop-less zero bs = omega arith
-drop-less (suc n) [] = omega arith
-drop-less (suc n) (b ∷ bs) = omega (arith, drop-less n bs, length-append b (joined bs))
 
 -- a block and those behind it lie in the reel
 blocks-few : (s : List ℕ) → isReel s ≡ true → (i : ℕ) → length (partAt s i) + length (joined (drop (suc i) (blocksOf s))) ≤ 65536

@@ -15,12 +15,12 @@ use Rattle.rules.specs.ReelPlaces.{offsetAt}
 use Rattle.rules.specs.Spanned.{State, sofar, isClosed, segmentsIn, joinIn, finish, spannedFrom}
 use Rattle.rules.proofs.Bounds.{reel-most}
 use Rattle.rules.proofs.ReelLaws.{length-blocks}
-use Rattle.rules.proofs.ReelSteps.{offset-most, offset-rises, length-block}
+use Rattle.rules.proofs.ReelSteps.{offset-most, offset-rises}
 use Rattle.rules.proofs.SpannedCounts.{Alike, totalOf, plus, blocks-end, total-bad, total-good, total-alike}
 use Rattle.reels.specs.Header.{headerOf, partAt}
 use Rattle.reels.specs.declared.HeaderRead.the-variants.{Reel, NoReel}
 use Rattle.reels.specs.declared.ReelRead.the-variants.{Read, NotReel, BadBlock}
-use Rattle.reels.proofs.HeaderLaws.{reel-told, no-reel-told, part-block, part-step}
+use Rattle.reels.proofs.HeaderLaws.{reel-told, no-reel-told, part-length, part-step}
 use Rattle.turns.specs.declared.Counts.{Counts}
 use Rattle.turns.specs.declared.TurnsRead.the-variants.{InTurn, Breaks}
 use Rattle.turns.specs.Turns.{heldOf, turned, toldBy, Ruled}
@@ -124,12 +124,9 @@ module _ {g : ℕ} {s : List ℕ} {blocks : ℕ} {counts : Counts} {i : ℕ} (w 
     here : i < blockCount s
     here = let c = w .count in omega arith
 
-    part-length : length (partAt s i) ≡ offsetAt s (suc i) - offsetAt s i
-    part-length = ap length (part-block s i (w .reel) here) ∙ length-block s (w .reel) i here
-
     -- a reel has at most 65,536 bytes
     pub reading-room : counts .records + length (partAt s i) ≤ 65536
-    reading-room = omega (arith, w .few, part-length, offset-rises s (w .reel) i here, offset-most s (w .reel) (suc i) here, reel-most s (w .reel))
+    reading-room = omega (arith, w .few, part-length s i (w .reel) here, offset-rises s (w .reel) i here, offset-most s (w .reel) (suc i) here, reel-most s (w .reel))
 
     left : totalOf (spannedFrom g (suc i) (heldOf (counts .held)) (drop i (blocksOf s))) ≡ totalOf (spannedFrom g (suc i) (heldOf (counts .held)) (partAt s i ∷ drop (suc i) (blocksOf s)))
     left = ap (λ (bs : List (List ℕ)). totalOf (spannedFrom g (suc i) (heldOf (counts .held)) bs)) (part-step s i (w .reel) here)
@@ -141,7 +138,7 @@ module _ {g : ℕ} {s : List ℕ} {blocks : ℕ} {counts : Counts} {i : ℕ} (w 
           reel = w .reel;
           count = w .count;
           inside = omega arith;
-          few = subst (λ (n : ℕ). after .records ≤ offsetAt s n) (sym (add-one i)) (omega (arith, w .few, j .few, part-length, offset-rises s (w .reel) i here));
+          few = subst (λ (n : ℕ). after .records ≤ offsetAt s n) (sym (add-one i)) (omega (arith, w .few, j .few, part-length s i (w .reel) here, offset-rises s (w .reel) i here));
           low = j .low;
           same = step (turned-some (counts .records) (joinIn (heldOf (counts .held)) (segmentsIn g (partAt s i))) after (j .is));
         }
