@@ -54,7 +54,7 @@ module _ (deck : List ℕ) where
   Columned x = Refuses ColumnIs x
 
   -- row m has column 0
-  abbrev Plain : ℕ → Type 0
+  abbrev pub Plain : ℕ → Type 0
   Plain m = Plainly ColumnIs m
 
   -- ---- answers
@@ -314,13 +314,13 @@ module _ (deck : List ℕ) where
   pub columned-asked : Columned (askedOf deck)
   unfolding askedOf
   columned-asked =
-      columned-bind (operandsOf deck) _ columned-operands (λ os e1. let o = operands-of 0 deck Done os e1 in
-      columned-bind (cardsOf os) _ (columned-said os o) (λ c e2. let s = says-of 0 deck Done os o c e2 in
+      columned-bind (operandsOf deck) _ columned-operands (λ os e1. let o = operands-of deck Done os e1 in
+      columned-bind (cardsOf os) _ (columned-said os o) (λ c e2. let s = says-of deck Done os o c e2 in
       let t : UText (os .u) (c .parameters) = own os o (λ b u fs. UText u (c .parameters)) (s .before) (s .u) (s .fs) (s .operands) (s .says-u) in
       let b : Both FsText (os .fs) (c .items) = own os o (λ b u fs. Both FsText fs (c .items)) (s .before) (s .u) (s .fs) (s .operands) (s .says-fs) in
       columned-then (once os c) _ (columned-once os o (c .parameters) (c .items) t b) (λ e3.
       columned-bind (complete (given (c .parameters))) _ (columned-complete (given (c .parameters))) (λ u e4.
-      columned-then (limits os c u) _ (columned-limits os o (c .parameters) (c .items) t b u (complete-fine (c .parameters) u e4) (not-twice 0 deck Done os c e3)) (λ e5. tt)))))
+      columned-then (limits os c u) _ (columned-limits os o (c .parameters) (c .items) t b u (complete-fine (c .parameters) u e4) (not-twice deck Done os c e3)) (λ e5. tt)))))
 
   columned-combined : (zone : ℕ) (a : Asked) → Columned (combined zone a)
   unfolding combined
@@ -345,7 +345,7 @@ module _ (deck : List ℕ) where
       columned-then (unless (leb (length (pl .fields)) entries) 15 (length (pl .fields))) _ (columned-unless _ 15 (length (pl .fields)) (λ p. lowest-zero)) (λ e2. tt))
 
   -- no row of a run has a column
-  plain-late : (m : ℕ) → 11 ≤ m → Plain m
+  pub plain-late : (m : ℕ) → 11 ≤ m → Plain m
   plain-late m h = let e : suc (suc (suc (suc (suc (suc (suc (suc (m - 8)))))))) ≡ m = omega arith in subst Plain e (λ p. lowest-zero)
 
   columned-run : (zone room : ℕ) (s : List ℕ) → Columned (runOf zone room deck s)

@@ -136,3 +136,7 @@ pub mod SpannedFV
 pub mod SpannedDeck
 pub mod SpannedLaws
 pub mod SpannedDecks
+pub mod JudgeRead
+pub mod JudgeAgree
+pub mod JudgeTable
+pub mod JudgeLaws

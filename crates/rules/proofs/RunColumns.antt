@@ -4,7 +4,7 @@ use mathlib.Core.Path.{_≡_, refl}
 use mathlib.Core.Bool.{Bool, true, false, cond}
 use mathlib.Core.List.{List, [], _∷_}
 use mathlib.Core.Option.{Option, none, some}
-use Prim.Native.Nat.{ℕ, suc, _-_, _≤_}
+use Prim.Native.Nat.{ℕ, suc, _-_, _≤_, _<_}
 use native.Mathlib.Omega.{arith}
 use lib.ListN.{length}
 use Rattle.rules.specs.Base.{joined}
@@ -72,23 +72,35 @@ module _ (P : Refusal → Type 0) where
   refuses-fine x a e = rw e tt
 
   module _ (room : ℕ) (pl : Plan) (s : List ℕ) where
-    -- a run over a plan is refused by what is asked of the reel, the blocks or the records, or with 15
+    -- the output blocks are refused by what is asked of the reel, the blocks or the records
+    outs-by : Refuses (unless (isReel s) 11 0) → Refuses (recordsFrom pl 1 (blocksOf s))
+        → ((recs : List (List (List ℕ))) → recordsFrom pl 1 (blocksOf s) ≡ fine recs
+        → Refuses (each 13 (permits pl) (pl .first) (joined (takenFrom (pl .first) recs))) × Refuses (each 14 (λ holds. holds) (pl .first) (fitting (pl .mode) pl (outputs pl recs))))
+        → Refuses (outBlocks pl s)
+    unfolding outBlocks
+    outs-by c11 c12 k =
+        refuses-then (unless (isReel s) 11 0) _ c11 (λ e1.
+        refuses-bind (recordsFrom pl 1 (blocksOf s)) _ c12 (λ recs e2.
+        refuses-then _ _ (k recs e2 .0) (λ e3. refuses-then _ _ (k recs e2 .1) (λ e4. tt))))
+
+    -- a run over a plan by these, or with 15
     pub refuses-by : Refuses (unless (isReel s) 11 0) → Refuses (recordsFrom pl 1 (blocksOf s)) → Plainly 15
         → ((recs : List (List (List ℕ))) → recordsFrom pl 1 (blocksOf s) ≡ fine recs
         → Refuses (each 13 (permits pl) (pl .first) (joined (takenFrom (pl .first) recs))) × Refuses (each 14 (λ holds. holds) (pl .first) (fitting (pl .mode) pl (outputs pl recs))))
         → Refuses (convert room pl s)
-    unfolding convert outBlocks housed
+    unfolding convert housed
     refuses-by c11 c12 z15 k =
-        refuses-bind (outBlocks pl s) _
-        (refuses-then (unless (isReel s) 11 0) _ c11 (λ e1.
-        refuses-bind (recordsFrom pl 1 (blocksOf s)) _ c12 (λ recs e2.
-        refuses-then _ _ (k recs e2 .0) (λ e3. refuses-then _ _ (k recs e2 .1) (λ e4. tt)))))
-        (λ bs e5. refuses-then _ _ (refuses-unless _ 15 (length (ranOf pl bs .reel)) z15) (λ e6. tt))
+        refuses-bind (outBlocks pl s) _ (outs-by c11 c12 k) (λ bs e5. refuses-then _ _ (refuses-unless _ 15 (length (ranOf pl bs .reel)) z15) (λ e6. tt))
+
+    pub refuses-outs : ((m : ℕ) → 11 ≤ m → m < 15 → Plainly m) → Refuses (outBlocks pl s)
+    refuses-outs z =
+        outs-by (refuses-unless _ 11 0 (z 11 (omega arith) (omega arith))) (refuses-reads 12 (recordsIn pl) 1 (blocksOf s) (z 12 (omega arith) (omega arith))) (λ recs e.
+        (refuses-each 13 _ (pl .first) _ (z 13 (omega arith) (omega arith)), refuses-each 14 _ (pl .first) _ (z 14 (omega arith) (omega arith))))
 
     pub refuses-convert : ((m : ℕ) → 11 ≤ m → Plainly m) → Refuses (convert room pl s)
+    unfolding convert housed
     refuses-convert z =
-        refuses-by (refuses-unless _ 11 0 (z 11 (omega arith))) (refuses-reads 12 (recordsIn pl) 1 (blocksOf s) (z 12 (omega arith))) (z 15 (omega arith)) (λ recs e.
-        (refuses-each 13 _ (pl .first) _ (z 13 (omega arith)), refuses-each 14 _ (pl .first) _ (z 14 (omega arith))))
+        refuses-bind (outBlocks pl s) _ (refuses-outs (λ m l h. z m l)) (λ bs e5. refuses-then _ _ (refuses-unless _ 15 (length (ranOf pl bs .reel)) (z 15 (omega arith))) (λ e6. tt))
 
     -- in FS
     pub refuses-spanned : (copies : Bool) (g m first : ℕ) → Refuses (unless (isReel s) 11 0) → Refuses (spannedFrom g 1 none (blocksOf s)) → Plainly 15

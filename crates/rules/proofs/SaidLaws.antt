@@ -134,7 +134,7 @@ module _ (deck : List ℕ) (p : Plan) (e : planOf zoneF deck ≡ fine p) where
   said-fields : (us : List Parameter) (cards : List (List Item)) → Says deck us cards → cardFields (askedOf deck) ≡ fieldsOf (joined cards)
   said-fields us cards s =
       let a = asked-for in
-      let w = asked-says zoneF deck Done (a .0) (a .1) in
+      let w = asked-says deck Done (a .0) (a .1) in
       ap cardFields (a .1) ∙ ap (λ (cs : List (List Item)). fieldsOf (joined cs)) (says-same deck (w .0) us (a .0 .cards) cards (w .1) s .1)
 
 table-says-of : (deck : List ℕ) (before : List Entry) (x : Answer Plan) → ((p : Plan) → x ≡ fine p → (planOf zoneF deck ≡ fine p) × (length (p .fields) ≤ length before))

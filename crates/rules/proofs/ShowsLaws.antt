@@ -18,7 +18,7 @@ use Rattle.rules.specs.RecordParts.{Fits}
 use Rattle.rules.specs.InWords.{Writes, FieldTakes, copied, packed-high, packed-low, packed-digit, packed-fill, unpacked-high, unpacked-low, unpacked-digit, unpacked-fill, unpacked-zone}
 use Rattle.rules.specs.Twins.{shows}
 use Rattle.rules.specs.TwinWords.{Reads, Drops, pack-drops, unpack-drops}
-use Rattle.rules.proofs.Tests.{and-left, and-right, and-both}
+use Rattle.rules.proofs.Tests.{and-left, and-right, and-both, or-told, or-left, or-right}
 use Rattle.rules.proofs.SizeLaws.{length-fieldHalves}
 use Rattle.rules.proofs.PermittedLaws.{same-test, pack-high-allows, allows-inside}
 use Rattle.rules.proofs.SourceSteps.{length-froms}
@@ -26,17 +26,6 @@ use Rattle.rules.proofs.SourceWords.{field-takes, field-source}
 use Rattle.rules.proofs.KeepingSteps.{occurs-at, occurs-where}
 
 -- ---- tests of a number of halves behind a half
-
-or-told : (a b : Bool) → (a || b) ≡ true → (a ≡ true) ⊎ (b ≡ true)
-or-told true b e = inl refl
-or-told false b e = inr e
-
-or-left : (a b : Bool) → a ≡ true → (a || b) ≡ true
-or-left a b e = rw e
-
-or-right : (a b : Bool) → b ≡ true → (a || b) ≡ true
-or-right true b e = refl
-or-right false b e = e
 
 -- a pack keeps the last byte, and of the low halves before it as many as 2m - 2
 abbrev packShows : ℕ → ℕ → Bool

@@ -36,4 +36,6 @@ pub mod Accepted
 pub mod Demand
 pub mod Said
 pub mod TwinWords
+pub mod Judge
+pub mod JudgeWords
 pub mod Open
