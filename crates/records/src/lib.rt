@@ -45,7 +45,7 @@ fn put_field(kind: u16, input: &[u8], out: &mut [u8])
 }
 
 // Writes the fields in order, a later one over an earlier one.
-fn put_fields(fields: &[u16], record: &[u8], out: &mut [u8])
+pub fn put_fields(fields: &[u16], record: &[u8], out: &mut [u8])
     requires { ⌜ Fielded (now fields) (length (now «record»)) (length (now out)) ⌝ }
     ensures { λ _. ⌜ Writes (now (fields .entry)) (now («record» .entry)) (now (out .entry)) (now (out .exit)) ⌝ }
 {

@@ -63,6 +63,7 @@ pub mod PlanTable
 pub mod RunTable
 pub mod CardLaws
 pub mod ConvertsLaws
+pub mod AgreeBytes
 pub mod OutputWords
 pub mod Twins
 pub mod Demand3

@@ -4,5 +4,7 @@ pub mod StandsLaws
 pub mod GoodLaws
 pub mod AheadLaws
 pub mod TakenLaws
+pub mod StreamLaws
 pub mod CopyLaws
+pub mod SameLaws
 pub mod PromiseLaws

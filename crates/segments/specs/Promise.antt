@@ -1,6 +1,7 @@
 -- What the functions promise: where a reel is read by the rules, they go along just the segments, and so the records, that these find.
 use mathlib.Core.Path.{_≡_}
-use mathlib.Core.Bool.{true}
+use mathlib.Core.Logic.{_↔_}
+use mathlib.Core.Bool.{Bool, true}
 use mathlib.Core.List.{List, _∷_, _++_, map}
 use mathlib.Core.Option.{Option, none, some}
 use Prim.Native.Nat.{ℕ, suc, _≤_, _<_}
@@ -105,3 +106,16 @@ pub record Copied (s : List ℕ) (v : Spot) (n : ℕ) (old new : List ℕ) (w : 
   pub written : (g : ℕ) («data» : List ℕ) → Streams g s v «data» → n ≤ length «data» → new ≡ over 0 (take n «data») old
   pub streams : (g : ℕ) («data» : List ℕ) → Streams g s v «data» → n ≤ length «data» → Streams g s w (drop n «data»)
   pub is : w ≡ spotAfter s n v
+
+-- ---- the data of two reels
+
+-- there is so much from a spot on
+pub record Streamed (s : List ℕ) (v : Spot) (n : ℕ) : Type 0 where
+  pub g : ℕ
+  pub «data» : List ℕ
+  pub streams : Streams g s v «data»
+  pub enough : n ≤ length «data»
+
+-- whether so many bytes from a spot on are those from a spot of another reel on
+pub record SameData (s : List ℕ) (v : Spot) (t : List ℕ) (u : Spot) (n : ℕ) (r : Bool) : Type 0 where
+  pub is : (g h : ℕ) (xs ys : List ℕ) → Streams g s v xs → n ≤ length xs → Streams h t u ys → n ≤ length ys → (r ≡ true) ↔ (take n xs ≡ take n ys)

@@ -1,12 +1,14 @@
-// The segments of a good reel one after the other, through all its blocks: the length of each record, and the data copied straight from where it lies.
+// The segments of a good reel one after the other, through all its blocks: the length of each record, and the data copied or compared straight from where it lies.
 // Document 02, order 6. The header and the rule of each block were asked when the reel was read, so that each segment is there and no answer says that one is not.
 ghost use mathlib.Core.Path.{_≡_};
+ghost use mathlib.Core.Logic.{_↔_};
+ghost use mathlib.Core.Bool.{true};
 ghost use Prim.Native.Nat.{_+_, _≤_, min};
 ghost use lib.ListN.{length, take, drop};
 ghost use Rattle.rules.specs.Halves.{over};
 ghost use Rattle.reels.specs.Header.{partAt};
 ghost use Rattle.segments.specs.Spots.{noSegment, readAt, nextOf, onData, passedBy};
-ghost use Rattle.segments.specs.Promise.{Takeable, Taken, Coming, Comes, Copyable, Copied};
+ghost use Rattle.segments.specs.Promise.{Takeable, Taken, Coming, Comes, Copyable, Copied, Streamed, SameData};
 use reels::Cursor;
 use reels::PieceRead;
 
@@ -180,4 +182,41 @@ pub fn copy(s: &[u8], v: Spot, n: usize, out: &mut [u8]) -> Spot
         done += size;
     }
     at
+}
+
+// Whether so many of the bytes that are left of a segment are those that are left of a segment of another reel.
+fn same_part(s: &[u8], v: Spot, t: &[u8], u: Spot, n: usize) -> bool
+    requires { ⌜ (v .from + n ≤ length (partAt (now s) (v .block))) × (u .from + n ≤ length (partAt (now t) (u .block))) × (n ≤ 65536) ⌝ }
+    ensures { λ r. ⌜ (r ≡ true) ↔ (take n (drop (v .from) (partAt (now (s .entry)) (v .block))) ≡ take n (drop (u .from) (partAt (now (t .entry)) (u .block)))) ⌝ }
+{
+    let b = reels::block(s, v.block);
+    let c = reels::block(t, u.block);
+    let start = v.from;
+    let end = start + n;
+    let at = u.from;
+    let past = at + n;
+    check::same(&b[start..end], &c[at..past])
+}
+
+// Whether so many bytes of data from a spot on are those from a spot of another reel on, across segments and blocks of both.
+pub fn same(s: &[u8], v: Spot, t: &[u8], u: Spot, n: usize) -> bool
+    requires { ⌜ Streamed (now s) v n × Streamed (now t) u n ⌝ }
+    ensures { λ r. ⌜ SameData (now (s .entry)) v (now (t .entry)) u n r ⌝ }
+{
+    let mut at = v;
+    let mut there = u;
+    let mut done = 0;
+    while done < n {
+        let here = on_data(s, at);
+        let other = on_data(t, there);
+        let both = smaller(here.to - here.from, other.to - other.from);
+        let size = smaller(n - done, both);
+        if !same_part(s, here, t, other, size) {
+            return false;
+        }
+        at = passed(here, size);
+        there = passed(other, size);
+        done += size;
+    }
+    true
 }

@@ -9,6 +9,7 @@ use lib.ListN.{length}
 use Rattle.rules.specs.Plan.{Plan, selects, recordLength}
 use Rattle.rules.specs.Blocks.{leastData}
 use Rattle.rules.specs.Output.{outRecord}
+use Rattle.rules.specs.Judge.{underB}
 use Rattle.rules.specs.Accepted.{Accepted}
 use Rattle.rules.proofs.BlockSizes.{least-selects}
 use Rattle.rules.proofs.RecordLaws.{length-outRecord}
@@ -18,7 +19,7 @@ use Rattle.terms.specs.declared.Mode.{Mode}
 use Rattle.terms.specs.declared.Task.{Task}
 use Rattle.reels.specs.declared.Form.{Form}
 use Rattle.reels.specs.Form.{FormIs}
-use Rattle.tasks.specs.Promise.{formOf, tailOf, lengthOf}
+use Rattle.tasks.specs.Promise.{formOf, formUnder, tailOf, lengthOf}
 
 module _ (task : Task) where
   -- the tail
@@ -70,6 +71,9 @@ module _ (task : Task) where
   pub form-only-one : {x y : Form} → x ≡ formOf task → y ≡ formOf task → x ≡ y
   form-only-one a b = a ∙ sym b
 
+  pub under-only-one : {x y : Form} → x ≡ formUnder task → y ≡ formUnder task → x ≡ y
+  under-only-one a b = a ∙ sym b
+
   pub length-only-one : (n : ℕ) {x y : ℕ} → x ≡ lengthOf task n → y ≡ lengthOf task n → x ≡ y
   length-only-one n a b = a ∙ sym b
 
@@ -77,6 +81,10 @@ module _ {task : Task} {p : Plan} (is : TaskIs task p) where
   -- what the plan asks of input blocks
   pub form-given : {form : Form} → form ≡ formOf task → FormIs form p
   form-given e = subst (λ (f : Form). FormIs f p) (sym e) (record { format = is .format; n = is .n; m = is .m; selects = ap selects (is .mode) })
+
+  -- and of the blocks of a reel that is judged
+  pub form-judged : {form : Form} → form ≡ formUnder task → FormIs form (underB p)
+  form-judged e = subst (λ (f : Form). FormIs f (underB p)) (sym e) (record { format = is .format; n = is .width; m = is .limit; selects = ap selects (is .mode) })
 
   -- the length of an output record
   pub out-length : Accepted p → (r : List ℕ) → leastData p ≤ length r → length (outRecord p r) ≡ lengthOf task (length r)

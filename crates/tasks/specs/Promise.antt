@@ -10,6 +10,10 @@ use Rattle.reels.specs.declared.Form.{Form}
 abbrev pub formOf : Task → Form
 formOf task = record { format = task .format; n = task .n; m = task .m; selects = selects (modeOf (task .mode)) }
 
+-- what B asks of the blocks of a reel from elsewhere
+abbrev pub formUnder : Task → Form
+formUnder task = record { format = task .format; n = task .width; m = task .limit; selects = selects (modeOf (task .mode)) }
+
 -- with CV the data past A's n
 unfoldable pub tailOf : Task → ℕ → ℕ
 tailOf task n = cond (task .carries) (n - task .n) 0

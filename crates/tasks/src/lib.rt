@@ -1,7 +1,7 @@
 // What the numbers of a plan say of a run: what is asked of input blocks, and how long the output of a record is. Document 01, "Blocks and records".
 ghost use mathlib.Core.Path.{_≡_};
 ghost use Prim.Native.Nat.{_≤_};
-ghost use Rattle.tasks.specs.Promise.{formOf, tailOf, lengthOf};
+ghost use Rattle.tasks.specs.Promise.{formOf, formUnder, tailOf, lengthOf};
 use reels::Form;
 use terms::Mode;
 use terms::Task;
@@ -16,6 +16,20 @@ pub fn form_of(task: Task) -> Form
         format,
         n: task.n,
         m: task.m,
+        selects: combinations::selects(mode),
+    }
+}
+
+// What B asks of the blocks of a reel from elsewhere, which are to be such as this plan writes.
+pub fn form_under(task: Task) -> Form
+    ensures { λ r. ⌜ r ≡ formUnder task ⌝ }
+{
+    let mode = task.mode;
+    let format = task.format;
+    Form {
+        format,
+        n: task.width,
+        m: task.limit,
         selects: combinations::selects(mode),
     }
 }

@@ -1,0 +1,2 @@
+mod AgreeLaws
+pub mod PairLaws
