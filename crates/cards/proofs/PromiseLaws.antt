@@ -8,7 +8,7 @@ use Rattle.rules.specs.Answer.{Refusal, Answer, fine, refuse, refusedAt}
 use Rattle.rules.specs.Grammar.{modeIs, formatIs, outputIs}
 use Rattle.rules.specs.Asked.{Asked as RuleAsked, askedOf}
 use Rattle.rules.specs.Plan.{joinedSize}
-use Rattle.rules.specs.Rows.{Done, PlanRows}
+use Rattle.rules.specs.Rows.{Done, CardRows}
 use Rattle.rules.proofs.Given.{Upto}
 use Rattle.rules.proofs.AskedTable.{upto-asked}
 use Rattle.terms.specs.declared.Mode.{Mode}
@@ -71,10 +71,10 @@ nothing-only-one e f = e ∙ sym f
 
 some-refusal : (deck : List ℕ) (x : Refusal) → askedOf deck ≡ refuse x → 1 ≤ x .number
 some-refusal deck x e =
-    let g : Upto (PlanRows 15 deck Done) {A = RuleAsked} 8 0 (refuse x) = subst (Upto (PlanRows 15 deck Done) {A = RuleAsked} 8 0) e (upto-asked 15 deck Done) in
+    let g : Upto (CardRows deck Done) {A = RuleAsked} 8 0 (refuse x) = subst (Upto (CardRows deck Done) {A = RuleAsked} 8 0) e (upto-asked deck Done) in
     go (x .number) (g .0)
   where
-    go : (n : ℕ) → PlanRows 15 deck Done n (x .place) → 1 ≤ n
+    go : (n : ℕ) → CardRows deck Done n (x .place) → 1 ≤ n
     go zero h = absurd h
     go (suc n) h = omega arith
 

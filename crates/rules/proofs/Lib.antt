@@ -141,3 +141,4 @@ pub mod JudgeRead
 pub mod JudgeAgree
 pub mod JudgeTable
 pub mod JudgeLaws
+pub mod JudgeSteps

@@ -41,7 +41,7 @@ fn carries(cv: usize) -> bool
 }
 
 // The numbers that a run needs of the plan.
-fn task_of(asked: Asked) -> Task
+pub fn task_of(asked: Asked) -> Task
     ensures { λ r. ⌜ ((fs : List RuleField) → TaskIs r (planIn zoneF asked fs)) ⌝ }
 {
     let mode = asked.mode;

@@ -6,7 +6,7 @@ use mathlib.Core.Option.{none}
 use Prim.Native.Nat.{ℕ, _+_, _-_, _*_, _≤_, _<_, min}
 use native.Mathlib.Omega.{arith}
 use lib.Dec.{leb}
-use lib.ListN.{length, drop, length-drop, length-map, drop-of-length-le}
+use lib.ListN.{length, drop, length-drop, length-map}
 use borrow.Author.Tests.{leb-true, leb-false}
 use Rattle.rules.specs.Base.{joined}
 use Rattle.rules.specs.Answer.{Answer, fine, refused, _>>=_, _>>_, unless}
@@ -18,6 +18,7 @@ use Rattle.rules.specs.Lent.{runAnswer, outputAfter}
 use Rattle.rules.specs.Spanned.{spanOf, spannedFrom, segmented}
 use Rattle.rules.proofs.Bounds.{reel-most}
 use Rattle.rules.proofs.ReelLaws.{length-reel, blocks-reel}
+use Rattle.rules.proofs.JudgeSteps.{drop-few}
 use Rattle.reels.specs.declared.ReelRead.{ReelRead}
 use Rattle.reels.specs.declared.ReelRead.the-variants.{Read, NotReel, BadBlock}
 use Rattle.turns.specs.Promise.{SpannedAs}
@@ -137,16 +138,6 @@ module _ (copies : Bool) (g m first : ℕ) (s old : List ℕ) where
     pub ends-bad : (i : ℕ) → read ≡ BadBlock i → {r : Ran} → r ≡ refusedRun 12 i → Answers r old
     ends-bad i t k = let x = subst (Tells g s) t (tells g s read w) in answers-refused 12 i (run-bad i (x .0) (x .1)) k
 
-    -- the records from R on, or none
-    passed-is : (k n : ℕ) (l : List (List ℕ)) → n ≡ length l → drop (min k n) l ≡ drop k l
-    passed-is k n l e = go (leb k n) refl
-      where
-        go : (t : Bool) → leb k n ≡ t → drop (min k n) l ≡ drop k l
-        go true t = let h = leb-true k n t in ap (λ (i : ℕ). drop i l) (let z : min k n ≡ k = omega arith in z)
-        go false t =
-            let h = leb-false k n t in
-            ap (λ (i : ℕ). drop i l) (let z : min k n ≡ n = omega arith in z) ∙ drop-of-length-le l {i = n} (omega arith) ∙ sym (drop-of-length-le l {i = k} (omega arith))
-
     module _ (blocks records : ℕ) (t : read ≡ Read blocks records) where
       told : Tells g s (Read blocks records)
       told = subst (Tells g s) t (tells g s read w)
@@ -185,7 +176,7 @@ module _ (copies : Bool) (g m first : ℕ) (s old : List ℕ) where
             let x = told in
             let recs = x .1 .0 in
             let all = joined recs in
-            let same : drop passed all ≡ drop (first - 1) all = ap (λ (i : ℕ). drop i all) p ∙ passed-is (first - 1) records all (x .1 .3) in
+            let same : drop passed all ≡ drop (first - 1) all = ap (λ (i : ℕ). drop i all) p ∙ drop-few (first - 1) records all (x .1 .3) in
             answers-ran (spannedRan (map spanOf (segmented m (drop passed all))) (drop passed all))
             (run-good recs (x .0) (x .1 .1)
             ∙ ap (λ (b : Bool). housed (length old) (spannedRan (spannedOut b m (blocksOf s) (drop (first - 1) all)) (drop (first - 1) all))) c
