@@ -1,4 +1,4 @@
--- The demands, of what the four exported functions promise (specs/Promise), for every deck, reel, table and output. Each holds since the promise is the rules'
+-- The demands, of what the five exported functions promise (specs/Promise), for every deck, reel, table and output. Each holds since the promise is the rules'
 -- answer, of which it is proved: the table of refusals, demand 3 and what the lent memory holds in rules/proofs/SaidLaws, what runs tell in Apart.
 use mathlib.Core.Path.{_≡_, refl, ap, sym, _∙_, subst}
 use mathlib.Core.Logic.{_⊎_, inl, inr}
@@ -13,7 +13,7 @@ use borrow.Author.Tests.{eqb-true, eqb-false}
 use Rattle.rules.specs.Answer.{Answer, fine, refuse, refusedAt}
 use Rattle.rules.specs.Places.{All, Byte}
 use Rattle.rules.specs.Reel.{reelOf}
-use Rattle.rules.specs.Plan.{Plan, isFS, planAnswer}
+use Rattle.rules.specs.Plan.{Plan, isFS, recordLength, planAnswer}
 use Rattle.rules.specs.Output.{blockOf, outRecord}
 use Rattle.rules.specs.Rows.{Row, Done}
 use Rattle.rules.specs.Run.{Ran as RuleRan}
@@ -21,9 +21,11 @@ use Rattle.rules.specs.Lent.{zoneF, plan, planInto, tableAfter, run, runAnswer,
 use Rattle.rules.specs.Said.{PlanSays, TableSays, RunSays}
 use Rattle.rules.specs.Twins.{twinsInto, twinsAnswer}
 use Rattle.rules.specs.TwinWords.{Shows, Told, TwinsSays}
-use Rattle.rules.specs.Taken.{Takes}
+use Rattle.rules.specs.Taken.{Records, Takes}
+use Rattle.rules.specs.Judge.{isFilling, underB, judge, judgeAnswer}
+use Rattle.rules.specs.JudgeWords.{Written, carried, Stands, AgreeAt, True, JudgeSays, Judging}
 use Rattle.rules.specs.ShortBlocks.{NeverRefused, Under, RunsAgain}
-use Rattle.rules.specs.Grammar.{tc}
+use Rattle.rules.specs.Grammar.{tc, tr}
 use Rattle.rules.proofs.AnswerLaws.{fine-same}
 use Rattle.rules.proofs.SaidLaws.{plan-says, table-says, run-says}
 use Rattle.rules.proofs.PlanTable.{asks-once}
@@ -34,10 +36,12 @@ use Rattle.rules.proofs.Apart.{run-never-0, took, same-taken}
 use Rattle.rules.proofs.ShortBlockLaws.{run-gives}
 use Rattle.rules.proofs.SpannedLaws.{spanned-deck}
 use Rattle.rules.proofs.Demand3.{not-lost}
+use Rattle.rules.proofs.JudgeLaws.{judge-says, judging}
 use Rattle.terms.specs.Meaning.{entryMeans}
 use Rattle.terms.specs.declared.Entry.{Entry}
 use Rattle.terms.proofs.Entries.{entries-hold}
-use Rattle.bhexodana.specs.Promise.{numbersOf, ranOf, runNumbers, twinsNumbers, PlanOf, PlannedInto, RanInto, TwinsInto}
+use Rattle.bhexodana.specs.Promise.{numbersOf, ranOf, runNumbers, twinsNumbers, judgedOf, judgeNumbers, PlanOf, PlannedInto, RanInto, TwinsInto, JudgedAs}
+use Rattle.bhexodana.specs.declared.Judged.{Judged}
 use Rattle.bhexodana.specs.declared.Planned.{Planned}
 use Rattle.bhexodana.specs.declared.Ran.{Ran}
 use Rattle.bhexodana.specs.declared.Twins.{Twins}
@@ -59,6 +63,9 @@ only-one-run deck reel before r r′ after after′ w w′ = (w .answer ∙ sym 
 pub only-one-twins : (deck before : List ℕ) (r r′ : Twins) (after after′ : List ℕ) → TwinsInto deck before r after → TwinsInto deck before r′ after′
     → (r ≡ r′) × (after ≡ after′)
 only-one-twins deck before r r′ after after′ w w′ = (w .answer ∙ sym (w′ .answer), w .output ∙ sym (w′ .output))
+
+pub only-one-judge : (deck ours theirs : List ℕ) (r r′ : Judged) → JudgedAs deck ours theirs r → JudgedAs deck ours theirs r′ → r ≡ r′
+only-one-judge deck ours theirs r r′ w w′ = w ∙ sym w′
 
 -- ---- demands 1, 2 and 3, in words (rules/specs/Said)
 
@@ -91,6 +98,11 @@ pub twins-demands : (deck before : List ℕ) (r : Twins) (after : List ℕ) → 
 twins-demands deck before r after w =
     subst (λ (z : Twins). TwinsSays deck before (twinsNumbers z) after) (sym (w .answer))
     (subst (TwinsSays deck before (twinsAnswer (twinsInto (length before) deck))) (sym (w .output)) (twins-says deck before))
+
+-- of bhx_judge (document 02, order 7): refusal, place and column by the table; refused, yes and number are 0; else yes, with 0, exactly if theirs is a true conversion, and
+-- otherwise the number of the first record that disagrees or lacks a partner. What is lent as reels are bytes
+pub judge-demands : (deck ours theirs : List ℕ) (r : Judged) → All Byte ours → All Byte theirs → JudgedAs deck ours theirs r → JudgeSays deck ours theirs (judgeNumbers r)
+judge-demands deck ours theirs r a b w = subst (λ (z : Judged). JudgeSays deck ours theirs (judgeNumbers z)) (sym w) (judge-says deck ours theirs a b)
 
 -- ---- what was written
 
@@ -275,3 +287,38 @@ module _ (deck before : List ℕ) (t : Twins) (after : List ℕ) (told : Told de
 
       is′ : r′ ≡ ranOf (runAnswer (fine x))
       is′ = w′ .answer ∙ ap (λ (y : Answer RuleRan). ranOf (runAnswer y)) runs′
+
+-- ---- a reel from elsewhere (document 02, order 7)
+
+module _ (deck : List ℕ) (p : Plan) (planned : plan deck ≡ fine p) (fill : isFilling (p .mode) ≡ true) where
+  follows : Judging zoneF deck p
+  unfolding plan
+  follows = judging zoneF deck p planned fill
+
+  -- whatever bhx_run writes by a deck of TR or TRF, in any format and from any R on, bhx_judge judges true
+  pub own-true : (reel before : List ℕ) (r : Ran) (after : List ℕ) → All Byte reel → RanInto deck reel before r after → r .refusal ≡ 0
+      → (j : Judged) → JudgedAs deck reel (reelIn r after) j → j ≡ record { refusal = 0; place = 0; column = 0; yes = 1; number = 0 }
+  unfolding run judge
+  own-true reel before r after a w z j k =
+      let f = finished-run deck reel before r after a w z in
+      k ∙ ap (λ (s : List ℕ). judgedOf (judgeAnswer (judge deck reel s))) (f .2) ∙ ap (λ (x : Answer ℕ). judgedOf (judgeAnswer x)) (follows .own (length before) reel (f .0) a (f .1))
+
+  -- two foreign reels with the same records are judged alike, however each is cut into blocks and segments
+  pub cut-alike : (ours theirs others : List ℕ) (rs : List (List ℕ)) → Records (underB p) theirs rs → Records (underB p) others rs
+      → (j j′ : Judged) → JudgedAs deck ours theirs j → JudgedAs deck ours others j′ → j ≡ j′
+  unfolding judge
+  cut-alike ours theirs others rs h h′ j j′ k k′ = k ∙ ap (λ (x : Answer ℕ). judgedOf (judgeAnswer x)) (follows .cut-anew ours theirs others rs h h′) ∙ sym k′
+
+  -- where every position of an output record is written, as in TR, a reel that is judged true holds just our records
+  pub holds-just-ours : ((i : ℕ) → 1 ≤ i → i ≤ recordLength (p .output) → Written p i) → (ours theirs : List ℕ) → All Byte ours → All Byte theirs
+      → (j : Judged) → JudgedAs deck ours theirs j → j .refusal ≡ 0 → j .yes ≡ 1 → (t : True deck ours theirs) × (t .others ≡ t .outs)
+  unfolding plan
+  holds-just-ours h ours theirs a b j k z y =
+      let t = judge-demands deck ours theirs j a b k .exactly z .0 y in
+      let all
+      = subst (λ (q : Plan). (n : ℕ) → Stands (t .outs) (t .others) n → AgreeAt q (t .outs) (t .others) n) (asks-once zoneF deck Done p (t .p) planned (t .compares .asks)) (t .all) in
+      (t, follows .just-ours h (t .outs) (t .others) all)
+
+-- in TR every position is written
+pub carried-all : (p : Plan) → p .mode ≡ tr → (i : ℕ) → Written p i
+carried-all p e i = carried e

@@ -6,10 +6,12 @@ use lib.ListN.{length}
 use Rattle.rules.specs.Plan.{PlanAnswer, planAnswer}
 use Rattle.rules.specs.Lent.{plan, planInto, tableAfter, run, RunAnswer, runAnswer, outputAfter}
 use Rattle.rules.specs.Twins.{twinsInto, TwinsAnswer, twinsAnswer, twinsAfter}
+use Rattle.rules.specs.Judge.{judge, JudgeAnswer, judgeAnswer}
 use Rattle.terms.specs.Meaning.{entryMeans, entryFor}
 use Rattle.terms.specs.declared.Entry.{Entry}
 use Rattle.plans.specs.Promise.{tableOf, stored}
 use Rattle.bhexodana.specs.declared.Filling.{Filling}
+use Rattle.bhexodana.specs.declared.Judged.{Judged}
 use Rattle.bhexodana.specs.declared.Planned.{Planned}
 use Rattle.bhexodana.specs.declared.Ran.{Ran}
 use Rattle.bhexodana.specs.declared.Twins.{Twins}
@@ -37,6 +39,13 @@ twinsOf x = record { refusal = x .refusal; place = x .place; column = x .column;
 abbrev pub twinsNumbers : Twins → TwinsAnswer
 twinsNumbers r = record { refusal = r .refusal; place = r .place; column = r .column; reason = r .reason; written = r .length }
 
+-- and of a reel that is judged
+abbrev pub judgedOf : JudgeAnswer → Judged
+judgedOf x = record { refusal = x .refusal; place = x .place; column = x .column; yes = x .yes; number = x .number }
+
+abbrev pub judgeNumbers : Judged → JudgeAnswer
+judgeNumbers r = record { refusal = r .refusal; place = r .place; column = r .column; yes = r .yes; number = r .number }
+
 abbrev pub refusedRun : ℕ → ℕ → ℕ → Ran
 refusedRun number place column = record { refusal = number; place = place; column = column; length = 0; records = 0; blocks = 0 }
 
@@ -60,6 +69,10 @@ pub record RanInto (deck reel before : List ℕ) (r : Ran) (after : List ℕ) : 
 pub record TwinsInto (deck before : List ℕ) (r : Twins) (after : List ℕ) : Type 0 where
   pub answer : r ≡ twinsOf (twinsAnswer (twinsInto (length before) deck))
   pub output : after ≡ twinsAfter before (twinsInto (length before) deck)
+
+-- bhx_judge
+abbrev pub JudgedAs : List ℕ → List ℕ → List ℕ → Judged → Type 0
+JudgedAs deck ours theirs r = r ≡ judgedOf (judgeAnswer (judge deck ours theirs))
 
 -- ---- for the private functions
 

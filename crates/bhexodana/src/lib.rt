@@ -1,11 +1,11 @@
-// What users call: the plan of a deck, the plan into a table that the caller lends, the run of a deck over a reel, and the twins of a deck. Exported for C
-// and Fortran.
+// What users call: the plan of a deck, the plan into a table that the caller lends, the run of a deck over a reel, the twins of a deck, and whether a reel from
+// elsewhere is a true conversion. Exported for C and Fortran.
 use terms::Entry;
 ghost use mathlib.Core.Path.{_≡_};
 ghost use mathlib.Core.List.{_++_};
 ghost use Prim.Native.Nat.{_≤_};
 ghost use lib.ListN.{length, take, drop};
-ghost use Rattle.bhexodana.specs.Promise.{refusedRun, PlanOf, PlannedInto, RanInto, TwinsInto, fillingOf};
+ghost use Rattle.bhexodana.specs.Promise.{refusedRun, PlanOf, PlannedInto, RanInto, TwinsInto, JudgedAs, fillingOf};
 
 // What a plan answers: refusal, place, column, 1 for keeping or 0, lost place or 0, field count.
 #[repr(C)]
@@ -155,5 +155,31 @@ pub extern "C" fn bhx_twins(deck: &[u8], out: &mut [u8]) -> Twins
         column: t.column,
         reason: t.reason,
         length: t.length,
+    }
+}
+
+// What is answered of a reel from elsewhere: refusal, place, column, 1 for a true conversion or 0, and the number, from 1 in the output, of the first record that
+// disagrees or lacks a partner, or 0.
+#[repr(C)]
+pub struct Judged {
+    pub refusal: usize,
+    pub place: usize,
+    pub column: usize,
+    pub yes: usize,
+    pub number: usize,
+}
+
+// Whether theirs is a true conversion of ours by a deck of TR or TRF. Nothing is lent but to read.
+#[no_mangle]
+pub extern "C" fn bhx_judge(deck: &[u8], ours: &[u8], theirs: &[u8]) -> Judged
+    ensures { λ r. ⌜ JudgedAs (now (deck .entry)) (now (ours .entry)) (now (theirs .entry)) r ⌝ }
+{
+    let j = verdicts::judge_deck(deck, ours, theirs);
+    Judged {
+        refusal: j.refusal,
+        place: j.place,
+        column: j.column,
+        yes: j.yes,
+        number: j.number,
     }
 }
