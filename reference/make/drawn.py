@@ -1,6 +1,6 @@
-"""Plans, runs, decks and twins drawn by chance, so many of each refusal and reason; their answers are the converter's own."""
+"""Plans, runs, decks, twins and judged pairs drawn by chance, so many of each refusal, reason and verdict; their answers are the converter's own."""
 from common import *
-import keys as of_keys, plans, re, runs, spanned as of_spanned, twins as of_twins
+import judge as of_judge, keys as of_keys, plans, re, runs, spanned as of_spanned, twins as of_twins
 
 LONGEST = 2400  # a longer line is left out: the files are many lines, not large ones
 
@@ -14,16 +14,18 @@ def short_inside(words):
 
 
 def sort_of(kind, answer):
-    """The refusal; where there is none, a run's that wrote the empty reel, and the reason of twins."""
+    """The refusal; where there is none, a run's that wrote the empty reel, the reason of twins, and what was judged."""
     if kind == 'run' and answer[:4] == ['0', '0', '0', '8']:
         return 'empty'
+    if kind == 'judge' and answer[0] == '0':
+        return {'0': 'true', '1': 'first record'}.get(answer[4], 'later record')
     return 'reason ' + answer[3] if kind == 'twins' and answer[0] == '0' else answer[0]
 
 
 def drawn(seed, count, kind, wanted, chosen_if=lambda words: True):
     """The drawn cases of a kind, without names, so many of each sort as are wanted, of those that are chosen."""
     out = subprocess.run([CASES, str(seed), str(count), kind, '--large'], capture_output=True, text=True).stdout.split('\n')[:-1]
-    words_asked = {'run': 3, 'deck': 1}.get(kind, 2)
+    words_asked = {'run': 3, 'judge': 3, 'deck': 1}.get(kind, 2)
     counts, chosen = {}, []
     for line in out:
         words = line.split()
@@ -105,3 +107,12 @@ def spanned():
         + drawn(2415, 20000, 'deck', {'0': 10, '3': 40, '4': 20, '7': 30}, has_fs)
         + drawn(2420, 20000, 'twins', {'1': 2, '2': 2, '3': 4, '4': 4, '5': 4, '7': 5, '8': 8, '16': 20}, has_fs))
     return mixed(f, 'drawn-span', chosen)
+
+
+def judge():
+    """Decks, our reels and theirs."""
+    f = File('drawn_judge.txt', of_judge.HEAD + ['This file: decks and reels drawn by chance; most of theirs are what our records become, in other blocks, with or without a change.'])
+    refused = {**{str(number): 3 for number in range(1, 8)}, '8': 12, '9': 4, '10': 4, '11': 8, '12': 14, '13': 14, '14': 14, '17': 20, '18': 40}
+    is_short = lambda words: words[3] == '6' or sum(len(word) for word in words[:3]) <= 800
+    chosen = kept(f.name) or drawn(3707, 9000, 'judge', {'true': 130, 'first record': 40, 'later record': 80, **refused}, is_short)
+    return mixed(f, 'drawn-judge', chosen)

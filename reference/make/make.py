@@ -1,5 +1,5 @@
 """All case files of `crates/answers`, their names in `args` and the lines that are expected in `stdout`."""
-import columns, decks, drawn, halves, keys, manual, plans, reels, runs, spanned, twins, os
+import columns, decks, drawn, halves, judge, keys, manual, plans, reels, runs, spanned, twins, os
 from common import ROOT
 
 
@@ -12,7 +12,7 @@ def tally(subject, files, lines):
 
 of_manual = manual.make()
 files = [halves.make(), halves.emulated(), decks.lines(), decks.order(), decks.operands(), decks.limits(), columns.make(), of_manual, manual.drawn(), reels.edges(), reels.blocks(), reels.drawn(),
-         plans.make(of_manual.decks), runs.make()] + drawn.make() + [twins.make()] + drawn.twins() + [keys.make()] + drawn.keys() + [spanned.make()] + drawn.spanned()
+         plans.make(of_manual.decks), runs.make()] + drawn.make() + [twins.make()] + drawn.twins() + [keys.make()] + drawn.keys() + [spanned.make()] + drawn.spanned() + [judge.make()] + drawn.judge()
 names = set()
 stdout = []
 for f in files:
@@ -24,5 +24,6 @@ open(os.path.join(ROOT, 'args'), 'w').write('\n'.join(f.name for f in files) + '
 print(tally('plan', files, stdout))
 print(tally('run', files, stdout))
 print(tally('twins', files, stdout))
+print(tally('judge', files, stdout))
 print(len(stdout), 'cases', sum(os.path.getsize(os.path.join(ROOT, 'data', f.name)) for f in files), 'bytes of data', os.path.getsize(os.path.join(ROOT, 'stdout')), 'bytes of stdout')
 raise SystemExit(1 if any(f.differ for f in files) else 0)

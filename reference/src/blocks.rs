@@ -1,10 +1,10 @@
-//! The rule of a block in each format (refusal 12), and the records of a reel.
+//! The rule of a block in each format (refusal 12, and 18 of a reel from elsewhere), and the records of a reel.
 
 use crate::grammar::{Format, Part, Sizes};
 use crate::plan::{longest_block, record_length, Plan};
-use crate::{parts, spanned, Refused};
+use crate::{parts, spanned};
 
-/// A record of the input: its number from 1, its block's, which in FS is the one where it ends, and its data.
+/// A record of a reel: its number from 1, its block's, which in FS is the one where it ends, and its data.
 #[derive(Clone, Debug, PartialEq, Eq)]
 pub struct Record {
     pub number: usize,
@@ -46,49 +46,49 @@ pub fn worded(longest: usize, block: &[u8]) -> Option<Vec<(u8, &[u8])>> {
 }
 
 /// FF: a positive multiple of n, at most m, wherever the block stands (document 02, order 2).
-fn fixed<'a>(plan: &Plan, block: &'a [u8]) -> Option<Vec<&'a [u8]>> {
-    let (n, m) = (record_length(plan.a), longest_block(plan.a));
+fn fixed(sizes: Sizes, block: &[u8]) -> Option<Vec<&[u8]>> {
+    let (n, m) = (record_length(sizes), longest_block(sizes));
     let right = (1..=m).contains(&block.len()) && block.len().is_multiple_of(n);
     right.then(|| block.chunks(n).collect())
 }
 
 /// Keys: the block is one record, the key and the data behind it (document 02, order 5).
-fn keyed<'a>(plan: &Plan, block: &'a [u8]) -> Option<Vec<&'a [u8]>> {
-    let (key, data) = (parts::length(plan.a, Part::Key), parts::length(plan.a, Part::Data));
+fn keyed(sizes: Sizes, block: &[u8]) -> Option<Vec<&[u8]>> {
+    let (key, data) = (parts::length(sizes, Part::Key), parts::length(sizes, Part::Data));
     (block.len() == key + data).then(|| vec![block])
 }
 
-/// FV: the third byte of each record's word is zero; with TF or TRF its data is at least A's n.
-fn variable<'a>(plan: &Plan, block: &'a [u8]) -> Option<Vec<&'a [u8]>> {
-    let records = worded(longest_block(plan.a), block)?;
-    let shortest = if plan.selects() { record_length(plan.a) } else { 1 };
+/// FV: the third byte of each record's word is zero; with TF or TRF its data is at least n.
+fn variable(selects: bool, sizes: Sizes, block: &[u8]) -> Option<Vec<&[u8]>> {
+    let records = worded(longest_block(sizes), block)?;
+    let shortest = if selects { record_length(sizes) } else { 1 };
     let right = records.iter().all(|(third, data)| *third == 0 && data.len() >= shortest);
     right.then(|| records.into_iter().map(|(_, data)| data).collect())
 }
 
 /// FU: 1 to g bytes; the block is the record.
-fn undefined<'a>(plan: &Plan, block: &'a [u8]) -> Option<Vec<&'a [u8]>> {
-    (1..=longest_block(plan.a)).contains(&block.len()).then(|| vec![block])
+fn undefined(sizes: Sizes, block: &[u8]) -> Option<Vec<&[u8]>> {
+    (1..=longest_block(sizes)).contains(&block.len()).then(|| vec![block])
 }
 
-/// The records of blocks each of which is asked by itself.
-fn one_by_one<'a>(blocks: &[&'a [u8]], rule: impl Fn(&'a [u8]) -> Option<Vec<&'a [u8]>>) -> Result<Vec<Record>, Refused> {
+/// The records of blocks each of which is asked by itself, or the number of the first that breaks its rule.
+fn one_by_one<'a>(blocks: &[&'a [u8]], rule: impl Fn(&'a [u8]) -> Option<Vec<&'a [u8]>>) -> Result<Vec<Record>, usize> {
     let mut all = Vec::new();
     for (block, bytes) in (1..).zip(blocks) {
-        for data in rule(bytes).ok_or(Refused::at(12, block))? {
+        for data in rule(bytes).ok_or(block)? {
             all.push(Record { number: all.len() + 1, block, data: data.to_vec() });
         }
     }
     Ok(all)
 }
 
-/// The records of all blocks in order, or refusal 12 at the first block that breaks its rule.
-pub fn records(plan: &Plan, blocks: &[&[u8]]) -> Result<Vec<Record>, Refused> {
+/// The records of all blocks in order, or the number of the first block that breaks its rule: of our input under A's numbers, of a reel from elsewhere under B's.
+pub fn records(plan: &Plan, sizes: Sizes, blocks: &[&[u8]]) -> Result<Vec<Record>, usize> {
     match plan.format {
-        Format::FF if matches!(plan.a, Sizes::Keyed(..)) => one_by_one(blocks, |block| keyed(plan, block)),
-        Format::FF => one_by_one(blocks, |block| fixed(plan, block)),
-        Format::FV => one_by_one(blocks, |block| variable(plan, block)),
-        Format::FU => one_by_one(blocks, |block| undefined(plan, block)),
-        Format::FS => spanned::records(longest_block(plan.a), blocks),
+        Format::FF if matches!(sizes, Sizes::Keyed(..)) => one_by_one(blocks, |block| keyed(sizes, block)),
+        Format::FF => one_by_one(blocks, |block| fixed(sizes, block)),
+        Format::FV => one_by_one(blocks, |block| variable(plan.selects(), sizes, block)),
+        Format::FU => one_by_one(blocks, |block| undefined(sizes, block)),
+        Format::FS => spanned::records(longest_block(sizes), blocks),
     }
 }

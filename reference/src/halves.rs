@@ -66,6 +66,21 @@ fn written<H: Copy>(field: &Field, record: Parts<H>, made: impl Fn(u8) -> H) -> 
     }
 }
 
+/// What stands in the halves `output` once the fields were written over it in order.
+pub fn written_over<H: Copy>(
+    mut output: Vec<H>,
+    fields: &[Field],
+    record: Parts<H>,
+    made: impl Fn(u8) -> H + Copy,
+) -> Vec<H> {
+    for field in fields {
+        let start = 2 * (field.t - 1);
+        let part = &mut output[start..start + 2 * field.output];
+        part.copy_from_slice(&written(field, record, made));
+    }
+    output
+}
+
 /// The first `n` bytes of the output record: hex 40, then the fields in order.
 pub fn finished<H: Copy>(
     fields: &[Field],
@@ -73,11 +88,6 @@ pub fn finished<H: Copy>(
     record: Parts<H>,
     made: impl Fn(u8) -> H + Copy,
 ) -> Vec<H> {
-    let mut output: Vec<H> = (0..n).flat_map(|_| [made(4), made(0)]).collect();
-    for field in fields {
-        let start = 2 * (field.t - 1);
-        let part = &mut output[start..start + 2 * field.output];
-        part.copy_from_slice(&written(field, record, made));
-    }
-    output
+    let blanks = (0..n).flat_map(|_| [made(4), made(0)]).collect();
+    written_over(blanks, fields, record, made)
 }

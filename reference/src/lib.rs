@@ -1,4 +1,4 @@
-//! A second writing of document 01 ("the paper") and orders 1 to 3, 5 and 6 of document 02, to compare other definitions with.
+//! A second writing of document 01 ("the paper") and orders 1 to 3 and 5 to 7 of document 02, to compare other definitions with.
 //!
 //! One module for each part of the paper. Nothing here is made to be fast.
 
@@ -9,6 +9,7 @@ pub mod deck;
 pub mod filling;
 pub mod grammar;
 pub mod halves;
+pub mod judge;
 pub mod limits;
 pub mod parts;
 pub mod permitted;
@@ -19,6 +20,7 @@ pub mod spanned;
 pub mod twins;
 
 pub use halves::{pack, unpack};
+pub use judge::{judge, Judged};
 pub use plan::{plan, plan_into, Entry, Planned};
 pub use run::{run, Ran};
 pub use twins::{twins, Twins};

@@ -53,7 +53,7 @@ fn field_outside(fields: &[Field], a: Sizes, b: Sizes) -> Option<usize> {
 }
 
 /// The plan of what is asked, or refusal 9 or 10.
-fn judge(asked: &Asked) -> Result<Plan, Refused> {
+fn of_asked(asked: &Asked) -> Result<Plan, Refused> {
     let all = || items(&asked.fs).map(|(_, item)| item);
     let field = |item| if let Item::Field(field) = item { Some(field) } else { None };
     let fields: Vec<Field> = all().filter_map(field).collect();
@@ -67,12 +67,17 @@ fn judge(asked: &Asked) -> Result<Plan, Refused> {
     Ok(Plan { mode, format, a, b, first, fields, cv, values })
 }
 
+/// What a deck asks for, or one of the refusals 1 to 7.
+pub fn asked(deck: &[u8]) -> Result<Asked, Refused> {
+    let cards = deck::read(deck)?;
+    limits::read(&cards, &grammar::read(&cards)?)
+}
+
 /// The plan of a deck, or one of the refusals 1 to 10.
 pub fn accepted(deck: &[u8]) -> Result<Plan, Refused> {
-    let cards = deck::read(deck)?;
-    let asked = limits::read(&cards, &grammar::read(&cards)?)?;
+    let asked = asked(deck)?;
     combinations::check(&asked)?;
-    judge(&asked)
+    of_asked(&asked)
 }
 
 /// The lost place of a plan that loses: the lowest half missing, or 2n for the tail.

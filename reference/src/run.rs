@@ -20,7 +20,7 @@ pub struct Ran {
 
 /// The records from R on, or refusal 12.
 fn taken(plan: &Plan, blocks: &[&[u8]]) -> Result<Vec<Record>, Refused> {
-    let all = blocks::records(plan, blocks)?;
+    let all = blocks::records(plan, plan.a, blocks).map_err(|block| Refused::at(12, block))?;
     Ok(all.into_iter().filter(|record| record.number >= plan.first).collect())
 }
 
@@ -46,8 +46,11 @@ fn space(plan: &Plan, record: &Record) -> usize {
     word_length(plan) + output
 }
 
-/// The first record that exceeds a block of B by itself, or in TF overfills its block.
+/// The first record that exceeds a block of B by itself, or in TF overfills its block. In FS records are cut, so that none does.
 fn overfills(plan: &Plan, taken: &[Record]) -> Option<usize> {
+    if plan.format == Format::FS {
+        return None;
+    }
     let limit = longest_block(plan.b);
     let (mut block, mut filled) = (0, 0);
     for record in taken {
@@ -61,6 +64,15 @@ fn overfills(plan: &Plan, taken: &[Record]) -> Option<usize> {
         }
     }
     None
+}
+
+/// The blocks of our input and its records from R on, all of which a plan converts; or one of the refusals 11 to 14.
+pub fn convertible<'a>(plan: &Plan, input: &'a [u8]) -> Result<(Vec<&'a [u8]>, Vec<Record>), Refused> {
+    let blocks = reel::read(input).ok_or(Refused::at(11, 0))?;
+    let taken = taken(plan, &blocks)?;
+    refuse_at(13, not_permitted(plan, &taken))?;
+    refuse_at(14, overfills(plan, &taken))?;
+    Ok((blocks, taken))
 }
 
 /// The records of each output block, in order.
@@ -97,19 +109,20 @@ fn with_word(plan: &Plan, bytes: Vec<u8>) -> Vec<u8> {
     if plan.format == Format::FV { behind_word(0, &bytes) } else { bytes }
 }
 
+/// What follows B's n bytes of a record's output: with CV the input's data past A's n, else nothing.
+pub fn tail<'a>(plan: &Plan, data: &'a [u8]) -> &'a [u8] {
+    if plan.cv { &data[record_length(plan.a)..] } else { &[] }
+}
+
 /// The data of a record's output.
-fn converted(plan: &Plan, data: &[u8]) -> Vec<u8> {
+pub fn converted(plan: &Plan, data: &[u8]) -> Vec<u8> {
     if !plan.selects() {
         return data.to_vec();
     }
     let input = halves::halves(data);
     let record = parts::halves_of(plan.a, &input);
     let output = halves::finished(&plan.fields, record_length(plan.b), record, |value| value);
-    let mut bytes = halves::bytes(&output);
-    if plan.cv {
-        bytes.extend(&data[record_length(plan.a)..]);
-    }
-    bytes
+    [&halves::bytes(&output)[..], tail(plan, data)].concat()
 }
 
 /// The output reel itself.
@@ -124,7 +137,7 @@ fn has_room(length: usize, room: usize) -> Result<(), Refused> {
     refuse_at(15, (length > room.min(reel::LONGEST)).then_some(length))
 }
 
-/// The finished run in FS, or refusal 15: TC leaves the blocks, TR fills others. Records are cut, so that none exceeds a block.
+/// The finished run in FS, or refusal 15: TC leaves the blocks, TR fills others.
 fn finish_spanned(plan: &Plan, blocks: &[&[u8]], taken: &[Record], room: usize) -> Result<Ran, Refused> {
     let copied = || blocks.iter().map(|block| block.to_vec()).collect();
     let output = if plan.mode == Mode::TC { copied() } else { filling::filled(longest_block(plan.b), taken) };
@@ -136,13 +149,10 @@ fn finish_spanned(plan: &Plan, blocks: &[&[u8]], taken: &[Record], room: usize) 
 /// The finished run, or its refusal.
 fn finish(deck: &[u8], input: &[u8], room: usize) -> Result<Ran, Refused> {
     let plan = accepted(deck)?;
-    let blocks = reel::read(input).ok_or(Refused::at(11, 0))?;
-    let taken = taken(&plan, &blocks)?;
+    let (blocks, taken) = convertible(&plan, input)?;
     if plan.format == Format::FS {
         return finish_spanned(&plan, &blocks, &taken, room);
     }
-    refuse_at(13, not_permitted(&plan, &taken))?;
-    refuse_at(14, overfills(&plan, &taken))?;
     let output = blocked(&plan, &taken);
     let length = output_length(&plan, &output);
     has_room(length, room)?;

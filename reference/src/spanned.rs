@@ -1,7 +1,6 @@
-//! Spanned records, format FS (document 02, order 6): the records that the segments of all blocks make, or refusal 12.
+//! Spanned records, format FS (document 02, order 6): the records that the segments of all blocks make, or the block that is refused.
 
 use crate::blocks::{worded, Record};
-use crate::{refuse_at, Refused};
 
 /// A record's data are at most this many bytes.
 pub const LONGEST: usize = 32_752;
@@ -37,7 +36,7 @@ struct Segment<'a> {
     data: &'a [u8],
 }
 
-/// The segments of a block by itself; nothing if a word in it is bad or it is longer than A says.
+/// The segments of a block by itself; nothing if a word in it is bad or it is longer than it may be.
 fn in_block<'a>(longest: usize, block: usize, bytes: &'a [u8]) -> Option<Vec<Segment<'a>>> {
     let segment = |(third, data)| Some(Segment { block, code: Code::of(third)?, data });
     worded(longest, bytes)?.into_iter().map(segment).collect()
@@ -76,15 +75,17 @@ fn joined(number: usize, record: &[Segment]) -> Record {
     Record { number, block: record[record.len() - 1].block, data }
 }
 
-/// The records of blocks of at most so many bytes, or refusal 12 at the lowest block with a fault. Segments behind a fault may be cut into the wrong records, but what is found
+/// The records of blocks of at most so many bytes, or the lowest block with a fault. Segments behind a fault may be cut into the wrong records, but what is found
 /// wrong with those stands in the same block or in a later one.
-pub fn records(longest: usize, blocks: &[&[u8]]) -> Result<Vec<Record>, Refused> {
+pub fn records(longest: usize, blocks: &[&[u8]]) -> Result<Vec<Record>, usize> {
     let read: Vec<Option<Vec<Segment>>> =
         (1..).zip(blocks).map(|(number, bytes)| in_block(longest, number, bytes)).collect();
     let bad = read.iter().position(Option::is_none).map(|index| index + 1);
     let segments: Vec<Segment> = read.into_iter().flatten().flatten().collect();
     let long = by_record(&segments).find_map(too_long);
     let faults = [bad, out_of_turn(&segments), long, unfinished(&segments, blocks.len())];
-    refuse_at(12, faults.into_iter().flatten().min())?;
-    Ok((1..).zip(by_record(&segments)).map(|(number, record)| joined(number, record)).collect())
+    match faults.into_iter().flatten().min() {
+        Some(block) => Err(block),
+        None => Ok((1..).zip(by_record(&segments)).map(|(number, record)| joined(number, record)).collect()),
+    }
 }

@@ -640,7 +640,7 @@ fn drawn_records(chance: &mut Chance, longest: usize) -> Vec<blocks::Record> {
 fn data_of(format: &str, g: usize, input: &[u8]) -> Vec<Vec<u8>> {
     let plan = plan::accepted(format!("// U TC,{format},A=({g}),B=({g})\n// END").as_bytes()).expect("a plan");
     let blocks = reel::read(input).expect("a reel");
-    blocks::records(&plan, &blocks).expect("records").into_iter().map(|record| record.data).collect()
+    blocks::records(&plan, plan.a, &blocks).expect("records").into_iter().map(|record| record.data).collect()
 }
 
 /// What is written reads back; written again it is the same, from whatever blocks; a block is left with fewer than 5 bytes, but the last.
@@ -680,6 +680,198 @@ fn variable_reels_are_spanned_reels() {
         let copied = |format| run(format!("// U TC,{format},A=(40),B=(40)\n// END").as_bytes(), &input, 65_536);
         assert_eq!(copied("FS"), copied("FV"));
     }
+}
+
+/// A reel of blocks in hex, with a bar between.
+fn reel_of(blocks: &str) -> Vec<u8> {
+    let bytes: Vec<Vec<u8>> = blocks.split('|').map(hex).filter(|block| !block.is_empty()).collect();
+    reel::write(&bytes)
+}
+
+/// Yes and the number of a judgement that is not refused.
+fn verdict(deck: &str, ours: &[u8], theirs: &[u8]) -> (usize, usize) {
+    let judged = judge(deck.as_bytes(), ours, theirs);
+    assert_eq!((judged.refusal, judged.place, judged.column), (0, 0, 0), "{deck}");
+    (judged.yes, judged.number)
+}
+
+const TRUE: (usize, usize) = (1, 0);
+
+fn not_judged(deck: &str, ours: &[u8], theirs: &[u8], refusal: usize, place: usize, column: usize) {
+    assert_eq!(judge(deck.as_bytes(), ours, theirs), Judged { refusal, place, column, ..Judged::default() }, "{deck}");
+}
+
+#[test]
+fn what_the_sample_writes_is_true() {
+    let outputs = ["C1C2C3C401234C", "C1C2C3C409234C"];
+    let judged = |blocks: &str| verdict(FIRST, &hex(P7), &reel_of(blocks));
+    assert_eq!(judged(&outputs.join("|")), TRUE);
+    assert_eq!(judged(&format!("{}|{}", outputs[1], outputs[0])), (0, 1));
+    assert_eq!(judged(&format!("{}|{}", outputs[0], outputs[0])), (0, 2));
+    assert_eq!(judged("C1C2C3C401234C|C1C2C3C409234F"), (0, 2));
+    assert_eq!(judged(outputs[0]), (0, 2));
+    assert_eq!(judged(""), (0, 1));
+    assert_eq!(verdict(SIX, &hex(P7), &reel_of("C1C2C3C4234C|C1C2C3C4234C")), TRUE);
+    not_judged(FIRST, &hex(P7), &reel_of(&outputs.concat()), 18, 1, 0);
+    not_judged(FIRST, &hex(P7), &reel_of("C1C2C3C401234C|C1C2C3C4234C"), 18, 2, 0);
+}
+
+#[test]
+fn counts_that_differ() {
+    let deck = "// U TR,FF,A=(1,2),B=(1,3)\n// END\n";
+    let judged = |ours: &str, theirs: &str| verdict(deck, &reel_of(ours), &reel_of(theirs));
+    assert_eq!(judged("C1C2|C3C4|C5", "C1C2C3|C4C5"), TRUE);
+    assert_eq!(judged("C1C2|C3C4|C5", "C1|C2C3|C4|C5"), TRUE);
+    assert_eq!(judged("C1C2|C3C4|C5", "C1C2C3"), (0, 4));
+    assert_eq!(judged("C1C2|C3", "C1C2C3|C4C5"), (0, 4));
+    assert_eq!(judged("C1C2|C3", "C1C2|C4|C5"), (0, 3));
+    assert_eq!(judged("C1C1|C1", "C1C1"), (0, 3));
+    assert_eq!(judged("", "C1"), (0, 1));
+    assert_eq!(judged("C1", ""), (0, 1));
+    assert_eq!(judged("", ""), TRUE);
+}
+
+#[test]
+fn positions_that_nothing_writes() {
+    let deck = "// U TRF,FF,A=(3,3),B=(6,6)\n// FS 1,1,2/2,(P,2,2),4/1,1,4\n// END\n";
+    let judged = |theirs: &str| verdict(deck, &reel_of("C1F2C3"), &reel_of(theirs));
+    assert_eq!(judged("40C140C13C40"), TRUE);
+    assert_eq!(judged("00C1FFC13C99"), TRUE);
+    for wrong in ["40C240C13C40", "404040C13C40", "40C140023C40", "40C140C13F40", "40C140C12C40", "40C140404040"] {
+        assert_eq!(judged(wrong), (0, 1), "{wrong}");
+    }
+}
+
+#[test]
+fn fills_zones_and_signs_are_written() {
+    let judged = |step: char, ours: &str, theirs: &str| {
+        verdict(&format!("// U TRF,FF,A=(1,1),B=(3,3)\n// FS 1,({step},1,3),1\n// END"), &reel_of(ours), &reel_of(theirs))
+    };
+    assert_eq!(judged('P', "C4", "00004C"), TRUE);
+    for wrong in ["10004C", "01004C", "00014C", "40004C", "00004F", "00005C"] {
+        assert_eq!(judged('P', "C4", wrong), (0, 1), "{wrong}");
+    }
+    assert_eq!(judged('U', "4C", "F0F0C4"), TRUE);
+    for wrong in ["40F0C4", "E0F0C4", "F1F0C4", "F0F1C4", "F0F0F4", "F0F0C5"] {
+        assert_eq!(judged('U', "4C", wrong), (0, 1), "{wrong}");
+    }
+}
+
+/// A block of FV of these records in hex, with a blank between.
+fn variable(records: &str) -> Vec<u8> {
+    let words: Vec<u8> = records.split(' ').flat_map(|data| blocks::behind_word(0, &hex(data))).collect();
+    blocks::behind_word(0, &words)
+}
+
+#[test]
+fn tails_and_lengths() {
+    let deck = |cv: &str| format!("// U TRF,FV,A=(2,30),B=(3,30)\n// FS 1,2,2{cv}\n// END\n");
+    let ours = reel::write(&[variable("C1C2 C3C4D1D2")]);
+    let judged = |cv: &str, theirs: &str| verdict(&deck(cv), &ours, &reel::write(&[variable(theirs)]));
+    assert_eq!(judged("", "40C1C2 00C3C4"), TRUE);
+    assert_eq!(judged("", "40C1C2 40C3C4D1D2"), (0, 2));
+    assert_eq!(judged("", "40C1C240 40C3C4"), (0, 1));
+    assert_eq!(judged("/CV", "40C1C2 FFC3C4D1D2"), TRUE);
+    assert_eq!(judged("/CV", "40C1C2 40C3C4D1D3"), (0, 2));
+    assert_eq!(judged("/CV", "40C1C2 40C3C4D1"), (0, 2));
+    assert_eq!(judged("/CV", "40C1C2 40C3C4D1D240"), (0, 2));
+    assert_eq!(judged("/CV", "40C1C2 40C3C4"), (0, 2));
+    not_judged(&deck(""), &ours, &reel::write(&[variable("40C1C2"), variable("40C3")]), 18, 2, 0);
+    let carried = |theirs: &str| verdict("// U TR,FV,A=(30),B=(20)\n// END", &ours, &reel::write(&[variable(theirs)]));
+    assert_eq!(carried("C1C2 C3C4D1D2"), TRUE);
+    assert_eq!(carried("C1C2 C3C4D1"), (0, 2));
+    assert_eq!(carried("C1 C3C4D1D2"), (0, 1));
+}
+
+#[test]
+fn judged_from_r_on() {
+    let deck = |r| format!("// U TR,FF,A=(1,9),B=(1,9),R{r}\n// END");
+    let judged = |r, theirs: &str| verdict(&deck(r), &reel_of("C1C2C3C4"), &reel_of(theirs));
+    assert_eq!(judged(3, "C3C4"), TRUE);
+    assert_eq!(judged(3, "C4C4"), (0, 1));
+    assert_eq!(judged(3, "C3C5"), (0, 2));
+    assert_eq!(judged(3, "C1C2C3C4"), (0, 1));
+    assert_eq!(judged(5, ""), TRUE);
+    assert_eq!(judged(5, "C5"), (0, 1));
+    let packs = |r| format!("// U TRF,FF,A=(1,9),B=(1,9),R{r}\n// FS 1,(P,1,1),1\n// END");
+    assert_eq!(verdict(&packs(2), &reel_of("00C2"), &reel_of("2C")), TRUE);
+    not_judged(&packs(1), &reel_of("00C2"), &reel_of("002C"), 13, 1, 0);
+}
+
+#[test]
+fn refusals_before_a_judgement() {
+    let packs = "// U TRF,FF,A=(1,2),B=(1,2)\n// FS 1,(P,1,1),1\n// END";
+    let (good, out) = (reel_of("C1C2"), reel_of("1C2C"));
+    let no_reel = &out[..out.len() - 1];
+    not_judged(packs, &[], no_reel, 11, 0, 0);
+    not_judged(packs, &reel_of("C1C2C3"), no_reel, 12, 1, 0);
+    not_judged(packs, &reel_of("C1|0000"), no_reel, 13, 2, 0);
+    not_judged(packs, &good, no_reel, 17, 0, 0);
+    not_judged(packs, &good, &[], 17, 0, 0);
+    not_judged(packs, &good, &reel_of("00|1C2C3C"), 18, 2, 0);
+    let narrow = "// U TR,FV,A=(30),B=(10)\n// END";
+    let long = reel::write(&[variable("C1 C1C2C3")]);
+    not_judged(narrow, &long, no_reel, 14, 2, 0);
+    not_judged(narrow, &long, &long, 14, 2, 0);
+    not_judged(narrow, &reel::write(&[variable("C1 C2")]), &reel::write(&[variable("C2"), variable("C1 C2")]), 18, 2, 0);
+}
+
+#[test]
+fn only_tr_and_trf_are_judged() {
+    let refused = |cards: &str, number, place, column| not_judged(&format!("{cards}\n// END"), &[], &[], number, place, column);
+    refused("// U TC,FF,A=(1,1),B=(1,1)", 8, 1, 0);
+    refused("// U TC,FF,A=(1,1),B=(1,1)\n// FS 1,1,1", 8, 1, 0);
+    refused("// U TC,FS,A=(9),B=(9)\n// FS CV", 8, 1, 0);
+    refused("// U TF,FF,A=(1,1),B=(1,1)\n// FS 1,1,1", 8, 1, 0);
+    refused("// U TF,FF,A=(1,1),B=(1,1)\n// FS 1,1,1\n// FS CV", 8, 1, 0);
+    refused("// U TF,FF,A=(1,1),B=(1,1)\n// FS 1,2,1", 8, 1, 0);
+    refused("// U TF,FF,A=(1,1),B=(1,1),R0\n// FS 1,1,1", 7, 1, 29);
+    refused("// U TC,TC", 4, 1, 9);
+    refused("// U TC,x", 3, 1, 9);
+    refused("// U TR,FF,A=(1,1),B=(1,1)\n// FS 1,1,1", 8, 2, 0);
+    refused("// U TRF,FF,A=(1,1),B=(1,1)\n// FS 1,1,1\n// FS CV", 8, 3, 0);
+    refused("// U TRF,FF,A=(1,1),B=(1,1)\n// FS 1,1,1/1,2,1", 9, 2, 0);
+    refused("// U TRF,FF,A=(2,2),B=(3,3)\n// FS 1,(P,2,2),1/1,(U,1,1),3", 10, 0, 0);
+    refused("// U TRF,FF,A=(1,1),B=(1,1)\n// FS 1,1,1", 11, 0, 0);
+}
+
+#[test]
+fn judged_with_keys() {
+    let deck = keyed("K=2,D=4", "6,12", &["1,(P,4,3),4/(K,1),2,1"]);
+    let ours = reel_of("C1C2F1F2F3C4|C3C4F5F6F7D8");
+    assert_eq!(verdict(&deck, &ours, &reel_of("C1C24001234C C3C44005678D")), TRUE);
+    assert_eq!(verdict(&deck, &ours, &reel_of("C1C20001234C|C3C4FF05678D")), TRUE);
+    assert_eq!(verdict(&deck, &ours, &reel_of("C1C24001234C|C3C54005678D")), (0, 2));
+    not_judged(&deck, &reel_of("C1C2F1F2F3C4 C3C4F5F6F7D8"), &[], 12, 1, 0);
+}
+
+#[test]
+fn judged_records_longer_than_a_block() {
+    let deck = spanned("TR", 99, 16, 1);
+    let ours = reel::write(&[span(&[(0, &[7; 20]), (0, &[9; 3])])]);
+    let judged = |blocks: &[Vec<u8>]| verdict(&deck, &ours, &reel::write(blocks));
+    let written = run(deck.as_bytes(), &ours, 65_536).reel;
+    assert_eq!(verdict(&deck, &ours, &written), TRUE);
+    let three = span(&[(0, &[9; 3])]);
+    assert_eq!(judged(&[span(&[(1, &[7; 2]), (3, &[7; 2])]), span(&[(3, &[7; 8])]), span(&[(2, &[7; 8])]), three.clone()]), TRUE);
+    assert_eq!(judged(&[span(&[(1, &[7; 8])]), span(&[(3, &[7; 8])]), span(&[(2, &[7; 3])]), three.clone()]), (0, 1));
+    assert_eq!(judged(&[span(&[(1, &[7; 8])]), span(&[(3, &[7; 8])]), span(&[(2, &[7; 4])])]), (0, 2));
+    let refused = |blocks: &[Vec<u8>], place| not_judged(&deck, &ours, &reel::write(blocks), 18, place, 0);
+    refused(&[span(&[(1, &[7; 8])]), span(&[(3, &[7; 8])])], 2);
+    refused(&[span(&[(1, &[7; 8])]), three.clone()], 2);
+    refused(&[span(&[(1, &[7; 8])]), span(&[(2, &[7; 9])])], 2);
+}
+
+/// Document 02 has no 15 for it: whole records in blocks of their own take less room than ours, which are cut.
+#[test]
+fn a_true_reel_shorter_than_ours() {
+    let records: Vec<Vec<u8>> = (0..16).map(|at| blocks::behind_word(0, &vec![at; 4_083])).collect();
+    let ours: Vec<Vec<u8>> = records.chunks(8).map(|some| blocks::behind_word(0, &some.concat())).collect();
+    let theirs: Vec<Vec<u8>> = records.iter().map(|record| blocks::behind_word(0, record)).collect();
+    let (deck, ours, theirs) = (spanned("TR", 32_760, 4_096, 1), reel::write(&ours), reel::write(&theirs));
+    let ran = run(deck.as_bytes(), &ours, 65_536);
+    assert_eq!((ran.refusal, ran.place, theirs.len()), (15, 65_588, 65_528));
+    assert_eq!(verdict(&deck, &ours, &theirs), TRUE);
 }
 
 #[test]

@@ -10,9 +10,11 @@
 //                                     ROOM were lent; and the reel written, `..` where it has over 64 bytes, `-` where the run was refused
 //   NAME twins DECK ROOM              refusal, place, column, reason and length; the digest of an output of 70,000 bytes of which the first ROOM were
 //                                     lent; and the two records, `..` where they have over 64 bytes, `-` where the call was refused
+//   NAME judge DECK OURS THEIRS       refusal, place, column, yes and number
 // Bytes are hex digits, or xCOUNT:HH for COUNT bytes HH, in parts joined by `+`; `-` is no byte.
 mod asked;
 mod digest;
+mod judge;
 mod plan;
 mod reel;
 mod run;
@@ -121,6 +123,17 @@ fn deck_and_records(words: &[u8]) {
     twins::tell(&deck[..n], &mut out, lent);
 }
 
+fn deck_and_two_reels(words: &[u8]) {
+    let rest = text::after(words, b' ');
+    let mut deck = room();
+    let n = text::decode(text::before(words, b' '), &mut deck);
+    let mut ours = room();
+    let m = text::decode(text::before(rest, b' '), &mut ours);
+    let mut theirs = room();
+    let k = text::decode(text::after(rest, b' '), &mut theirs);
+    judge::tell(&deck[..n], &ours[..m], &theirs[..k]);
+}
+
 fn case(line: &[u8]) {
     say::words(text::before(line, b' '));
     say::words(b" ");
@@ -139,6 +152,8 @@ fn case(line: &[u8]) {
         deck_and_output(words);
     } else if same(subject, b"twins") {
         deck_and_records(words);
+    } else if same(subject, b"judge") {
+        deck_and_two_reels(words);
     } else {
         say::words(b"is no case");
     }

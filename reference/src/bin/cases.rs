@@ -12,6 +12,8 @@ mod columns;
 mod draft;
 #[path = "../cases/faults.rs"]
 mod faults;
+#[path = "../cases/foreign.rs"]
+mod foreign;
 #[path = "../cases/large.rs"]
 mod large;
 #[cfg(test)]
@@ -25,12 +27,15 @@ mod segments;
 mod text;
 #[path = "../cases/twins.rs"]
 mod twins;
+#[cfg(test)]
+#[path = "../cases/verdicts.rs"]
+mod verdicts;
 
 use std::collections::BTreeMap;
 use std::io::Write;
 
 use chance::Chance;
-use reference::{pack, plan, plan_into, run, unpack, Entry, Refused, Twins};
+use reference::{judge, pack, plan, plan_into, run, unpack, Entry, Judged, Refused, Twins};
 
 /// What is asked, what is answered, the refusal number in it, and what it shows.
 struct Case {
@@ -134,6 +139,18 @@ fn twins_case(chance: &mut Chance, aim: usize, large: bool) -> Case {
     Case { asked, answered, refusal, marks }
 }
 
+fn judge_case(chance: &mut Chance, aim: usize, large: bool) -> Case {
+    let pair = foreign::pair(chance, aim, large);
+    let judged = judge(&pair.deck, &pair.ours, &pair.theirs);
+    let mut marks = foreign::marks(&pair, &judged);
+    let foreign::Pair { deck, ours, theirs } = pair;
+    marks.extend((aim::heavy(&deck) || ours.len() > 400 || theirs.len() > 400).then_some("heavy"));
+    let Judged { refusal, place, column, yes, number } = judged;
+    let asked = format!("{} {} {}", hex(&deck), hex(&ours), hex(&theirs));
+    let answered = format!("{refusal} {place} {column} {yes} {number}");
+    Case { asked, answered, refusal, marks }
+}
+
 fn half_case(chance: &mut Chance) -> Case {
     let packs = chance.one_in(2);
     let (n, m) = (chance.range(1, 16), chance.range(1, 16));
@@ -163,6 +180,11 @@ fn any_aim(chance: &mut Chance, kind: &str) -> usize {
         let refused = [1, 2, 3, 4, 5, 6, 7, 8, 9, 10, 15, 15, 16, 16, 16];
         return if chance.one_in(3) { chance.pick(&refused) } else { 0 };
     }
+    if kind == "judge" {
+        let of_deck = [1, 2, 3, 4, 5, 6, 7, 8, 8, 8, 9, 10, 16];
+        let of_reels = [11, 12, 12, 13, 13, 13, 14, 14, 14, 17, 17, 17, 18, 18, 18, 18, 18, 18, 18];
+        return if chance.one_in(3) { chance.pick(&[&of_deck[..], &of_reels[..]].concat()) } else { 0 };
+    }
     if chance.below(100) < 42 {
         return 0;
     }
@@ -181,6 +203,7 @@ fn case(chance: &mut Chance, kind: &str, large: bool) -> Case {
         "plan" => plan_case,
         "run" => run_case,
         "twins" => twins_case,
+        "judge" => judge_case,
         _ => deck_case,
     };
     if large && chance.one_in(10) {
@@ -219,8 +242,8 @@ fn main() {
         std::env::args().skip(1).partition(|argument| argument.starts_with("--"));
     let numbers = (plain.first().and_then(|s| s.parse().ok()), plain.get(1).and_then(|s| s.parse().ok()));
     let kind = plain.get(2).map_or("", String::as_str);
-    let ((Some(seed), Some(count)), "plan" | "run" | "deck" | "twins" | "half") = (numbers, kind) else {
-        eprintln!("cases SEED COUNT plan|run|deck|twins|half [--tally] [--large] [--ask]");
+    let ((Some(seed), Some(count)), "plan" | "run" | "deck" | "twins" | "judge" | "half") = (numbers, kind) else {
+        eprintln!("cases SEED COUNT plan|run|deck|twins|judge|half [--tally] [--large] [--ask]");
         std::process::exit(2);
     };
     let count: usize = count;

@@ -1,9 +1,9 @@
 //! A case drawn with an aim: the refusal number its faults are meant to give, 0 for none.
 
 use reference::grammar::{Format, Item, Mode, Part, Sizes, Step};
-use reference::limits::{items, Asked};
-use reference::plan::{accepted, longest_block, record_length, Plan};
-use reference::{deck, grammar, limits, run};
+use reference::limits::items;
+use reference::plan::{accepted, asked, longest_block, record_length, Plan};
+use reference::run;
 
 use crate::chance::Chance;
 use crate::draft::{self, Draft, Piece};
@@ -152,15 +152,9 @@ pub fn room(chance: &mut Chance, deck: &[u8], reel: &[u8], aim: usize) -> usize 
     }
 }
 
-/// What a deck asks for, where refusals 1 to 7 do not stop it.
-fn asked(text: &[u8]) -> Option<Asked> {
-    let cards = deck::read(text).ok()?;
-    limits::read(&cards, &grammar::read(&cards).ok()?).ok()
-}
-
-/// Whether a judge would have to walk over very many halves for this deck.
+/// Whether a plan would have to walk over very many halves for this deck.
 pub fn heavy(text: &[u8]) -> bool {
-    let Some(asked) = asked(text) else { return false };
+    let Ok(asked) = asked(text) else { return false };
     let long = |sizes| record_length(sizes) > 64;
     let early = accepted(text).err().is_some_and(|refused| refused.number < 10);
     let selects = matches!(asked.mode, Mode::TF | Mode::TRF);
@@ -169,7 +163,7 @@ pub fn heavy(text: &[u8]) -> bool {
 
 /// Names of what a deck shows, for the tally.
 pub fn marks(text: &[u8]) -> Vec<&'static str> {
-    let Some(asked) = asked(text) else { return vec![] };
+    let Ok(asked) = asked(text) else { return vec![] };
     if accepted(text).is_err() {
         return vec![];
     }

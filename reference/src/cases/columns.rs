@@ -1,6 +1,7 @@
 //! Decks with faults that have a column: wrong operands, doubled parameters and CVs, numbers outside their limits.
 
-use reference::{deck, grammar, limits, Refused};
+use reference::plan::asked;
+use reference::Refused;
 
 use crate::chance::Chance;
 use crate::draft::{self, anywhere_in, Draft, Lengths};
@@ -85,8 +86,7 @@ pub fn deck(chance: &mut Chance, aim: usize) -> Vec<u8> {
 
 /// The refusal of a deck's cards, 1 to 7.
 pub fn refused(text: &[u8]) -> Option<Refused> {
-    let read = deck::read(text).and_then(|cards| limits::read(&cards, &grammar::read(&cards)?));
-    read.err()
+    asked(text).err()
 }
 
 /// Names of what a refusal shows, for the tally.

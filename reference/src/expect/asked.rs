@@ -2,13 +2,6 @@
 
 use reference::grammar::{Field, Format, Item, Mode, Part, Sizes, Step};
 use reference::limits::{items, Asked};
-use reference::{deck, grammar, limits, Refused};
-
-/// What a deck asks for, or one of the refusals 1 to 7.
-pub fn asked(text: &[u8]) -> Result<Asked, Refused> {
-    let cards = deck::read(text)?;
-    limits::read(&cards, &grammar::read(&cards)?)
-}
 
 fn sizes(name: &str, sizes: Sizes) -> String {
     match sizes {
