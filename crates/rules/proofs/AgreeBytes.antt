@@ -11,7 +11,7 @@ use native.Mathlib.Omega.{arith}
 use lib.Dec.{ltb, leb, eqb}
 use lib.ListN.{length, take, drop, getD, replicate, length-append, length-drop, length-replicate, List·getD-append}
 use lib.Seq.{length-take-le, getD-append-add, getD-drop, getD-take, ext-getD}
-use borrow.Author.Tests.{ltb-true, ltb-false, leb-true, leb-false, eqb-true, lt-ltb, le-ltb, eq-eqb}
+use borrow.Author.Tests.{ltb-true, ltb-false, leb-true, leb-false, eqb-true, le-leb, lt-ltb, le-ltb, eq-eqb}
 use Rattle.rules.specs.Base.{_⇒_}
 use Rattle.rules.specs.Places.{All, noMore, also}
 use Rattle.rules.specs.Halves.{outputSize, Field, over}
@@ -19,6 +19,7 @@ use Rattle.rules.specs.Plan.{Plan, selects, recordLength}
 use Rattle.rules.specs.Output.{selected, outRecord}
 use Rattle.rules.specs.RecordParts.{Fits, fieldBytes, writtenBytes}
 use Rattle.rules.specs.Accepted.{Accepted}
+use Rattle.rules.specs.JudgeWords.{WritesAt}
 use Rattle.rules.specs.Judge.{writesAt, writtenBy, isWritten, agreeFrom, agrees}
 use Rattle.rules.proofs.Tests.{and-left, and-right, and-both, asked, asks}
 use Rattle.rules.proofs.SizeLaws.{length-over}
@@ -56,9 +57,13 @@ module _ (q : ℕ → Bool) where
 
 -- ---- one field
 
-writes-inside : (f : Field) (i : ℕ) → writesAt i f ≡ true → (f .t ≤ i) × (i < f .t + outputSize (f .kind))
+-- a field writes a position
+pub writes-exactly : (i : ℕ) (f : Field) → (writesAt i f ≡ true) ↔ WritesAt i f
 unfolding writesAt
-writes-inside f i e = (leb-true (f .t) i (and-left (leb (f .t) i) _ e), ltb-true i (f .t + outputSize (f .kind)) (and-right (leb (f .t) i) _ e))
+writes-exactly i f = (
+  λ e. (leb-true (f .t) i (and-left (leb (f .t) i) _ e), ltb-true i (f .t + outputSize (f .kind)) (and-right (leb (f .t) i) _ e)),
+  λ w. and-both (le-leb (f .t) i (w .0)) (lt-ltb i (f .t + outputSize (f .kind)) (w .1)),
+)
 
 writes-outside : (f : Field) (i : ℕ) → writesAt i f ≡ false → (i < f .t) ⊎ (f .t + outputSize (f .kind) ≤ i)
 unfolding writesAt
@@ -73,7 +78,7 @@ module _ (zone a b : ℕ) (r : List ℕ) (long : a ≤ length r) where
     -- the field's byte
     over-written : writesAt (suc j) f ≡ true → getD (over (f .t - 1) (fieldBytes zone f r) out) j 0 ≡ getD (fieldBytes zone f r) (j - (f .t - 1)) 0
     over-written w =
-        let i = writes-inside f (suc j) w in
+        let i = writes-exactly (suc j) f .0 w in
         over-inside (f .t - 1) (fieldBytes zone f r) out 0 (field-room zone a b r long f out h o) j (j - (f .t - 1)) (omega (arith, i .0, h .t-low))
         (omega (arith, i .0, i .1, h .t-low, length-fieldBytes zone a b r long f h))
 

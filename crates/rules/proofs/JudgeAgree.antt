@@ -1,33 +1,26 @@
 -- The judgement's tests are its words. What is computed goes along two lists in step: so it holds exactly if it holds at each place, and the number is that of
 -- the first place where it fails. Where every position is written, records that agree have the same bytes throughout.
-use mathlib.Core.Path.{_≡_, refl, ap, sym, _∙_, subst}
+use mathlib.Core.Path.{_≡_, refl, sym, _∙_, subst}
 use mathlib.Core.Logic.{_↔_, _⊎_, inl, inr}
 use mathlib.Core.Bool.{Bool, true, false, not, _||_, true≢false, false≢true}
 use mathlib.Core.List.{List, [], _∷_}
 use Prim.Native.Nat.{ℕ, zero, suc, _+_, _-_, _≤_, _<_}
 use native.Mathlib.Nat.{not-suc-le-zero}
 use native.Mathlib.Omega.{arith}
-use lib.Dec.{ltb, leb, eqb}
+use lib.Dec.{ltb}
 use lib.ListN.{length, getD}
 use lib.Seq.{ext-getD}
-use borrow.Author.Tests.{ltb-true, ltb-false, leb-true, eqb-true, lt-ltb, le-leb, eq-eqb}
-use Rattle.rules.specs.Base.{_⇒_}
+use borrow.Author.Tests.{ltb-true, ltb-false, lt-ltb}
 use Rattle.rules.specs.Places.{Some, this, that}
 use Rattle.rules.specs.Grammar.{Mode, tc, tf, tr, trf}
-use Rattle.rules.specs.Halves.{outputSize, Field}
+use Rattle.rules.specs.Halves.{Field}
 use Rattle.rules.specs.Plan.{Plan, selects, recordLength}
-use Rattle.rules.specs.Judge.{isFilling, writesAt, writtenBy, isWritten, agreeFrom, agrees, firstApart}
+use Rattle.rules.specs.Judge.{isFilling, writesAt, writtenBy, isWritten, agrees, firstApart}
 use Rattle.rules.specs.JudgeWords.{WritesAt, Written, carried, by-field, by-tail, Agree, Stands, AgreeAt}
-use Rattle.rules.proofs.Tests.{and-left, and-right, and-both, or-told, or-left, or-right, asked, asks}
+use Rattle.rules.proofs.Tests.{or-told, or-left, or-right}
+use Rattle.rules.proofs.AgreeBytes.{agree-length, agree-at, at-agree, writes-exactly}
 
 -- ---- the positions that are written
-
-pub writes-exactly : (i : ℕ) (f : Field) → (writesAt i f ≡ true) ↔ WritesAt i f
-unfolding writesAt
-writes-exactly i f = (
-  λ e. (leb-true (f .t) i (and-left (leb (f .t) i) _ e), ltb-true i (f .t + outputSize (f .kind)) (and-right (leb (f .t) i) _ e)),
-  λ w. and-both (le-leb (f .t) i (w .0)) (lt-ltb i (f .t + outputSize (f .kind)) (w .1)),
-)
 
 written-told : (i : ℕ) (fs : List Field) → writtenBy i fs ≡ true → Some (WritesAt i) fs
 written-told i [] e = absurd (false≢true e)
@@ -70,40 +63,6 @@ written-exactly p h i = (λ e. told (or-told (not (selects (p .mode))) _ e), of)
 
 -- ---- two records
 
-module _ (q : ℕ → Bool) where
-  -- as long, and where q holds the same byte; the first place has number i
-  record Alike (i : ℕ) (xs ys : List ℕ) : Type 0 where
-    pub long : length ys ≡ length xs
-    pub same : (k : ℕ) → k < length xs → q (i + k) ≡ true → getD ys k 0 ≡ getD xs k 0
-
-  agree-told : (i : ℕ) (xs ys : List ℕ) → agreeFrom q i xs ys ≡ true → Alike i xs ys
-  agree-told i [] [] e = record { long = refl; same = λ k l t. refl }
-  agree-told i [] (y ∷ ys) e = absurd (false≢true e)
-  agree-told i (x ∷ xs) [] e = absurd (false≢true e)
-  agree-told i (x ∷ xs) (y ∷ ys) e = go (agree-told (suc i) xs ys (and-right (q i ⇒ eqb x y) _ e))
-    where
-      at : Alike (suc i) xs ys → (k : ℕ) → k < suc (length xs) → q (i + k) ≡ true → getD (y ∷ ys) k 0 ≡ getD (x ∷ xs) k 0
-      at rest zero l t = sym (eqb-true x y (asked (q i) _ (and-left (q i ⇒ eqb x y) _ e) (subst (λ (j : ℕ). q j ≡ true) (let z : i + 0 ≡ i = omega arith in z) t)))
-      at rest (suc k) l t = rest .same k (omega arith) (subst (λ (j : ℕ). q j ≡ true) (let z : i + suc k ≡ suc i + k = omega arith in z) t)
-
-      go : Alike (suc i) xs ys → Alike i (x ∷ xs) (y ∷ ys)
-      go rest = record { long = ap suc (rest .long); same = at rest }
-
-  agree-of : (i : ℕ) (xs ys : List ℕ) → Alike i xs ys → agreeFrom q i xs ys ≡ true
-  agree-of i [] [] a = refl
-  agree-of i [] (y ∷ ys) a = absurd (omega (arith, a .long))
-  agree-of i (x ∷ xs) [] a = absurd (omega (arith, a .long))
-  agree-of i (x ∷ xs) (y ∷ ys) a =
-      and-both
-      (asks (q i) _ (λ t. eq-eqb x y (sym (a .same 0 (omega arith) (subst (λ (j : ℕ). q j ≡ true) (let z : i ≡ i + 0 = omega arith in z) t)))))
-      (agree-of (suc i) xs ys (record {
-        long = omega (arith, a .long);
-        same = λ k l t. a .same (suc k) (omega arith) (subst (λ (j : ℕ). q j ≡ true) (let z : suc i + k ≡ i + suc k = omega arith in z) t);
-      }))
-
-  agree-self : (i : ℕ) (xs : List ℕ) → agreeFrom q i xs xs ≡ true
-  agree-self i xs = agree-of i xs xs (record { long = refl; same = λ k l t. refl })
-
 -- the byte at place k, from 0
 byte-of : (p : Plan) (ours theirs : List ℕ) → Agree p ours theirs → (k : ℕ) → k < length ours → Written p (1 + k) → getD theirs k 0 ≡ getD ours k 0
 byte-of p ours theirs a k l w =
@@ -111,21 +70,19 @@ byte-of p ours theirs a k l w =
 
 pub agree-exactly : (p : Plan) → isFilling (p .mode) ≡ true → (ours theirs : List ℕ) → (agrees p ours theirs ≡ true) ↔ Agree p ours theirs
 unfolding agrees
-agree-exactly p h ours theirs = (λ e. told (agree-told (isWritten p) 1 ours theirs e), λ a. agree-of (isWritten p) 1 ours theirs (of a))
-  where
-    told : Alike (isWritten p) 1 ours theirs → Agree p ours theirs
-    told a =
-        record {
-          lengths = a .long;
-          bytes = λ i l m w. a .same (i - 1) (omega arith) (subst (λ (j : ℕ). isWritten p j ≡ true) (let z : i ≡ 1 + (i - 1) = omega arith in z) (written-exactly p h i .1 w));
-        }
-
-    of : Agree p ours theirs → Alike (isWritten p) 1 ours theirs
-    of a = record { long = a .lengths; same = λ k l t. byte-of p ours theirs a k l (written-exactly p h (1 + k) .0 t) }
+agree-exactly p h ours theirs = (
+  λ e. record {
+    lengths = sym (agree-length (isWritten p) 1 ours theirs e);
+    bytes = λ i l m w. sym (agree-at (isWritten p) 1 ours theirs e (i - 1) i (omega arith) (omega arith) (written-exactly p h i .1 w));
+  },
+  λ a. at-agree (isWritten p) 1 ours theirs (sym (a .lengths)) (λ j g q l w.
+      let z : g ≡ 1 + j = q in
+      sym (byte-of p ours theirs a j l (written-exactly p h (1 + j) .0 (subst (λ (k : ℕ). isWritten p k ≡ true) z w)))),
+)
 
 pub agrees-self : (p : Plan) (r : List ℕ) → agrees p r r ≡ true
 unfolding agrees
-agrees-self p r = agree-self (isWritten p) 1 r
+agrees-self p r = at-agree (isWritten p) 1 r r refl (λ j g q l w. refl)
 
 -- ---- two lists of records
 

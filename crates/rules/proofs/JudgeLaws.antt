@@ -1,19 +1,19 @@
 -- What a caller of the judge is told, and what follows: our own output is judged true, how foreign records are cut does not matter, and where every position is written a
 -- true reel holds just our records. A deck and two reels give one list of records each, so that the words speak of what was compared.
 use mathlib.Core.Path.{_≡_, refl, ap, sym, _∙_, subst}
-use mathlib.Core.Logic.{_↔_, _⊎_, inl, inr}
+use mathlib.Core.Logic.{inl, inr}
 use mathlib.Core.Bool.{Bool, true, false, true≢false, false≢true}
-use mathlib.Core.List.{List, [], _∷_}
-use Prim.Native.Nat.{ℕ, _-_, _≤_, _<_}
+use mathlib.Core.List.{List}
+use Prim.Native.Nat.{ℕ, _-_, _<_}
 use native.Mathlib.Omega.{arith}
 use lib.Dec.{eqb}
-use lib.ListN.{length, drop}
-use borrow.Author.Tests.{eqb-true, eqb-false, eq-eqb}
+use lib.ListN.{drop}
+use borrow.Author.Tests.{eqb-true, eqb-false}
 use Rattle.rules.specs.Base.{joined}
 use Rattle.rules.specs.Answer.{Answer, fine, refuse, refusalOf, placeOf, columnOf, _>>=_}
 use Rattle.rules.specs.Places.{All, noMore, also, Both, Byte}
 use Rattle.rules.specs.Grammar.{Mode, tc, tf, tr, trf}
-use Rattle.rules.specs.Plan.{Plan, planOf, isTC, isFS, selects, recordLength, blockLength, bit}
+use Rattle.rules.specs.Plan.{Plan, planOf, isTC, isFS, blockLength}
 use Rattle.rules.specs.Run.{Ran, outBlocks, ranOf, housed, convert, runOf, outputBlocks}
 use Rattle.rules.specs.Rows.{Done}
 use Rattle.rules.specs.ColumnRows.{Answered}
@@ -32,7 +32,7 @@ use Rattle.rules.proofs.SaidLaws.{answered}
 use Rattle.rules.proofs.TakenRecords.{takes-once}
 use Rattle.rules.proofs.OutputWords.{Whole, outputs-once}
 use Rattle.rules.proofs.OutBlockWords.{holds-whole}
-use Rattle.rules.proofs.RunParts.{Finished, finished, the-run, gathered}
+use Rattle.rules.proofs.RunParts.{finished, the-run, gathered}
 use Rattle.rules.proofs.ReadBack.{under-B, underB-accepted, read-back}
 use Rattle.rules.proofs.SpannedOut.{not-selects}
 use Rattle.rules.proofs.SpannedDeck.{spans-bytes, done, input-span, back-span}

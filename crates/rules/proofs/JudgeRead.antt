@@ -11,14 +11,14 @@ use lib.ListN.{length, drop}
 use borrow.Author.Tests.{lt-leb}
 use Rattle.rules.specs.Base.{joined}
 use Rattle.rules.specs.Answer.{Refusal, Answer, fine, refuse, refused, _>>=_, _>>_, unless}
-use Rattle.rules.specs.Places.{All, noMore, also, Both, none-left, both, Byte}
+use Rattle.rules.specs.Places.{All, Both, none-left, both, Byte}
 use Rattle.rules.specs.Grammar.{Mode, tc, tf, tr, trf}
 use Rattle.rules.specs.Reel.{isReel, blocksOf, reelOf}
 use Rattle.rules.specs.Plan.{Plan, isTC, isFS, selects, blockLength}
 use Rattle.rules.specs.Blocks.{recordsIn, recordsFrom}
 use Rattle.rules.specs.Output.{blockOf}
 use Rattle.rules.specs.Spanned.{spannedFrom, BadSpan}
-use Rattle.rules.specs.Run.{Ran, outBlocks, ranOf, housed, convert, spannedOut, spannedRan, spannedRun, conversion, outputBlocks}
+use Rattle.rules.specs.Run.{Ran, outBlocks, ranOf, housed, convert, spannedOut, spannedRan, spannedRun, conversion}
 use Rattle.rules.specs.RunRows.{BadBlock, BadIn}
 use Rattle.rules.specs.InWords.{OutputOf}
 use Rattle.rules.specs.Taken.{Records, of-blocks, of-spans, Takes}

@@ -4,13 +4,13 @@ use mathlib.Core.Path.{_≡_, refl, ap, sym, _∙_}
 use mathlib.Core.Bool.{Bool, true, false, not, true≢false, false≢true}
 use mathlib.Core.List.{List, map}
 use mathlib.Core.Option.{none}
-use Prim.Native.Nat.{ℕ, _+_, _-_, _<_, min}
+use Prim.Native.Nat.{ℕ, _-_, _<_, min}
 use native.Mathlib.Omega.{arith}
 use lib.Dec.{leb}
 use lib.ListN.{length, drop, drop-of-length-le}
 use borrow.Author.Tests.{leb-true, leb-false}
 use Rattle.rules.specs.Base.{joined}
-use Rattle.rules.specs.Answer.{Refusal, Answer, fine, refuse, refused, refusedAt, _>>=_, _>>_, unless}
+use Rattle.rules.specs.Answer.{Refusal, Answer, fine, refuse, refused, _>>=_, _>>_, unless}
 use Rattle.rules.specs.Reel.{isReel, blocksOf}
 use Rattle.rules.specs.Plan.{Plan, isFS, blockLength, planOf}
 use Rattle.rules.specs.Blocks.{recordsFrom, takenFrom}
@@ -18,8 +18,8 @@ use Rattle.rules.specs.Output.{outRecord}
 use Rattle.rules.specs.Spanned.{spannedFrom}
 use Rattle.rules.specs.Run.{outBlocks, convert, conversion, outputs}
 use Rattle.rules.specs.Asked.{Asked, askedOf}
-use Rattle.rules.specs.Judge.{isFilling, planToJudge, blocksRead, recordsRead, ourRecords, underB, foreign, theirRecords, agrees, firstApart, judgement, judgeOf}
-use Rattle.rules.proofs.AnswerLaws.{refuse-same, not-fine, fine-same, bind-fine, fine-bind}
+use Rattle.rules.specs.Judge.{isFilling, planToJudge, blocksRead, recordsRead, ourRecords, underB, theirRecords, agrees, firstApart, judgement, judgeOf}
+use Rattle.rules.proofs.AnswerLaws.{refuse-same, fine-same, bind-fine}
 use Rattle.rules.proofs.MeasureLaws.{map-joined}
 use Rattle.rules.proofs.RunColumns.{Refuses}
 use Rattle.rules.proofs.RunParts.{gathered, blocked-records}
@@ -101,7 +101,7 @@ module _ (p : Plan) (s : List ℕ) (t : isFS (p .format) ≡ true) where
 -- ---- ours, in the other formats: a run with no room tells
 
 module _ (p : Plan) (s : List ℕ) (t : isFS (p .format) ≡ false) where
-  plain-run : convert 0 p s ≡ conversion 0 p s
+  pub plain-run : convert 0 p s ≡ conversion 0 p s
   unfolding conversion
   plain-run = rw t
 

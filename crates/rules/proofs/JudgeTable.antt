@@ -17,7 +17,7 @@ use Rattle.rules.specs.Asked.{Asked, askedOf, fieldsOf, cvs}
 use Rattle.rules.specs.Reel.{isReel, blocksOf}
 use Rattle.rules.specs.Plan.{Plan, planOf, selects, joinedSize, combined, assembled}
 use Rattle.rules.specs.Run.{conversion, runOf}
-use Rattle.rules.specs.Rows.{Required, IsKeyed, KeyFits, Asks, Row8, Row9, Row10, PlanRows, _⊳_, No, Done, GivenBy}
+use Rattle.rules.specs.Rows.{Required, IsKeyed, KeyFits, Asks, Row8, PlanRows, _⊳_, No, Done, GivenBy}
 use Rattle.rules.specs.RunRows.{ReelIs, BadIn, Row11, Row12, Row13, Row14, RowRun}
 use Rattle.rules.specs.ColumnRows.{Column, Lowest}
 use Rattle.rules.specs.Accepted.{Accepted}
@@ -30,7 +30,7 @@ use Rattle.rules.proofs.Given.{found-low, Outcome, unless-outcome, Clea
 use Rattle.rules.proofs.AskedTable.{asked-once, upto-asked, asked-says}
 use Rattle.rules.proofs.PlanTable.{upto-plan, plan-asks, asks-once}
 use Rattle.rules.proofs.RunTable.{run-table}
-use Rattle.rules.proofs.RunColumns.{Refuses, refuses-bind}
+use Rattle.rules.proofs.RunColumns.{Refuses}
 use Rattle.rules.proofs.ColumnTable.{lowest-zero, ColumnIs, Columned, plain-late, columned-bind, columned-then, columned-unless, columned-asked, columned-plan, columns}
 use Rattle.rules.proofs.ReadBack.{underB-accepted}
 use Rattle.rules.proofs.JudgeRead.{blocks-read, read-plain, ours-refused, ours-reach, ours-plain}

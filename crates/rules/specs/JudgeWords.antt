@@ -6,10 +6,10 @@ use Prim.Native.Nat.{ℕ, _+_, _-_, _≤_, _<_}
 use lib.ListN.{length, getD}
 use Rattle.rules.specs.Places.{All, Some, Both, Byte}
 use Rattle.rules.specs.Answer.{fine}
-use Rattle.rules.specs.Grammar.{Mode, tc, tf, tr, trf, Parameter, Item}
+use Rattle.rules.specs.Grammar.{tc, tf, tr, Parameter, Item}
 use Rattle.rules.specs.Halves.{outputSize, Field}
 use Rattle.rules.specs.Asked.{Utility}
-use Rattle.rules.specs.Plan.{Plan, planOf, recordLength}
+use Rattle.rules.specs.Plan.{Plan, recordLength}
 use Rattle.rules.specs.InWords.{OutputOf}
 use Rattle.rules.specs.Rows.{Says, Complete, Asks, Row8, Row9, Row10, CardRows, _⊳_, No, Done}
 use Rattle.rules.specs.ColumnRows.{Answered}

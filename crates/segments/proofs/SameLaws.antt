@@ -7,7 +7,7 @@ use mathlib.Core.List.{List, _++_}
 use Prim.Native.Nat.{ℕ, _+_, _-_, _≤_, _<_, min}
 use native.Mathlib.Omega.{arith}
 use lib.ListN.{length, take, drop}
-use lib.Seq.{slice, take-add, take-take}
+use lib.Seq.{take-add, take-take}
 use Rattle.rules.proofs.PieceLaws.{slice-taken}
 use Rattle.reels.specs.Header.{partAt}
 use Rattle.segments.specs.declared.Spot.{Spot}

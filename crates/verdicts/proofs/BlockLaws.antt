@@ -1,18 +1,17 @@
 -- Judging in FF and FV: what a run with no room is refused with before 15 is at fault with ours; else the reading of theirs tells 17 or 18, or both reels are read and the
 -- number is that of the first pair apart. By the steps of the rules.
 use mathlib.Core.Path.{_≡_, refl, ap, sym, _∙_, subst}
-use mathlib.Core.Bool.{false}
 use mathlib.Core.List.{List}
 use Prim.Native.Nat.{ℕ}
 use Rattle.rules.specs.Answer.{Refusal, Answer, fine, refuse, refusedAt}
-use Rattle.rules.specs.Plan.{Plan, isFS}
+use Rattle.rules.specs.Plan.{Plan}
 use Rattle.rules.specs.Run.{Ran as RuleRan, convert, conversion}
 use Rattle.rules.specs.Lent.{runAnswer}
-use Rattle.rules.specs.Judge.{underB, ourRecords, judgeAnswer, judgement}
+use Rattle.rules.specs.Judge.{underB, ourRecords, judgeAnswer}
 use Rattle.rules.proofs.AnswerLaws.{not-fine}
 use Rattle.rules.proofs.ReadBack.{underB-accepted}
 use Rattle.rules.proofs.JudgeRead.{ours-refused, ours-reach}
-use Rattle.rules.proofs.JudgeSteps.{blocks-plain, judged-ours, judged-no-reel, judged-bad, judged-told, run-refused, run-reaches}
+use Rattle.rules.proofs.JudgeSteps.{blocks-plain, judged-ours, judged-no-reel, judged-bad, judged-told, plain-run, run-refused, run-reaches}
 use Rattle.terms.specs.declared.Task.{Task}
 use Rattle.reels.specs.declared.Form.{Form}
 use Rattle.reels.specs.declared.ReelRead.{ReelRead}
@@ -73,10 +72,6 @@ module _ {task : Task} {fields theirs : List ℕ} (ours : List ℕ) {under : For
         }
 
 -- ---- ours
-
-plain-run : (p : Plan) (s : List ℕ) → isFS (p .format) ≡ false → convert 0 p s ≡ conversion 0 p s
-unfolding conversion
-plain-run p s t = rw t
 
 module _ {task : Task} {fields ours : List ℕ} {r : Ran} (h : Checked task fields ours 0 r) where
   -- the run is refused

@@ -1,13 +1,13 @@
 -- From a deck to the judgement by its plan: TC and TF are refused before all but 1 to 7, and else the deck is refused as its plan is, or its plan judges. By cases on what
 -- the cards ask for and on the plan, as the rules go.
-use mathlib.Core.Path.{_≡_, refl, ap, sym, _∙_, subst}
+use mathlib.Core.Path.{_≡_, refl, ap, sym, _∙_}
 use mathlib.Core.Bool.{Bool, true, false, cond, not}
 use mathlib.Core.List.{List}
 use Prim.Native.Nat.{ℕ, _*_, _≤_}
 use native.Mathlib.Omega.{arith}
 use lib.ListN.{length, take}
 use borrow.Author.Tests.{eq-eqb, ne-eqb}
-use Rattle.rules.specs.Answer.{Refusal, Answer, fine, refuse, refusedAt, _>>=_}
+use Rattle.rules.specs.Answer.{Answer, fine, refuse, _>>=_}
 use Rattle.rules.specs.Grammar.{Mode as RuleMode}
 use Rattle.rules.specs.Asked.{Asked as RuleAsked, Utility, askedOf}
 use Rattle.rules.specs.Keys.{throughUtility}
@@ -20,7 +20,7 @@ use Rattle.terms.specs.Meaning.{modeOf, formatOf, sizeOf, utilityOf, planIn, Me
 use Rattle.terms.specs.declared.Asked.{Asked}
 use Rattle.rows.specs.Kept.{fieldsIn}
 use Rattle.rows.specs.Fair.{PlanFair}
-use Rattle.cards.specs.Promise.{Reads, DeckSays}
+use Rattle.cards.specs.Promise.{DeckSays}
 use Rattle.cards.specs.declared.DeckRead.{DeckRead}
 use Rattle.cards.proofs.PromiseLaws.{accepted, refused-as}
 use Rattle.plans.specs.Promise.{Plans}

@@ -3,7 +3,7 @@
 use mathlib.Core.Path.{_≡_, refl, ap, sym, _∙_, subst}
 use mathlib.Core.List.{List}
 use mathlib.Core.Option.{none}
-use Prim.Native.Nat.{ℕ, _+_, _-_, _≤_, _<_, min}
+use Prim.Native.Nat.{ℕ, _-_, _<_, min}
 use native.Mathlib.Omega.{arith}
 use lib.ListN.{length, drop}
 use Rattle.rules.specs.Base.{joined}
@@ -11,7 +11,7 @@ use Rattle.rules.specs.Answer.{fine, refusedAt, refused}
 use Rattle.rules.specs.Reel.{blocksOf}
 use Rattle.rules.specs.Spanned.{spannedFrom}
 use Rattle.rules.specs.Plan.{Plan}
-use Rattle.rules.specs.Judge.{underB, ourRecords, agrees, judgement}
+use Rattle.rules.specs.Judge.{underB, ourRecords, agrees}
 use Rattle.rules.proofs.AgreeBytes.{agrees-same}
 use Rattle.rules.proofs.SpannedOut.{not-selects}
 use Rattle.rules.proofs.JudgeSteps.{blocks-spanned, judged-ours, judged-no-reel, judged-bad, judged-told, drop-few, spanned-no-reel, spanned-bad, spanned-good}
@@ -19,8 +19,6 @@ use Rattle.reels.specs.declared.ReelRead.{ReelRead}
 use Rattle.reels.specs.declared.ReelRead.the-variants.{Read, NotReel, BadBlock}
 use Rattle.turns.specs.Promise.{SpannedAs}
 use Rattle.turns.proofs.SpannedTold.{Tells, tells}
-use Rattle.segments.specs.Promise.{GoodSpans}
-use Rattle.segments.proofs.GoodLaws.{good-same}
 use Rattle.span_pairs.specs.Promise.{BothSpanned, ApartAt}
 use Rattle.verdicts.specs.declared.Judged.{Judged}
 use Rattle.verdicts.specs.Promise.{refusedWith, toldAs, Spanning, OursSpanned, OfSpanned, OfNumbers}

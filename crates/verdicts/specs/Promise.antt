@@ -1,27 +1,24 @@
 -- What is promised of judging: the rules' answer as a struct, for every plan that the numbers may be.
 use mathlib.Core.Path.{_≡_}
 use mathlib.Core.Bool.{true, cond}
-use mathlib.Core.List.{List}
+use mathlib.Core.List.{List, map}
 use Prim.Native.Nat.{ℕ, _+_, _-_, min}
 use lib.Dec.{eqb}
 use lib.ListN.{length}
 use Rattle.rules.specs.Base.{joined}
+use Rattle.rules.specs.Answer.{fine}
 use Rattle.rules.specs.Asked.{askedOf}
-use Rattle.rules.specs.Answer.{refusedAt}
 use Rattle.rules.specs.Plan.{Plan, isFS, blockLength, bit}
 use Rattle.rules.specs.Accepted.{Accepted}
 use Rattle.rules.specs.Blocks.{takenFrom}
-use Rattle.rules.specs.Judge.{JudgeAnswer, judgeAnswer, judgement}
+use Rattle.rules.specs.Output.{outRecord}
+use Rattle.rules.specs.Judge.{ourRecords, JudgeAnswer, judgeAnswer, judgement}
 use Rattle.rules.proofs.JudgeSteps.{copiesBlocks}
 use Rattle.terms.specs.declared.Task.{Task}
 use Rattle.walks.specs.Promise.{Good}
 use Rattle.checks.specs.Promise.{Given}
 use Rattle.segments.specs.Promise.{GoodSpans}
 use Rattle.verdicts.specs.declared.Judged.{Judged}
-use Rattle.rules.specs.Judge.{ourRecords}
-use Rattle.rules.specs.Answer.{fine}
-use Rattle.rules.specs.Output.{outRecord}
-use mathlib.Core.List.{map}
 
 -- ---- the struct
 

@@ -98,7 +98,7 @@ fn judge_spans(m: usize, ours: &[u8], passed: usize, count: usize, theirs: &[u8]
     let read = turns::read_spanned(m, theirs);
     match read {
         ReelRead::NotReel => refused(17, 0, 0),
-        ReelRead::BadBlock { block } => refused(18, block, 0),
+        ReelRead::BadBlock { block: bad } => refused(18, bad, 0),
         ReelRead::Read { blocks: _, records } => {
             told(span_pairs::first_apart(ours, passed, count, theirs, records))
         }
