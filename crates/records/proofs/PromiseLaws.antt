@@ -13,7 +13,7 @@ use Rattle.rules.specs.Lent.{zoneF}
 use Rattle.rules.specs.RecordParts.{writtenBytes}
 use Rattle.rules.proofs.FieldSteps.{out-bytes, length-writtenBytes}
 use Rattle.rows.specs.Flat.{flatOf, FlatFair, Fielded}
-use Rattle.records.specs.Promise.{reachOf, Covers, outBytes, Puts}
+use Rattle.records.specs.Promise.{Writes, reachOf, Covers, outBytes, Puts}
 use Rattle.records.proofs.CoverLaws.{covered-same}
 
 -- ---- fields that cover the output
@@ -59,3 +59,7 @@ covers-only-one fs m x y h g = h fs refl ∙ sym (g fs refl)
 pub put-only-one : (xs : List ℕ) (n m : ℕ) (carries : Bool) (r old : List ℕ) → Fielded xs n m → (x y : List ℕ) → Puts xs n m carries r old x → Puts xs n m carries r old y → x ≡ y
 unfolding Puts
 put-only-one xs n m carries r old k x y h g = h (k .fields) (k .fair) ∙ sym (g (k .fields) (k .fair))
+
+pub fields-only-one : (xs : List ℕ) (n m : ℕ) (r old : List ℕ) → Fielded xs n m → (x y : List ℕ) → Writes xs r old x → Writes xs r old y → x ≡ y
+unfolding Writes
+fields-only-one xs n m r old k x y h g = h (k .fields) (k .fair .flat) ∙ sym (g (k .fields) (k .fair .flat))

@@ -2,13 +2,13 @@
 -- finished run, and since no refusal has the number 0.
 use mathlib.Core.Path.{_≡_, refl, ap, sym, _∙_, subst}
 use mathlib.Core.Bool.{Bool, true, false}
-use mathlib.Core.List.{List}
+use mathlib.Core.List.{List, []}
 use Prim.Native.Nat.{ℕ, _≤_, _<_}
 use native.Mathlib.Omega.{arith}
 use lib.ListN.{length}
 use Rattle.rules.specs.Answer.{Answer, fine, refuse}
 use Rattle.rules.specs.Places.{All, Byte}
-use Rattle.rules.specs.Grammar.{tc}
+use Rattle.rules.specs.Grammar.{Mode as RuleMode, tc, tf, tr, trf, Format as RuleFormat, ff, fv, fu, fsp}
 use Rattle.rules.specs.Halves.{Field as RuleField, over}
 use Rattle.rules.specs.Reel.{reelOf}
 use Rattle.rules.specs.Plan.{Plan, isTC, isFS, blockLength}
@@ -22,6 +22,10 @@ use Rattle.rules.proofs.SpannedOut.{low-B, most-A, most-B}
 use Rattle.rules.proofs.RunColumns.{Refuses, refuses-convert}
 use Rattle.terms.specs.declared.Asked.{Asked}
 use Rattle.terms.specs.declared.Task.{Task}
+use Rattle.terms.specs.declared.Mode.{Mode}
+use Rattle.terms.specs.declared.Mode.the-variants.{TC, TF, TR, TRF}
+use Rattle.terms.specs.declared.Format.{Format}
+use Rattle.terms.specs.declared.Format.the-variants.{FF, FV, FU, FS}
 use Rattle.terms.specs.Meaning.{modeOf, formatOf, sizeOf, planIn, TaskIs}
 use Rattle.rows.specs.Kept.{fieldsIn}
 use Rattle.rows.specs.Fair.{PlanFair}
@@ -161,3 +165,49 @@ pub only-one : (p : Plan) (s old : List ℕ) (x y : Ran) (new new′ : List ℕ)
     → (x ≡ ranStruct (runAnswer (conversion (length old) p s))) × (new ≡ outputAfter old (conversion (length old) p s))
     → (y ≡ ranStruct (runAnswer (conversion (length old) p s))) × (new′ ≡ outputAfter old (conversion (length old) p s)) → (x ≡ y) × (new ≡ new′)
 only-one p s old x y new new′ h k = (h .0 ∙ sym (k .0), h .1 ∙ sym (k .1))
+
+-- the numbers of a plan are those of one task
+mode-back : RuleMode → Mode
+mode-back tc = TC
+mode-back tf = TF
+mode-back tr = TR
+mode-back trf = TRF
+
+format-back : RuleFormat → Format
+format-back ff = FF
+format-back fv = FV
+format-back fu = FU
+format-back fsp = FS
+
+mode-same : (m : Mode) → mode-back (modeOf m) ≡ m
+unfolding mode-back
+mode-same TC = refl
+mode-same TF = refl
+mode-same TR = refl
+mode-same TRF = refl
+
+format-same : (f : Format) → format-back (formatOf f) ≡ f
+unfolding format-back
+format-same FF = refl
+format-same FV = refl
+format-same FU = refl
+format-same FS = refl
+
+pub task-only-one : (asked : Asked) (x y : Task) → ((fs : List RuleField) → TaskIs x (planIn zoneF asked fs)) → ((fs : List RuleField) → TaskIs y (planIn zoneF asked fs)) → x ≡ y
+task-only-one asked x y a b =
+    let u = a [] in
+    let v = b [] in
+    let mode : x .mode ≡ y .mode = sym (mode-same (x .mode)) ∙ ap mode-back (u .mode ∙ sym (v .mode)) ∙ mode-same (y .mode) in
+    let format : x .format ≡ y .format = sym (format-same (x .format)) ∙ ap format-back (u .format ∙ sym (v .format)) ∙ format-same (y .format) in
+    λ i.
+    record {
+      mode = mode i;
+      format = format i;
+      n = (u .n ∙ sym (v .n)) i;
+      m = (u .m ∙ sym (v .m)) i;
+      width = (u .width ∙ sym (v .width)) i;
+      limit = (u .limit ∙ sym (v .limit)) i;
+      cost = (u .costs ∙ sym (v .costs)) i;
+      first = (u .first ∙ sym (v .first)) i;
+      carries = (u .carries ∙ sym (v .carries)) i;
+    }
