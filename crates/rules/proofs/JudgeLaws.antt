@@ -1,14 +1,14 @@
 -- What a caller of the judge is told, and what follows: our own output is judged true, how foreign records are cut does not matter, and where every position is written a
 -- true reel holds just our records. A deck and two reels give one list of records each, so that the words speak of what was compared.
 use mathlib.Core.Path.{_≡_, refl, ap, sym, _∙_, subst}
-use mathlib.Core.Logic.{inl, inr}
+use mathlib.Core.Logic.{_⊎_, inl, inr}
 use mathlib.Core.Bool.{Bool, true, false, true≢false, false≢true}
 use mathlib.Core.List.{List}
-use Prim.Native.Nat.{ℕ, _-_, _<_}
+use Prim.Native.Nat.{ℕ, _-_, _≤_, _<_}
 use native.Mathlib.Omega.{arith}
-use lib.Dec.{eqb}
+use lib.Dec.{ltb, eqb}
 use lib.ListN.{drop}
-use borrow.Author.Tests.{eqb-true, eqb-false}
+use borrow.Author.Tests.{ltb-true, ltb-false, eqb-true, eqb-false}
 use Rattle.rules.specs.Base.{joined}
 use Rattle.rules.specs.Answer.{Answer, fine, refuse, refusalOf, placeOf, columnOf, _>>=_}
 use Rattle.rules.specs.Places.{All, noMore, also, Both, Byte}
@@ -21,7 +21,7 @@ use Rattle.rules.specs.InWords.{OutputOf}
 use Rattle.rules.specs.Taken.{Records, of-blocks, of-spans, Takes}
 use Rattle.rules.specs.Accepted.{Accepted}
 use Rattle.rules.specs.Lent.{zoneF}
-use Rattle.rules.specs.Judge.{isFilling, planToJudge, underB, foreign, recordsRead, ourRecords, theirRecords, agrees, firstApart, judgement, judgeOf, judge, judgeAnswer}
+use Rattle.rules.specs.Judge.{isFilling, planToJudge, underB, foreign, recordsRead, ourRecords, theirRecords, agrees, firstApart, judgement, judgeOf, judge, JudgeAnswer, judgeAnswer}
 use Rattle.rules.specs.JudgeWords.{Compares, Stands, AgreeAt, True, FirstApart, RowJudge, JudgeSays, Judging}
 use Rattle.rules.proofs.AnswerLaws.{not-fine, fine-same, bind-fine, fine-bind}
 use Rattle.rules.proofs.AllLaws.{all-drop}
@@ -29,6 +29,7 @@ use Rattle.rules.proofs.AcceptedLaws.{accepted, zone-of}
 use Rattle.rules.proofs.ReelLaws.{all-joined, all-blocks, reel-blocks}
 use Rattle.rules.proofs.PlanTable.{plan-asks, asks-once}
 use Rattle.rules.proofs.SaidLaws.{answered}
+use Rattle.rules.proofs.TwinOnce.{answered-once}
 use Rattle.rules.proofs.TakenRecords.{takes-once}
 use Rattle.rules.proofs.OutputWords.{Whole, outputs-once}
 use Rattle.rules.proofs.OutBlockWords.{holds-whole}
@@ -186,6 +187,56 @@ module _ (deck ours theirs : List ℕ) (bytes : All Byte ours) (bytes′ : All B
       let a
       = answered rows deck (judgeOf zoneF deck ours theirs) (judge-columns zoneF (omega arith) deck ours theirs bytes bytes′) (judge-told zoneF (omega arith) deck ours theirs bytes bytes′) (λ p r. r) in
       says-of (judgeOf zoneF deck ours theirs) refl a (λ z. judge-told zoneF (omega arith) deck ours theirs bytes bytes′ .1 (a .none .0 z))
+
+  -- ---- these words leave one outcome alone
+
+  -- what is compared, and where it is first apart, in terms of the one verdict
+  own-first : (k : ℕ) (v : Verdict deck ours theirs k) (n : ℕ) → FirstApart deck ours theirs n
+      → Stands (v .outs) (v .others) n × (AgreeAt (v .p) (v .outs) (v .others) n → ⊥) × ((m : ℕ) → 1 ≤ m → m < n → AgreeAt (v .p) (v .outs) (v .others) m)
+  own-first k v n f =
+      let c : Compares deck ours theirs (v .p) (f .outs) (f .others) × (AgreeAt (v .p) (f .outs) (f .others) n → ⊥) × ((m : ℕ) → 1 ≤ m → m < n → AgreeAt (v .p) (f .outs) (f .others) m)
+      = subst (λ (q : Plan). Compares deck ours theirs q (f .outs) (f .others) × (AgreeAt q (f .outs) (f .others) n → ⊥) × ((m : ℕ) → 1 ≤ m → m < n → AgreeAt q (f .outs) (f .others) m)) (same-plan k v (f .compares)) (f .compares, f .apart, f .before) in
+      let o = same-outs k v (c .0) in
+      let t = same-others k v (c .0) in
+      subst (λ (xs : List (List ℕ)). Stands xs (v .others) n × (AgreeAt (v .p) xs (v .others) n → ⊥) × ((m : ℕ) → 1 ≤ m → m < n → AgreeAt (v .p) xs (v .others) m)) o
+      (subst (λ (ys : List (List ℕ)). Stands (f .outs) ys n × (AgreeAt (v .p) (f .outs) ys n → ⊥) × ((m : ℕ) → 1 ≤ m → m < n → AgreeAt (v .p) (f .outs) ys m)) t (f .there, c .1, c .2))
+
+  first-once : (k : ℕ) → Verdict deck ours theirs k → (n m : ℕ) → FirstApart deck ours theirs n → FirstApart deck ours theirs m → n ≡ m
+  first-once k v n m f g = go (ltb n m) refl (ltb m n) refl
+    where
+      go : (a : Bool) → ltb n m ≡ a → (b : Bool) → ltb m n ≡ b → n ≡ m
+      go true a b eb = let w = own-first k v n f in absurd (w .1 (own-first k v m g .2 n (w .0 .0) (ltb-true n m a)))
+      go false a true b = let w = own-first k v m g in absurd (w .1 (own-first k v n f .2 m (w .0 .0) (ltb-true m n b)))
+      go false a false b = omega (arith, ltb-false n m a, ltb-false m n b)
+
+  pub says-once : (n m : JudgeAnswer) → JudgeSays deck ours theirs n → JudgeSays deck ours theirs m → n ≡ m
+  unfolding judge
+  says-once n m a b = λ i. record { refusal = same .0 i; place = same .1 i; column = same .2 i; yes = rest .0 i; number = rest .1 i }
+    where
+      same : (n .refusal ≡ m .refusal) × (n .place ≡ m .place) × (n .column ≡ m .column)
+      same = answered-once _ deck _ _ _ _ _ _ (a .table) (b .table)
+
+      verdict : n .refusal ≡ 0 → (k : ℕ) × (judgeOf zoneF deck ours theirs ≡ fine k)
+      verdict z = judge-told zoneF (omega arith) deck ours theirs bytes bytes′ .1 (a .table .none .0 z)
+
+      marked : n .refusal ≡ 0 → (n .yes ≡ 1) ⊎ (n .yes ≡ 0) → (m .yes ≡ 1) ⊎ (m .yes ≡ 0) → (n .yes ≡ m .yes) × (n .number ≡ m .number)
+      marked z (inl y) (inl y′) = (y ∙ sym y′, a .with-0 y ∙ sym (b .with-0 y′))
+      marked z (inl y) (inr y′) = let q = b .exactly (sym (same .0) ∙ z) .1 (a .exactly z .0 y) in absurd (omega arith)
+      marked z (inr y) (inl y′) = let q = a .exactly z .1 (b .exactly (sym (same .0) ∙ z) .0 y′) in absurd (omega arith)
+      marked z (inr y) (inr y′) =
+          let w = verdict z in
+          (y ∙ sym y′, first-once (w .0) (verdict-of (w .0) (w .1)) (n .number) (m .number) (a .no z y) (b .no (sym (same .0) ∙ z) y′))
+
+      decide : (t : Bool) → eqb (n .refusal) 0 ≡ t → (n .yes ≡ m .yes) × (n .number ≡ m .number)
+      decide true t = marked (eqb-true (n .refusal) 0 t) (a .mark) (b .mark)
+      decide false t =
+          let o = eqb-false (n .refusal) 0 t in
+          let w = a .refused o in
+          let w′ = b .refused (λ z. o (same .0 ∙ z)) in
+          (w .0 ∙ sym (w′ .0), w .1 ∙ sym (w′ .1))
+
+      rest : (n .yes ≡ m .yes) × (n .number ≡ m .number)
+      rest = decide (eqb (n .refusal) 0) refl
 
 -- ---- what follows
 

@@ -26,7 +26,7 @@ use Rattle.rules.proofs.TwinTable.{lost-once}
 
 -- ---- a table
 
-answered-once : (rows : ℕ → ℕ → Type 0) (deck : List ℕ) (n p c n′ p′ c′ : ℕ) → Answered rows deck n p c → Answered rows deck n′ p′ c′ → (n ≡ n′) × (p ≡ p′) × (c ≡ c′)
+pub answered-once : (rows : ℕ → ℕ → Type 0) (deck : List ℕ) (n p c n′ p′ c′ : ℕ) → Answered rows deck n p c → Answered rows deck n′ p′ c′ → (n ≡ n′) × (p ≡ p′) × (c ≡ c′)
 answered-once rows deck n p c n′ p′ c′ a b = go (eqb n 0) refl
   where
     go : (t : Bool) → eqb n 0 ≡ t → (n ≡ n′) × (p ≡ p′) × (c ≡ c′)
