@@ -16,11 +16,11 @@ module bhexodana
     implicit none
     private
 
-    public :: plan_deck, plan_into, run_deck, show_twins
-    public :: bhx_field, bhx_planned, bhx_ran, bhx_twinned
+    public :: plan_deck, plan_into, run_deck, show_twins, judge_reel
+    public :: bhx_field, bhx_planned, bhx_ran, bhx_twinned, bhx_judged
 
     ! The version of this interface. It rises when an answer or an entry gets another shape, and when one is added.
-    integer, parameter, public :: bhexodana_version = 4
+    integer, parameter, public :: bhexodana_version = 5
 
     ! What a field does: bhx_field%kind.
     integer, parameter, public :: bhx_copy = 0, bhx_pack = 1, bhx_unpack = 2
@@ -77,6 +77,16 @@ module bhexodana
         integer(c_int64_t) :: length = 0
     end type bhx_twinned
 
+    ! What is answered for a reel from elsewhere: whether theirs is a true conversion of ours, and where it is none the first record that disagrees or
+    ! lacks a partner, from 1 in the output. Where the call is refused yes is .false. too: ask refusal first.
+    type :: bhx_judged
+        integer(int64) :: refusal = 0
+        integer(int64) :: place = 0
+        integer(int64) :: column = 0
+        logical :: yes = .false.
+        integer(int64) :: number = 0
+    end type bhx_judged
+
     ! answer = plan_deck(deck): the plan of a deck.
     interface plan_deck
         module procedure plan_cards, plan_text, plan_bytes
@@ -98,6 +108,12 @@ module bhexodana
         module procedure twins_of_cards, twins_of_text, twins_of_bytes
     end interface show_twins
 
+    ! answer = judge_reel(deck, ours, theirs): is theirs a true conversion of ours by the deck, which has TR or TRF? Blocks of theirs need not be full, and positions
+    ! that nothing writes may have anything.
+    interface judge_reel
+        module procedure judge_by_cards, judge_by_text, judge_by_bytes
+    end interface judge_reel
+
     ! A plan's answer as the library gives it.
     type, bind(c) :: raw_planned
         integer(c_int64_t) :: refusal
@@ -107,6 +123,15 @@ module bhexodana
         integer(c_int64_t) :: lost
         integer(c_int64_t) :: fields
     end type raw_planned
+
+    ! A verdict as the library gives it.
+    type, bind(c) :: raw_judged
+        integer(c_int64_t) :: refusal
+        integer(c_int64_t) :: place
+        integer(c_int64_t) :: column
+        integer(c_int64_t) :: yes
+        integer(c_int64_t) :: number
+    end type raw_judged
 
     interface
         function raw_plan(deck, deck_length) bind(c, name="bhx_plan") result(answer)
@@ -136,6 +161,13 @@ module bhexodana
             integer(c_size_t), value :: deck_length, room
             type(bhx_twinned) :: answer
         end function raw_twins
+
+        function raw_judge(deck, deck_length, ours, ours_length, theirs, theirs_length) bind(c, name="bhx_judge") result(answer)
+            import :: c_ptr, c_size_t, raw_judged
+            type(c_ptr), value :: deck, ours, theirs
+            integer(c_size_t), value :: deck_length, ours_length, theirs_length
+            type(raw_judged) :: answer
+        end function raw_judge
     end interface
 
     ! Lent where an array is empty: the library takes no null pointer.
@@ -230,6 +262,29 @@ contains
         type(bhx_twinned), intent(out) :: answer
         answer = raw_twins(address(deck), size(deck, kind=c_size_t), address(output), size(output, kind=c_size_t))
     end subroutine twins_of_bytes
+
+    function judge_by_cards(cards, ours, theirs) result(answer)
+        character(len=*), intent(in) :: cards(:)
+        integer(int8), intent(in), target, contiguous :: ours(:), theirs(:)
+        type(bhx_judged) :: answer
+        answer = judge_by_bytes(bytes_of_cards(cards), ours, theirs)
+    end function judge_by_cards
+
+    function judge_by_text(text, ours, theirs) result(answer)
+        character(len=*), intent(in) :: text
+        integer(int8), intent(in), target, contiguous :: ours(:), theirs(:)
+        type(bhx_judged) :: answer
+        answer = judge_by_bytes(bytes_of(text), ours, theirs)
+    end function judge_by_text
+
+    function judge_by_bytes(deck, ours, theirs) result(answer)
+        integer(int8), intent(in), target, contiguous :: deck(:), ours(:), theirs(:)
+        type(bhx_judged) :: answer
+        type(raw_judged) :: raw
+        raw = raw_judge(address(deck), size(deck, kind=c_size_t), address(ours), size(ours, kind=c_size_t), &
+            address(theirs), size(theirs, kind=c_size_t))
+        answer = bhx_judged(raw%refusal, raw%place, raw%column, raw%yes == 1, raw%number)
+    end function judge_by_bytes
 
     ! Where an array begins in memory.
     function address(bytes) result(place)

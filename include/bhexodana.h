@@ -7,15 +7,15 @@
  *   The caller owns all of it. The library keeps no pointer after a call, reserves nothing and has nothing to free. It has no state of its own,
  *   so calls from several threads are independent if they lend different memory.
  *   No pointer may be null, also where its length is 0: lend any address then.
- *   What is lent in one call must not overlap: the deck, the reel, the output and the table are different memory.
+ *   What is lent in one call must not overlap: the deck, the reels, the output and the table are different memory.
  *   The table must be aligned as an array of bhx_field is.
  *   The calls that were measured used up to some 80 KB of stack.
- *   The deck and the reel are only read. A refused call leaves every byte of the output and every entry of the table as it was. Finished runs and
+ *   The deck and the reels are only read. A refused call leaves every byte of the output and every entry of the table as it was. Finished runs and
  *   twins leave the bytes of the output past the length as they were, and a finished plan the entries past the field count.
  *
  * Refusals
  *   Every answer begins with a refusal, a place and a column. Refusal 0 says that the call finished; its place and column are 0, and the other numbers
- *   are what was asked for. Where it is 1 to 16 the other numbers are 0. The lowest number that applies is given, at its first place, and there at its
+ *   are what was asked for. Where it is 1 to 18 the other numbers are 0. The lowest number that applies is given, at its first place, and there at its
  *   lowest column:
  *
  *    1  a line is no card                                            card, from 1
@@ -36,14 +36,18 @@
  *       plan: the table has fewer entries than the plan has fields            the field count
  *       twins: the plan loses, and the room is too short for both records     the bytes needed
  *   16  twins: the plan keeps, in any room: no two records become alike       0
+ *   17  judge: theirs is not a reel                                           0
+ *   18  judge: a block of theirs breaks the rule of F and B                   block, from 1
  *
- *   A plan answers 1 to 10, and 15 where a table is lent; a run answers 1 to 15; twins answer 1 to 10, 15 and 16.
+ *   A plan answers 1 to 10, and 15 where a table is lent; a run answers 1 to 15; twins answer 1 to 10, 15 and 16; judge answers 1 to 14, 17 and 18.
  *
  *   7: in FV and FS a single number of A or B is at least 9. With a key, A=(K=l,D=l), both lengths are 1 to 4,096 and together at most 4,096; a greater total is a
  *   fault of D's number.
  *
  *   8: a key in A stands only with FF, and with TF or TRF; in TF a block of B then holds one record. (K,r) stands only where A has a key. Format FS stands only with
  *   TC or TR, with one number each for A and B.
+ *
+ *   To judge, a deck has TR or TRF: TC and TF are 8 at 1, whatever else 8 to 10 find.
  *
  *   9: with a key a field reads the key or the data, and lies wholly in it; positions count from 1 in each.
  *
@@ -55,6 +59,8 @@
  *   its block, and a record that is unfinished at the end at the last block.
  *
  *   13 and 14 do not occur in FS: it has no fields, and a record that does not fit a block is cut.
+ *
+ *   18: 12 with the numbers of B. A block need not be full. In FV with fields a record has at least B's n bytes of data.
  *
  *   Half bytes, in 10 and in what a plan loses, are counted from 0, two to a byte. With a key they are numbered through the key first: the byte at position r of
  *   the data has the half bytes 2(K+r-1) and 2(K+r-1)+1.
@@ -72,7 +78,7 @@
 #include <stdint.h>
 
 /* The version of this interface. It rises when an answer or an entry gets another shape, and when one is added. */
-#define BHEXODANA_VERSION 4
+#define BHEXODANA_VERSION 5
 
 /* What a field does: bhx_field.kind. */
 #define BHX_COPY 0
@@ -141,6 +147,15 @@ typedef struct {
     uint64_t length;  /* how many bytes of the output both records have; the first has half of them, rounded down */
 } bhx_twinned;
 
+/* What is answered for a reel from elsewhere. */
+typedef struct {
+    uint64_t refusal; /* 0, or the number of the refusal */
+    uint64_t place;   /* where it was refused */
+    uint64_t column;  /* for 3, 4 and 7 the byte of the card, from 1; otherwise 0 */
+    uint64_t yes;     /* 1 if theirs is a true conversion of ours, 0 if not; 0 too if the call is refused: ask refusal first */
+    uint64_t number;  /* where it is none: the first record that disagrees or lacks a partner, from 1 in the output; otherwise 0 */
+} bhx_judged;
+
 /* The plan of a deck. */
 bhx_planned bhx_plan(const uint8_t *deck, size_t deck_len);
 
@@ -156,6 +171,13 @@ bhx_ran bhx_run(const uint8_t *deck, size_t deck_len, const uint8_t *reel, size_
  * the second is the first and a byte 00 behind it.
  */
 bhx_twinned bhx_twins(const uint8_t *deck, size_t deck_len, uint8_t *out, size_t room);
+
+/*
+ * Judges a reel from elsewhere: is theirs a true conversion of ours by the deck, which has TR or TRF? It is exactly if its records, in order, are as many as a run over
+ * ours writes, each as long, and have its bytes at every position that a field or the tail writes, in TR at all. How its records lie in blocks, and in FS in segments, does
+ * not matter. Nothing is written. Record 1 of the output is record R of ours.
+ */
+bhx_judged bhx_judge(const uint8_t *deck, size_t deck_len, const uint8_t *ours, size_t ours_len, const uint8_t *theirs, size_t theirs_len);
 
 #ifdef __cplusplus
 }

@@ -9,7 +9,7 @@
 
 /* The build fails where a layout is another one. */
 #define HOLDS(name, test) typedef char name[(test) ? 1 : -1]
-HOLDS(version, BHEXODANA_VERSION == 4);
+HOLDS(version, BHEXODANA_VERSION == 5);
 HOLDS(field_size, sizeof(bhx_field) == 10);
 HOLDS(field_kind, offsetof(bhx_field, kind) == 0);
 HOLDS(field_part, offsetof(bhx_field, part) == 1);
@@ -39,6 +39,12 @@ HOLDS(twinned_place, offsetof(bhx_twinned, place) == 8);
 HOLDS(twinned_column, offsetof(bhx_twinned, column) == 16);
 HOLDS(twinned_reason, offsetof(bhx_twinned, reason) == 24);
 HOLDS(twinned_length, offsetof(bhx_twinned, length) == 32);
+HOLDS(judged_size, sizeof(bhx_judged) == 40);
+HOLDS(judged_refusal, offsetof(bhx_judged, refusal) == 0);
+HOLDS(judged_place, offsetof(bhx_judged, place) == 8);
+HOLDS(judged_column, offsetof(bhx_judged, column) == 16);
+HOLDS(judged_yes, offsetof(bhx_judged, yes) == 24);
+HOLDS(judged_number, offsetof(bhx_judged, number) == 32);
 HOLDS(length_size, sizeof(size_t) == 8);
 
 enum { GUARD = 64, ROOM = BHX_MOST_REEL + 16, ENTRIES = 70 };
@@ -179,6 +185,32 @@ static void shows(const char *what, const char *cards, size_t room, uint64_t rea
 static void refuses_twins(const char *what, const char *cards, size_t room, uint64_t refusal, uint64_t place, uint64_t column)
 {
     twinned(what, cards, room, refusal, place, column, 0, empty_reel, 0);
+}
+
+static void judged(const char *what, const char *cards, const uint8_t *ours, size_t ours_len, const uint8_t *theirs, size_t theirs_len, uint64_t refusal,
+                   uint64_t place, uint64_t column, uint64_t yes, uint64_t number)
+{
+    bhx_judged j;
+    calls++;
+    j = bhx_judge((const uint8_t *)cards, strlen(cards), ours, ours_len, theirs, theirs_len);
+    check(j.refusal == refusal && j.place == place && j.column == column, what);
+    check(j.yes == yes && j.number == number, what);
+}
+
+static void is_true(const char *what, const char *cards, const uint8_t *ours, size_t ours_len, const uint8_t *theirs, size_t theirs_len)
+{
+    judged(what, cards, ours, ours_len, theirs, theirs_len, 0, 0, 0, 1, 0);
+}
+
+static void is_apart(const char *what, const char *cards, const uint8_t *ours, size_t ours_len, const uint8_t *theirs, size_t theirs_len, uint64_t number)
+{
+    judged(what, cards, ours, ours_len, theirs, theirs_len, 0, 0, 0, 0, number);
+}
+
+static void refuses_judge(const char *what, const char *cards, const uint8_t *ours, size_t ours_len, const uint8_t *theirs, size_t theirs_len,
+                          uint64_t refusal, uint64_t place, uint64_t column)
+{
+    judged(what, cards, ours, ours_len, theirs, theirs_len, refusal, place, column, 0, 0);
 }
 
 /* Each entry has the part 255 before the call, which no field has: refused leaves it, finished writes 0 or 1 into the first ones. */
@@ -348,6 +380,7 @@ static void test_keys(void)
     plain("a field of a key that A has not", "// U TF,FF,A=(3,3),B=(3,3)\n// FS 1,1,1\n// FS (K,1),1,1\n// END", planned(8, 3, 0, 0, 0, 0));
     plain("a field past the key", "// U TF,FF,A=(K=2,D=4),B=(3,3)\n// FS (K,2),2,1\n// END", planned(9, 1, 0, 0, 0, 0));
     runs("a key before the data", keyed, s, sizeof s, ROOM, now, sizeof now, 2, 1);
+    is_true("a key before the data, judged", keyed, s, sizeof s, now, sizeof now);
     refuses_run("two records of a key in one block", keyed, joined, sizeof joined, ROOM, 12, 1, 0);
     shows("a digit of the key is dropped", lossy, 6, BHX_DROPPED, digits, 6);
     refuses_twins("a byte too little for key and data", lossy, 5, 15, 6, 0);
@@ -379,8 +412,15 @@ static void test_spanned(void)
     memcpy(bad, s, sizeof bad);
     bad[48] = 1;
     refuses_run("a record that is unfinished at the end", wider, bad, sizeof bad, ROOM, 12, 3, 0);
+    refuses_judge("theirs is unfinished at the end", wider, s, sizeof s, bad, sizeof bad, 18, 3, 0);
     bad[38] = 0;
     refuses_run("a segment out of turn", same, bad, sizeof bad, ROOM, 12, 2, 0);
+    is_true("segments, filled as a run does", wider, s, sizeof s, filled, sizeof filled);
+    is_true("segments that lie as ours do", wider, s, sizeof s, s, sizeof s);
+    refuses_judge("a block of theirs past g", "// U TR,FS,A=(12),B=(11)\n// END", s, sizeof s, s, sizeof s, 18, 1, 0);
+    memcpy(bad, s, sizeof bad);
+    bad[52]++;
+    is_apart("the last byte of the second record", wider, s, sizeof s, bad, sizeof bad, 2);
     refuses_twins("twins of spanned records", wider, 0, 16, 0, 0);
 }
 
@@ -444,6 +484,88 @@ static void test_alike(void)
     runs("the run of twins", twins, both, sizeof both, ROOM, now, 28, 2, 2);
 }
 
+/* Yes, which record is apart, and what is refused; the blocks need not be those of a run. */
+static void test_judge(void)
+{
+    static const char wide[] = "// U TRF,FF,A=(8,16),B=(7,14)\n// FS 1,4,1/5,(P,4,3),5\n// END\n";
+    static const char second[] = "// U TRF,FF,A=(8,16),B=(7,7),R2\n// FS 1,4,1/5,(P,4,3),5\n// END\n";
+    static const char gap[] = "// U TRF,FF,A=(8,16),B=(7,7)\n// FS 1,4,1/5,(P,4,2),6\n// END\n";
+    static const uint8_t gaps[3] = {0x00, 0x23, 0x4C};
+    uint8_t one[19] = {0, 0, 0, 1, 0, 0, 0, 12, 0, 0, 0, 19}, other[sizeof result];
+    memcpy(one + 12, result + 16, 7);
+    is_true("what a run wrote", deck, reel, sizeof reel, result, sizeof result);
+    is_true("blocks that are not full", wide, reel, sizeof reel, result, sizeof result);
+    is_true("both empty", deck, empty_reel, 8, empty_reel, 8);
+    is_true("both empty, from record 2 on", second, empty_reel, 8, empty_reel, 8);
+    is_apart("theirs lacks a record", deck, reel, sizeof reel, one, sizeof one, 2);
+    is_apart("theirs lacks all", deck, reel, sizeof reel, empty_reel, 8, 1);
+    is_apart("ours lacks all", deck, empty_reel, 8, one, sizeof one, 1);
+    is_apart("the first record where the second is asked for", second, reel, sizeof reel, one, sizeof one, 1);
+    one[16] = 9;
+    is_true("the second record alone, from record 2 on", second, reel, sizeof reel, one, sizeof one);
+    memcpy(other, result, sizeof other);
+    other[20] = 9;
+    is_apart("ours lacks a record, from record 2 on", second, reel, sizeof reel, other, sizeof other, 2);
+    memcpy(other, result, sizeof other);
+    other[29] = 0x4D;
+    is_apart("the sign of the last record", deck, reel, sizeof reel, other, sizeof other, 2);
+    other[16] = 0;
+    is_apart("the first of two records", deck, reel, sizeof reel, other, sizeof other, 1);
+    memcpy(other, result, sizeof other);
+    memcpy(other + 20, gaps, sizeof gaps);
+    memcpy(other + 27, gaps, sizeof gaps);
+    other[27] = 0xFF;
+    is_true("a byte that nothing writes", gap, reel, sizeof reel, other, sizeof other);
+    other[16] = 0;
+    other[11] = 24;
+    refuses_judge("a block of theirs past m, and a record that is apart", deck, reel, sizeof reel, other, sizeof other, 18, 1, 0);
+    other[11] = 23;
+    other[15] = 29;
+    refuses_judge("a block of no whole records, behind a record that is apart", deck, reel, sizeof reel, other, sizeof other - 1, 18, 2, 0);
+}
+
+/* What is refused before anything is judged, in its order. */
+static void test_not_judged(void)
+{
+    static const char copied[] = "// U TC,FF,A=(8,16),B=(8,16)\n// END\n";
+    static const char with_fields[] = "// U TC,FF,A=(8,16),B=(8,16)\n// FS 1,1,1\n// END\n";
+    static const char selected[] = "// U TF,FF,A=(8,16),B=(7,14)\n// FS 1,4,1/5,(P,4,3),5\n// END\n";
+    uint8_t bad[sizeof reel];
+    memcpy(bad, reel, sizeof bad);
+    bad[24] = 0xFA;
+    refuses_judge("no byte of theirs", deck, reel, sizeof reel, reel, 0, 17, 0, 0);
+    refuses_judge("theirs is cut", deck, reel, sizeof reel, result, sizeof result - 1, 17, 0, 0);
+    refuses_judge("no byte of ours", deck, reel, 0, result, sizeof result, 11, 0, 0);
+    refuses_judge("no byte of either", deck, reel, 0, result, 0, 11, 0, 0);
+    refuses_judge("nothing at all", "", reel, 0, result, 0, 2, 1, 0);
+    refuses_judge("a block of ours past m", "// U TR,FF,A=(8,8),B=(8,8)\n// END", reel, sizeof reel, result, 0, 12, 1, 0);
+    refuses_judge("a half of ours that is not permitted", deck, bad, sizeof bad, result, 0, 13, 2, 0);
+    refuses_judge("TC", copied, reel, sizeof reel, reel, sizeof reel, 8, 1, 0);
+    refuses_judge("TF", selected, reel, sizeof reel, result, sizeof result, 8, 1, 0);
+    refuses_judge("TC with an FS card", with_fields, reel, 0, result, 0, 8, 1, 0);
+    refuses_judge("a refused plan", barren, reel, sizeof reel, result, sizeof result, 10, 0, 0);
+    refuses_judge("a parameter that stands twice", twice, reel, sizeof reel, result, sizeof result, 4, 1, 14);
+    refuses_judge("a number outside its limits", small, reel, 0, result, 0, 7, 2, 15);
+}
+
+/* Records of any length: with CV the tail counts, without it a longer record is apart, and data is at least B's n. */
+static void test_judged_lengths(void)
+{
+    static const char carried[] = "// U TRF,FV,A=(2,30),B=(1,30)\n// FS 2,1,1/CV\n// END\n";
+    static const char dropped[] = "// U TRF,FV,A=(2,30),B=(1,30)\n// FS 2,1,1\n// END\n";
+    static const char two[] = "// U TRF,FV,A=(2,30),B=(2,30)\n// FS 1,2,1\n// END\n";
+    static const uint8_t s[23] = {0, 0, 0, 1, 0, 0, 0, 12, 0, 0, 0, 23, 0, 11, 0, 0, 0, 7, 0, 0, 1, 2, 3};
+    uint8_t t[22] = {0, 0, 0, 1, 0, 0, 0, 12, 0, 0, 0, 22, 0, 10, 0, 0, 0, 6, 0, 0, 2, 3};
+    static const uint8_t least[21] = {0, 0, 0, 1, 0, 0, 0, 12, 0, 0, 0, 21, 0, 9, 0, 0, 0, 5, 0, 0, 2};
+    is_true("a tail that is carried", carried, s, sizeof s, t, sizeof t);
+    is_apart("a tail that is not", dropped, s, sizeof s, t, sizeof t, 1);
+    is_true("no tail", dropped, s, sizeof s, least, sizeof least);
+    is_apart("no tail where one is carried", carried, s, sizeof s, least, sizeof least, 1);
+    refuses_judge("data of theirs under B's n", two, s, sizeof s, least, sizeof least, 18, 1, 0);
+    t[21] = 4;
+    is_apart("another byte of the tail", carried, s, sizeof s, t, sizeof t, 1);
+}
+
 int main(void)
 {
     test_runs();
@@ -456,6 +578,9 @@ int main(void)
     test_twins();
     test_long_twins();
     test_alike();
+    test_judge();
+    test_not_judged();
+    test_judged_lengths();
     printf("%d calls, %d wrong\n", calls, wrong);
     return wrong ? 1 : 0;
 }

@@ -31,6 +31,7 @@ program edges
     call test_keys()
     call test_spanned()
     call test_twins()
+    call test_judge()
     print "(i0, a, i0, a)", tested, " tests, ", wrong, " wrong"
 
 contains
@@ -249,6 +250,46 @@ contains
         call check(same_twins(t, 0, 0, 0, bhx_dropped, 16) .and. all(output(1:32:2) == both) .and. all(output(2:64:2) == 77) &
             .and. all(output(33:64:2) == 77), "twins into an array with gaps")
     end subroutine test_twins
+
+    logical function same_verdict(j, refusal, place, column, yes, number)
+        type(bhx_judged), intent(in) :: j
+        integer, intent(in) :: refusal, place, column, number
+        logical, intent(in) :: yes
+        same_verdict = j%refusal == refusal .and. j%place == place .and. j%column == column .and. (j%yes .eqv. yes) &
+            .and. j%number == number
+    end function same_verdict
+
+    ! Yes, which record is apart, and what is refused; a deck in each of its three ways.
+    subroutine test_judge()
+        character(len=*), parameter :: second(3) = [character(len=40) :: &
+            "// UTT TRF,FF,A=(8,16),B=(7,7),R2", "// FS 1,4,1/5,(P,4,3),5", "// END"]
+        character(len=*), parameter :: copied(2) = [character(len=40) :: "// U TC,FF,A=(8,16),B=(8,16)", "// END"]
+        integer(int8), parameter :: empty(8) = int([0, 0, 0, 0, 0, 0, 0, 8], int8)
+        integer(int8) :: theirs(30), wide(60)
+        call check(same_verdict(judge_reel(cards, reel, result), 0, 0, 0, .true., 0), "what a run wrote")
+        call check(same_verdict(judge_reel(text, reel, result), 0, 0, 0, .true., 0), "what a run wrote, by a text")
+        call check(same_verdict(judge_reel(transfer(text, none), reel, result), 0, 0, 0, .true., 0), "what a run wrote, by bytes")
+        call check(same_verdict(judge_reel(filled, short, short), 0, 0, 0, .true., 0), "blocks that are not full")
+        call check(same_verdict(judge_reel(cards, empty, empty), 0, 0, 0, .true., 0), "both empty")
+        call check(same_verdict(judge_reel(cards, reel, empty), 0, 0, 0, .false., 1), "theirs lacks all")
+        theirs = result
+        theirs(30) = 77
+        call check(same_verdict(judge_reel(cards, reel, theirs), 0, 0, 0, .false., 2), "the sign of the last record")
+        theirs = result
+        theirs(21) = 9
+        call check(same_verdict(judge_reel(second, reel, theirs), 0, 0, 0, .false., 2), "ours lacks a record, from record 2 on")
+        wide = 55
+        wide(1:60:2) = result
+        call check(same_verdict(judge_reel(cards, reel, wide(1:60:2)), 0, 0, 0, .true., 0), "arrays with gaps, judged")
+        call check(same_verdict(judge_reel(cards, reel, none), 17, 0, 0, .false., 0), "no byte of theirs")
+        call check(same_verdict(judge_reel(cards, none, none), 11, 0, 0, .false., 0), "no byte of either")
+        call check(same_verdict(judge_reel(none, none, none), 2, 1, 0, .false., 0), "nothing at all, judged")
+        theirs = result
+        theirs(16) = 29
+        call check(same_verdict(judge_reel(cards, reel, theirs(1:29)), 18, 2, 0, .false., 0), "a block of no whole records")
+        call check(same_verdict(judge_reel(copied, reel, reel), 8, 1, 0, .false., 0), "TC")
+        call check(same_verdict(judge_reel(twice, reel, result), 4, 1, 14, .false., 0), "judged by a parameter that stands twice")
+    end subroutine test_judge
 
     ! Cards as a text.
     function lines(from) result(joined)

@@ -1,15 +1,6 @@
 // Converts a reel as a deck asks: convert_reel DECK REEL OUT. Prints one line: refusal, place, length, records, blocks. OUT is written only
 // where the run is finished. What is refused, what the plan of a finished run loses, and a file that cannot be read or written, is said in
 // plain words on standard error; such a file gives no line.
-ghost use mathlib.Core.Path.{_≡_};
-ghost use lib.ListN.{length};
-
-// Room for one byte more than the longest reel has: a file that fills it is no reel, whatever follows.
-fn reel_room() -> [u8; 65537]
-    ensures { λ r. ⌜ 65537 ≡ length r ⌝ }
-{
-    [0; 65537]
-}
 
 fn refused(deck: &[u8], refusal: usize, place: usize, column: usize) {
     notices::line(&[refusal, place, 0, 0, 0]);
@@ -38,7 +29,7 @@ fn convert_files(deck: &[u8], reel: &[u8], out: &[u8]) {
     if read.failed {
         return;
     }
-    let mut blocks = reel_room();
+    let mut blocks = files::reel_room();
     let filled = files::reel(reel, &mut blocks);
     if filled.failed {
         return;

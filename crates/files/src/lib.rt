@@ -6,5 +6,6 @@ mod output;
 pub use given::deck;
 pub use given::name;
 pub use given::reel;
+pub use given::reel_room;
 pub use output::put;
 pub use output::write;

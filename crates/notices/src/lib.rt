@@ -1,10 +1,14 @@
 // What programs tell people: the line of numbers on standard output, and in plain words on standard error what was refused, where, and
 // what to look at, or what a plan loses. The words of refusals 1 to 10 stand in `deck`, what they say of a card with a column in `card`, and the words of 11 to
-// 15 in `reel`; 16, by which a plan that keeps has no twins, is said here.
+// 15, 17 and 18 in `reel`; 16, by which a plan that keeps has no twins, is said here. How a field is named stands in `field`.
 mod card;
 mod deck;
+mod field;
 mod reel;
 
+pub use field::field_on_card;
+ghost use mathlib.Core.Path.{_≡_};
+ghost use lib.ListN.{length};
 use libc::STDERR_FILENO;
 use libc::STDOUT_FILENO;
 use plans::Planned;
@@ -16,6 +20,23 @@ pub fn say(text: &[u8]) {
 
 pub fn number(n: usize) {
     io::print_decimal(STDERR_FILENO, n as u64);
+}
+
+// The digit of a byte's low half.
+fn digit(byte: u8) -> u8 {
+    let value = byte % 16;
+    if value < 10 {
+        b'0' + value
+    } else {
+        b'A' + (value - 10)
+    }
+}
+
+// The two hexadecimal digits of a byte. The `ensures` gives the length, which lending the array as a slice needs.
+pub fn hex(byte: u8) -> [u8; 2]
+    ensures { λ r. ⌜ 2 ≡ length r ⌝ }
+{
+    [digit(byte / 16), digit(byte)]
 }
 
 // The numbers on standard output, with a blank between.

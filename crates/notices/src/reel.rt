@@ -1,10 +1,25 @@
-// What refusals 11 to 15, of a run over a reel, say.
+// What refusals 11 to 15, of a run over a reel, and 17 and 18, of a reel from elsewhere, say.
 use crate::number;
 use crate::say;
 
-fn not_a_reel() {
+fn not_a_reel(reel: &[u8]) {
+    say(b": ");
+    say(reel);
     say(
-        b": the file is no reel: a block count, the offset of each block and of the reel's end, each a big-endian number of 4 bytes, and then the blocks; at most 65,536 bytes",
+        b" is no reel: a block count, the offset of each block and of the reel's end, each a big-endian number of 4 bytes, and then the blocks; at most 65,536 bytes",
+    );
+}
+
+// What FV and FS ask of a block.
+fn with_words() {
+    say(
+        b"in FV at most m or g, with its length and that of each record in 2 bytes and 2 zero bytes before, and with fields at least n bytes of data in a record; ",
+    );
+    say(
+        b"in FS at most g, with its length as in FV, and before each segment its length in 2 bytes, its code and a zero byte: ",
+    );
+    say(
+        b"0 for a whole record, or 1 for the first segment, 3 for each between and 2 for the last, in turn; a record has at most 32,752 bytes, and is not left unfinished at the end",
     );
 }
 
@@ -15,15 +30,16 @@ fn bad_block(place: usize) {
     say(
         b"in FF a multiple of n bytes, at most m, wherever it stands, and with keys just K and D bytes; in FU at most g; ",
     );
-    say(
-        b"in FV at most m or g, with its length and that of each record in 2 bytes and 2 zero bytes before, and with fields at least n bytes of data in a record; ",
-    );
-    say(
-        b"in FS at most g, with its length as in FV, and before each segment its length in 2 bytes, its code and a zero byte: ",
-    );
-    say(
-        b"0 for a whole record, or 1 for the first segment, 3 for each between and 2 for the last, in turn; a record has at most 32,752 bytes, and is not left unfinished at the end",
-    );
+    with_words();
+}
+
+// A block of theirs has neither keys nor FU.
+fn bad_foreign_block(place: usize) {
+    say(b", at block ");
+    number(place);
+    say(b" of theirs: this block is not one that the U card's F and B allow: ");
+    say(b"in FF a multiple of n bytes, at most m, full or not; ");
+    with_words();
 }
 
 fn bad_record(place: usize) {
@@ -50,13 +66,15 @@ fn too_long(length: usize) {
     );
 }
 
-// The place is a block or a record. Refusal 11 has none, and that of 15 is a length.
+// The place is a block or a record. Refusals 11 and 17 have none, and that of 15 is a length.
 pub(crate) fn explain(refusal: usize, place: usize) {
     match refusal {
-        11 => not_a_reel(),
+        11 => not_a_reel(b"the input"),
         12 => bad_block(place),
         13 => bad_record(place),
         14 => no_room(place),
+        17 => not_a_reel(b"theirs"),
+        18 => bad_foreign_block(place),
         _ => too_long(place),
     }
 }

@@ -1,7 +1,5 @@
-// The fields of a plan: which is the last over a byte, what becomes of a half in it, and how people find it on its card.
+// The fields of a plan: which is the last over a byte, and what becomes of a half in it.
 ghost use Prim.Native.Nat.{_≤_};
-use notices::number;
-use notices::say;
 use terms::Field;
 use terms::Kind;
 
@@ -120,51 +118,7 @@ pub(crate) fn output_byte(f: Field, half: usize) -> usize {
     end - 1 - back
 }
 
-// Says the two sizes of a pack or unpack, behind its letter.
-fn say_sizes(letter: &[u8], f: Field) {
-    say(b"(");
-    say(letter);
-    say(b",");
-    number(f.input);
-    say(b",");
-    number(f.output);
-    say(b")");
-}
-
-// Says where a field begins to read as a card does, behind a key of so many bytes.
-fn say_start(r: usize, key: usize) {
-    if r <= key {
-        say(b"(K,");
-        number(r);
-        say(b")");
-        return;
-    }
-    number(r - key);
-}
-
-// Says a field as an item of a card.
-fn say_item(f: Field, key: usize) {
-    say_start(f.r, key);
-    say(b",");
-    let kind = f.kind;
-    match kind {
-        Kind::Copy => number(f.input),
-        Kind::Pack => say_sizes(b"P", f),
-        Kind::Unpack => say_sizes(b"U", f),
-    }
-    say(b",");
-    number(f.t);
-}
-
 // Says a field by its number, its item and its card.
 pub(crate) fn say_field(deck: &[u8], key: usize, fields: &[u16], field: usize) {
-    if field == 0 {
-        return;
-    }
-    say(b"field ");
-    number(field);
-    say(b", ");
-    say_item(numbered(fields, field), key);
-    say(b" on card ");
-    number(cards::field_card(deck, field - 1));
+    notices::field_on_card(deck, key, field, numbered(fields, field));
 }

@@ -35,22 +35,11 @@ fn column(byte: usize) -> usize
     16 + 2 * i + i / 4
 }
 
-// The digit of a byte's low half.
-fn digit(byte: u8) -> u8 {
-    let value = byte % 16;
-    if value < 10 {
-        b'0' + value
-    } else {
-        b'A' + (value - 10)
-    }
-}
-
 // Puts bytes into a row, of which the first begins a row.
 fn put_bytes(row: &mut [u8], bytes: &[u8]) {
     let mut i = 0;
     while i < bytes.len() {
-        let byte = bytes[i];
-        room::put(row, column(i), &[digit(byte / 16), digit(byte)]);
+        room::put(row, column(i), &notices::hex(bytes[i]));
         i += 1;
     }
 }

@@ -15,17 +15,14 @@ abbrev μ-loop : tie.MeasureT-loop
 loop-holds : tie.Need-loop-holds Inv-loop μ-loop
 loop-holds c = search needs
 
-shared-slice-read-byte : tie.Need-shared-slice-read-byte Inv-loop μ-loop
-shared-slice-read-byte c = search needs
-
 column-requires : tie.Need-column-requires Inv-loop μ-loop
 column-requires c κs = search needs
 
-digit-requires : tie.Need-digit-requires Inv-loop μ-loop
-digit-requires c κs = search needs
+shared-slice-read-hex : tie.Need-shared-slice-read-hex Inv-loop μ-loop
+shared-slice-read-hex c = search needs
 
-digit-requires-2 : tie.Need-digit-requires-2 Inv-loop μ-loop
-digit-requires-2 c κs = search needs
+hex-requires : tie.Need-hex-requires Inv-loop μ-loop
+hex-requires c κs = search needs
 
 slice-aggregate-put : tie.Need-slice-aggregate-put Inv-loop μ-loop
 slice-aggregate-put c = search needs
@@ -55,10 +52,9 @@ put-bytes-spec =
     Inv-loop
     μ-loop
     loop-holds
-    shared-slice-read-byte
     column-requires
-    digit-requires
-    digit-requires-2
+    shared-slice-read-hex
+    hex-requires
     slice-aggregate-put
     put-requires
     add-i
