@@ -1,10 +1,10 @@
 // What a reel is read as, as words of a line.
 use crate::say;
-use reels::Cursor;
-use reels::Form;
-use reels::PieceRead;
+use pieces::Cursor;
+use pieces::Form;
+use pieces::PieceRead;
+use pieces::StartRead;
 use reels::ReelRead;
-use reels::StartRead;
 use terms::Asked;
 use terms::Format;
 
@@ -60,7 +60,7 @@ fn pieces_from(form: Form, block: &[u8], from: Cursor, before: Told) -> Told {
     let mut at = from.at;
     let mut told = before;
     loop {
-        let read = reels::piece(form, block, Cursor { at });
+        let read = pieces::piece(form, block, Cursor { at });
         match read {
             PieceRead::Piece {
                 place: _,
@@ -78,7 +78,7 @@ fn pieces_from(form: Form, block: &[u8], from: Cursor, before: Told) -> Told {
 }
 
 fn pieces(form: Form, block: &[u8], before: Told) -> Told {
-    let start = reels::start(form, block);
+    let start = pieces::start(form, block);
     match start {
         StartRead::From { cursor } => pieces_from(form, block, cursor, before),
         StartRead::NoStart => before,
@@ -90,7 +90,7 @@ fn segments_from(block: &[u8], from: Cursor, before: Told) -> Told {
     let mut at = from.at;
     let mut told = before;
     loop {
-        let read = reels::segment(block, Cursor { at });
+        let read = pieces::segment(block, Cursor { at });
         match read {
             PieceRead::Piece {
                 place: _,
@@ -108,7 +108,7 @@ fn segments_from(block: &[u8], from: Cursor, before: Told) -> Told {
 }
 
 fn segments(block: &[u8], before: Told) -> Told {
-    let start = reels::variable_start(block);
+    let start = pieces::variable_start(block);
     match start {
         StartRead::From { cursor } => segments_from(block, cursor, before),
         StartRead::NoStart => before,

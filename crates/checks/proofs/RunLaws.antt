@@ -36,7 +36,7 @@ use Rattle.measures.specs.declared.Measured.the-variants.{Fits}
 use Rattle.measures.specs.Promise.{Selecting, Selected, FirstUnpermitted, Measurable, Measures, fitAnswer, answerOf, measuredOf}
 use Rattle.measures.proofs.PromiseLaws.{measured-says, measured-fits}
 use Rattle.reels.specs.Records.{ReadAs}
-use Rattle.reels.specs.declared.Form.{Form}
+use Rattle.pieces.specs.declared.Form.{Form}
 use Rattle.reels.proofs.ReelTold.{Tells, tells}
 use Rattle.terms.specs.Meaning.{modeOf}
 use Rattle.terms.specs.declared.Task.{Task}

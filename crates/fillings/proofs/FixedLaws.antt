@@ -18,7 +18,7 @@ use Rattle.rules.proofs.EvenLaws.{even-size, even-count}
 use Rattle.terms.specs.declared.Task.{Task}
 use Rattle.terms.specs.declared.Format.the-variants.{FF}
 use Rattle.terms.specs.Meaning.{formatOf, TaskIs}
-use Rattle.reels.specs.declared.Form.{Form}
+use Rattle.pieces.specs.declared.Form.{Form}
 use Rattle.walks.specs.Walking.{fixedStart}
 use Rattle.walks.specs.Promise.{Good}
 use Rattle.walks.proofs.FixedLaws.{start-is, fixed-taken}

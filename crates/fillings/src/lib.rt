@@ -68,6 +68,6 @@ pub fn put_offset(base: usize, tally: Tally, more: Tally, out: &mut [u8])
     ensures { λ _. ⌜ now (out .exit) ≡ offsetPut base tally more (now (out .entry)) ⌝ }
 {
     if tally.blocks < more.blocks {
-        reels::put_word(out, 4 * more.blocks, base + tally.bytes);
+        pieces::put_word(out, 4 * more.blocks, base + tally.bytes);
     }
 }

@@ -23,7 +23,7 @@ use Rattle.rules.proofs.RecordLaws.{fits-of}
 use Rattle.terms.specs.Meaning.{modeOf}
 use Rattle.terms.specs.declared.Mode.{Mode}
 use Rattle.terms.specs.declared.Task.{Task}
-use Rattle.reels.specs.declared.Form.{Form}
+use Rattle.pieces.specs.declared.Form.{Form}
 use Rattle.rows.specs.Flat.{FlatFair}
 use Rattle.records.specs.Promise.{outBytes}
 use Rattle.walks.specs.Marks.{markedAll}

@@ -2,11 +2,11 @@
 ghost use mathlib.Core.Path.{_≡_};
 ghost use lib.ListN.{length};
 ghost use Rattle.io.specs.Counts.{Counts};
-ghost use Rattle.reels.proofs.PiecesLaws.{further};
-use reels::Cursor;
-use reels::Form;
+ghost use Rattle.pieces.proofs.PiecesLaws.{further};
+use pieces::Cursor;
+use pieces::Form;
+use pieces::PieceRead;
 use reels::HeaderRead;
-use reels::PieceRead;
 use terms::Format;
 
 // Room for the longest record. The `ensures` gives the length, which lending the array as a slice needs.
@@ -38,9 +38,9 @@ fn piece_at(form: Form, b: &[u8], at: usize) -> PieceRead
 {
     let format = form.format;
     if combinations::is_fs(format) {
-        return reels::segment(b, Cursor { at });
+        return pieces::segment(b, Cursor { at });
     }
-    reels::piece(form, b, Cursor { at })
+    pieces::piece(form, b, Cursor { at })
 }
 
 // The number behind so many records, of which no reel has more than 65,536.

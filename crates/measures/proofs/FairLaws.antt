@@ -10,8 +10,8 @@ use Rattle.rules.specs.Plan.{Plan}
 use Rattle.rules.specs.Blocks.{takenFrom}
 use Rattle.rules.proofs.Bounds.{reel-most}
 use Rattle.terms.specs.declared.Task.{Task}
-use Rattle.reels.specs.declared.Form.{Form}
-use Rattle.reels.specs.Form.{FormIs}
+use Rattle.pieces.specs.declared.Form.{Form}
+use Rattle.pieces.specs.Form.{FormIs}
 use Rattle.walks.specs.declared.Walk.{Walk}
 use Rattle.walks.specs.Marks.{markedAll}
 use Rattle.walks.specs.Promise.{Good, Walks, Sound, bytesLeft, Taken}

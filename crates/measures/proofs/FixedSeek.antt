@@ -19,7 +19,7 @@ use Rattle.rules.proofs.FitSteps.{each-pass, each-stop}
 use Rattle.rules.proofs.EvenLaws.{Next, even-size, even-next, even-end}
 use Rattle.terms.specs.declared.Task.{Task}
 use Rattle.terms.specs.declared.Format.the-variants.{FF}
-use Rattle.reels.specs.declared.Form.{Form}
+use Rattle.pieces.specs.declared.Form.{Form}
 use Rattle.rows.specs.Flat.{Readable}
 use Rattle.values.specs.Promise.{Permits}
 use Rattle.walks.specs.Walking.{fixedStart}

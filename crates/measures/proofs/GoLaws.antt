@@ -18,7 +18,7 @@ use Rattle.rules.proofs.FillSteps.{Measure, unmeasured}
 use Rattle.rules.proofs.ReelLaws.{length-reel}
 use Rattle.rules.proofs.FitSteps.{each-pass, each-stop}
 use Rattle.terms.specs.declared.Task.{Task}
-use Rattle.reels.specs.declared.Form.{Form}
+use Rattle.pieces.specs.declared.Form.{Form}
 use Rattle.walks.specs.declared.Walk.{Walk}
 use Rattle.walks.specs.declared.RecordRead.{RecordRead}
 use Rattle.walks.specs.declared.RecordRead.the-variants.{Record, End}

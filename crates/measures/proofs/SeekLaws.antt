@@ -18,7 +18,7 @@ use Rattle.rules.proofs.RecordLaws.{fits-of}
 use Rattle.rules.proofs.FitSteps.{each-pass, each-stop}
 use Rattle.rules.proofs.MeasureLaws.{kinds-within, permits-halves}
 use Rattle.terms.specs.declared.Task.{Task}
-use Rattle.reels.specs.declared.Form.{Form}
+use Rattle.pieces.specs.declared.Form.{Form}
 use Rattle.rows.specs.Flat.{flatOf, FlatFair, Readable}
 use Rattle.values.specs.Promise.{Permits}
 use Rattle.walks.specs.declared.Walk.{Walk}

@@ -143,11 +143,11 @@ fn blocks_behind(s: &[u8], from: usize) -> usize
     requires { ⌜ isReel (now s) ≡ true ⌝ }
     ensures { λ r. ⌜ r ≡ countBehind from (offsets (now (s .entry))) ⌝ }
 {
-    let count = reels::word(s, 0);
+    let count = pieces::word(s, 0);
     let mut blocks = 0;
     let mut i = 0;
     while i < count {
-        if from < reels::word(s, 4 * i + 8) {
+        if from < pieces::word(s, 4 * i + 8) {
             blocks += 1;
         }
         i += 1;

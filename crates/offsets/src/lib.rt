@@ -19,11 +19,11 @@ pub fn put_steps(step: usize, base: usize, end: usize, out: &mut [u8])
     let mut at = 4;
     let mut next = base;
     while next < end {
-        reels::put_word(out, at, next);
+        pieces::put_word(out, at, next);
         at += 4;
         next += step;
     }
-    reels::put_word(out, at, end);
+    pieces::put_word(out, at, end);
 }
 
 // Where an input block ends behind a place, its output block ends so many outputs of w bytes behind the first as it ends records of n bytes behind the place.
@@ -45,7 +45,7 @@ fn put_end(
     if end <= from {
         return at;
     }
-    reels::put_word(out, at, base + (end - from) / n * w);
+    pieces::put_word(out, at, base + (end - from) / n * w);
     at + 4
 }
 
@@ -56,12 +56,12 @@ pub fn put_each(n: usize, w: usize, s: &[u8], from: usize, base: usize, out: &mu
     requires { ⌜ 4 + length (word base ++ endsBehind n w from base (offsets (now s))) ≤ length (now out) ⌝ }
     ensures { λ _. ⌜ now (out .exit) ≡ over 4 (word base ++ endsBehind n w from base (offsets (now (s .entry)))) (now (out .entry)) ⌝ }
 {
-    reels::put_word(out, 4, base);
-    let count = reels::word(s, 0);
+    pieces::put_word(out, 4, base);
+    let count = pieces::word(s, 0);
     let mut at = 8;
     let mut i = 0;
     while i < count {
-        let end = reels::word(s, 4 * i + 8);
+        let end = pieces::word(s, 4 * i + 8);
         at = put_end(n, w, from, base, end, at, out);
         i += 1;
     }

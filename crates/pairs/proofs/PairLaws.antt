@@ -16,7 +16,7 @@ use Rattle.rules.proofs.Bounds.{reel-most}
 use Rattle.rules.proofs.BlockSizes.{least-selects}
 use Rattle.rules.proofs.TakenLaws.{taken-first}
 use Rattle.terms.specs.declared.Task.{Task}
-use Rattle.reels.specs.declared.Form.{Form}
+use Rattle.pieces.specs.declared.Form.{Form}
 use Rattle.walks.specs.declared.Walk.{Walk}
 use Rattle.walks.specs.declared.RecordRead.{RecordRead}
 use Rattle.walks.specs.declared.RecordRead.the-variants.{Record, End}

@@ -15,8 +15,8 @@ use Rattle.rules.specs.Lent.{zoneF}
 use Rattle.rules.specs.Judge.{underB, agrees, firstApart}
 use Rattle.terms.specs.declared.Task.{Task}
 use Rattle.rows.specs.Flat.{flatOf}
-use Rattle.reels.specs.declared.Form.{Form}
-use Rattle.reels.specs.Form.{FormIs}
+use Rattle.pieces.specs.declared.Form.{Form}
+use Rattle.pieces.specs.Form.{FormIs}
 use Rattle.walks.specs.declared.Walk.{Walk}
 use Rattle.walks.specs.Promise.{Good, Walks}
 use Rattle.checks.specs.Promise.{Given}

@@ -5,7 +5,7 @@ ghost use lib.ListN.{length};
 ghost use Rattle.rows.specs.Flat.{Fielded};
 ghost use Rattle.walks.specs.Promise.{Standing};
 ghost use Rattle.pairs.specs.Promise.{WrittenOver, Selecting, Comparable, AgreesAs, Lacks, BothRead, ApartAt};
-use reels::Form;
+use pieces::Form;
 use terms::Mode;
 use terms::Task;
 use walks::RecordRead;

@@ -9,9 +9,9 @@ use Rattle.rules.specs.Grammar.{tf, tr}
 use Rattle.rules.specs.Plan.{Plan, selects, recordLength}
 use Rattle.rules.specs.Blocks.{Piece, piecesIn, leastData, meets, recordsOf, recordsIn, recordsFrom}
 use Rattle.rules.specs.Reel.{blocksOf}
-use Rattle.reels.specs.Form.{FormIs, planBy}
+use Rattle.pieces.specs.Form.{FormIs, planBy}
 use Rattle.reels.specs.Records.{reelRead}
-use Rattle.reels.specs.declared.Form.{Form}
+use Rattle.pieces.specs.declared.Form.{Form}
 
 pub form-by : (form : Form) → FormIs form (planBy form)
 unfolding planBy

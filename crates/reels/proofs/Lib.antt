@@ -1,6 +1,4 @@
 pub mod HeaderLaws
-pub mod WordsLaws
-pub mod PiecesLaws
 pub mod FormLaws
 pub mod RecordsLaws
 pub mod ReelReads

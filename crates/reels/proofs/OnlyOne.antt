@@ -2,18 +2,10 @@
 use mathlib.Core.Path.{_≡_, sym, _∙_}
 use mathlib.Core.List.{List}
 use Prim.Native.Nat.{ℕ}
-use Rattle.rules.specs.Halves.{over}
-use Rattle.rules.specs.Output.{lengthWord}
-use Rattle.rules.specs.Spanned.{codedWord}
-use Rattle.rules.specs.Reel.{word}
-use Rattle.rules.specs.ReelPlaces.{wordAt}
+use Rattle.pieces.specs.declared.Form.{Form}
 use Rattle.reels.specs.Header.{headerOf, partAt}
-use Rattle.reels.specs.Pieces.{variableStart, startOf, pieceOf, wordedIn}
 use Rattle.reels.specs.Records.{Judged, ReadAs}
-use Rattle.reels.specs.declared.Form.{Form}
 use Rattle.reels.specs.declared.HeaderRead.{HeaderRead}
-use Rattle.reels.specs.declared.StartRead.{StartRead}
-use Rattle.reels.specs.declared.PieceRead.{PieceRead}
 use Rattle.reels.specs.declared.BlockRead.{BlockRead}
 use Rattle.reels.specs.declared.ReelRead.{ReelRead}
 use Rattle.reels.proofs.ReelTold.{answer-once}
@@ -21,38 +13,14 @@ use Rattle.reels.proofs.ReelTold.{answer-once}
 only-one : {A : Type 0} {x y z : A} → x ≡ z → y ≡ z → x ≡ y
 only-one e f = e ∙ sym f
 
-pub only-one-word : (s : List ℕ) (at r r′ : ℕ) → r ≡ wordAt s at → r′ ≡ wordAt s at → r ≡ r′
-only-one-word s at r r′ = only-one
-
 pub only-one-header : (s : List ℕ) (r r′ : HeaderRead) → r ≡ headerOf s → r′ ≡ headerOf s → r ≡ r′
 only-one-header s r r′ = only-one
 
 pub only-one-block : (s : List ℕ) (i : ℕ) (r r′ : List ℕ) → r ≡ partAt s i → r′ ≡ partAt s i → r ≡ r′
 only-one-block s i r r′ = only-one
 
-pub only-one-start : (form : Form) (b : List ℕ) (r r′ : StartRead) → r ≡ startOf form b → r′ ≡ startOf form b → r ≡ r′
-only-one-start form b r r′ = only-one
-
-pub only-one-variable-start : (b : List ℕ) (r r′ : StartRead) → r ≡ variableStart b → r′ ≡ variableStart b → r ≡ r′
-only-one-variable-start b r r′ = only-one
-
-pub only-one-piece : (form : Form) (b : List ℕ) (i : ℕ) (r r′ : PieceRead) → r ≡ pieceOf form b i → r′ ≡ pieceOf form b i → r ≡ r′
-only-one-piece form b i r r′ = only-one
-
-pub only-one-segment : (b : List ℕ) (i : ℕ) (r r′ : PieceRead) → r ≡ wordedIn 3 b i → r′ ≡ wordedIn 3 b i → r ≡ r′
-only-one-segment b i r r′ = only-one
-
 pub only-one-rule : (form : Form) (b : List ℕ) (r r′ : BlockRead) → Judged form b r → Judged form b r′ → r ≡ r′
 only-one-rule form b r r′ j j′ = only-one (j .is) (j′ .is)
 
 pub only-one-read-reel : (form : Form) (s : List ℕ) (r r′ : ReelRead) → ReadAs form s r → ReadAs form s r′ → r ≡ r′
 only-one-read-reel form s r r′ w w′ = answer-once r r′ (only-one (w .is) (w′ .is))
-
-pub only-one-put-word : (at value : ℕ) (out x x′ : List ℕ) → x ≡ over at (word value) out → x′ ≡ over at (word value) out → x ≡ x′
-only-one-put-word at value out x x′ = only-one
-
-pub only-one-put-coded-word : (at code length : ℕ) (out x x′ : List ℕ) → x ≡ over at (codedWord code length) out → x′ ≡ over at (codedWord code length) out → x ≡ x′
-only-one-put-coded-word at code length out x x′ = only-one
-
-pub only-one-put-length-word : (at length : ℕ) (out x x′ : List ℕ) → x ≡ over at (lengthWord length) out → x′ ≡ over at (lengthWord length) out → x ≡ x′
-only-one-put-length-word at length out x x′ = only-one

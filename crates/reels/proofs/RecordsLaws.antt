@@ -17,17 +17,17 @@ use Rattle.rules.specs.ReelPlaces.{piecesAt}
 use Rattle.terms.specs.Meaning.{formatOf}
 use Rattle.terms.specs.declared.Format.{Format}
 use Rattle.terms.specs.declared.Format.the-variants.{FF}
-use Rattle.reels.specs.Form.{planBy}
-use Rattle.reels.specs.Pieces.{startOf, pieceOf}
+use Rattle.pieces.specs.Form.{planBy}
+use Rattle.pieces.specs.Pieces.{startOf, pieceOf}
 use Rattle.reels.specs.Records.{countFrom, Counted, blockRead, Judged}
-use Rattle.reels.specs.declared.Form.{Form}
-use Rattle.reels.specs.declared.Cursor.{Cursor}
-use Rattle.reels.specs.declared.StartRead.the-variants.{From, NoStart}
-use Rattle.reels.specs.declared.PieceRead.{PieceRead}
-use Rattle.reels.specs.declared.PieceRead.the-variants.{Piece as Found, End, Bad}
+use Rattle.pieces.specs.declared.Form.{Form}
+use Rattle.pieces.specs.declared.Cursor.{Cursor}
+use Rattle.pieces.specs.declared.StartRead.the-variants.{From, NoStart}
+use Rattle.pieces.specs.declared.PieceRead.{PieceRead}
+use Rattle.pieces.specs.declared.PieceRead.the-variants.{Piece as Found, End, Bad}
 use Rattle.reels.specs.declared.BlockRead.{BlockRead}
 use Rattle.reels.specs.declared.BlockRead.the-variants.{Records, Breaks}
-use Rattle.reels.proofs.PiecesLaws.{followed, pieces-read, further, piece-further, begun, pieces-begun}
+use Rattle.pieces.proofs.PiecesLaws.{followed, pieces-read, further, piece-further, begun, pieces-begun}
 
 -- ---- one more piece
 

@@ -15,10 +15,10 @@ use Rattle.rules.specs.Blocks.{recordsIn, recordsFrom}
 use Rattle.rules.specs.ReelPlaces.{offsetAt}
 use Rattle.rules.proofs.ReelSteps.{offset-most, offset-rises, blocks-end}
 use Rattle.rules.proofs.TakenLaws.{after, after-none, blocks-good, blocks-bad}
-use Rattle.reels.specs.Form.{planBy}
+use Rattle.pieces.specs.Form.{planBy}
 use Rattle.reels.specs.Header.{headerOf, partAt}
 use Rattle.reels.specs.Records.{blockRead, Judged, reelRead, ReadAs}
-use Rattle.reels.specs.declared.Form.{Form}
+use Rattle.pieces.specs.declared.Form.{Form}
 use Rattle.reels.specs.declared.HeaderRead.the-variants.{Reel, NoReel}
 use Rattle.reels.specs.declared.BlockRead.the-variants.{Records, Breaks}
 use Rattle.reels.specs.declared.ReelRead.the-variants.{Read, NotReel, BadBlock}

@@ -22,20 +22,20 @@ use Rattle.rules.proofs.BlockSteps.{good-inside}
 use Rattle.rules.proofs.RecordSteps.{fixed-pos, records-next, records-done, sizeOf, opens, records-start}
 use Rattle.rules.proofs.ReelLaws.{length-blocks}
 use Rattle.rules.proofs.PieceLaws.{refused-block, read-at}
-use Rattle.reels.specs.Form.{FormIs}
+use Rattle.pieces.specs.Form.{FormIs}
 use Rattle.reels.specs.Header.{partAt}
-use Rattle.reels.specs.Pieces.{startIn, startOf, pieceIn, pieceOf}
+use Rattle.pieces.specs.Pieces.{startIn, startOf, pieceIn, pieceOf}
 use Rattle.reels.specs.Records.{answerOf, reelRead, ReadAs}
-use Rattle.reels.specs.declared.Form.{Form}
-use Rattle.reels.specs.declared.StartRead.{StartRead}
-use Rattle.reels.specs.declared.StartRead.the-variants.{From, NoStart}
-use Rattle.reels.specs.declared.PieceRead.{PieceRead}
-use Rattle.reels.specs.declared.PieceRead.the-variants.{Piece as Found, End, Bad}
+use Rattle.pieces.specs.declared.Form.{Form}
+use Rattle.pieces.specs.declared.StartRead.{StartRead}
+use Rattle.pieces.specs.declared.StartRead.the-variants.{From, NoStart}
+use Rattle.pieces.specs.declared.PieceRead.{PieceRead}
+use Rattle.pieces.specs.declared.PieceRead.the-variants.{Piece as Found, End, Bad}
 use Rattle.reels.specs.declared.ReelRead.{ReelRead}
 use Rattle.reels.specs.declared.ReelRead.the-variants.{Read, NotReel, BadBlock}
 use Rattle.reels.proofs.HeaderLaws.{part-block}
 use Rattle.reels.proofs.FormLaws.{form-by, reel-alike}
-use Rattle.reels.proofs.PiecesLaws.{start-good, piece-end, piece-good}
+use Rattle.pieces.proofs.PiecesLaws.{start-good, piece-end, piece-good}
 
 -- ---- a reel
 

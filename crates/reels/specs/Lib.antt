@@ -1,4 +1,2 @@
 pub mod Header
-pub mod Form
-pub mod Pieces
 pub mod Records

@@ -13,8 +13,8 @@ use Rattle.rules.specs.Plan.{Plan}
 use Rattle.rules.specs.Blocks.{Piece, leastData, recordsIn, recordsFrom}
 use Rattle.rules.specs.ReelPlaces.{piecesAt}
 use Rattle.terms.specs.Meaning.{formatOf}
-use Rattle.reels.specs.Form.{planBy}
-use Rattle.reels.specs.declared.Form.{Form}
+use Rattle.pieces.specs.Form.{planBy}
+use Rattle.pieces.specs.declared.Form.{Form}
 use Rattle.reels.specs.declared.BlockRead.{BlockRead}
 use Rattle.reels.specs.declared.BlockRead.the-variants.{Records, Breaks}
 use Rattle.reels.specs.declared.ReelRead.{ReelRead}

@@ -1,7 +1,6 @@
 pub mod Cases
 pub mod ShortBlockCases
 pub mod TwinCases
-pub mod KeyCases
 pub mod Tests
 pub mod AllLaws
 pub mod AnswerLaws

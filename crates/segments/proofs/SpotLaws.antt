@@ -7,8 +7,8 @@ use native.Mathlib.Omega.{arith}
 use lib.ListN.{length}
 use borrow.Author.Tests.{lt-ltb, le-ltb}
 use Rattle.reels.specs.Header.{partAt}
-use Rattle.reels.specs.Pieces.{wordedIn}
-use Rattle.reels.specs.declared.PieceRead.{PieceRead}
+use Rattle.pieces.specs.Pieces.{wordedIn}
+use Rattle.pieces.specs.declared.PieceRead.{PieceRead}
 use Rattle.segments.specs.declared.Spot.{Spot}
 use Rattle.segments.specs.declared.SegmentRead.{SegmentRead}
 use Rattle.segments.specs.Spots.{segmentRead, readAt, nextOf, passedBy, onData, spotAfter}

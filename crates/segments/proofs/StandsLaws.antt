@@ -20,9 +20,9 @@ use Rattle.rules.specs.Spanned.{Segment, ends, part, segmentAt, segmentsIn}
 use Rattle.rules.proofs.PieceLaws.{slice-taken}
 use Rattle.rules.proofs.ReelLaws.{header-is, length-blocks}
 use Rattle.reels.specs.Header.{partAt}
-use Rattle.reels.specs.Pieces.{found}
+use Rattle.pieces.specs.Pieces.{found}
 use Rattle.reels.proofs.HeaderLaws.{part-step}
-use Rattle.reels.proofs.PiecesLaws.{worded-good}
+use Rattle.pieces.proofs.PiecesLaws.{worded-good}
 use Rattle.segments.specs.declared.Spot.{Spot}
 use Rattle.segments.specs.declared.SegmentRead.{SegmentRead}
 use Rattle.segments.specs.Spots.{segmentRead, readAt, nextOf, passedBy, onData, bytesAt}

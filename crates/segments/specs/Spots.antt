@@ -6,9 +6,9 @@ use lib.Dec.{ltb, eqb}
 use lib.ListN.{length}
 use lib.Seq.{slice}
 use Rattle.reels.specs.Header.{partAt}
-use Rattle.reels.specs.Pieces.{wordedIn}
-use Rattle.reels.specs.declared.PieceRead.{PieceRead}
-use Rattle.reels.specs.declared.PieceRead.the-variants.{Piece as Found, End, Bad}
+use Rattle.pieces.specs.Pieces.{wordedIn}
+use Rattle.pieces.specs.declared.PieceRead.{PieceRead}
+use Rattle.pieces.specs.declared.PieceRead.the-variants.{Piece as Found, End, Bad}
 use Rattle.segments.specs.declared.Spot.{Spot}
 use Rattle.segments.specs.declared.SegmentRead.{SegmentRead}
 

@@ -9,8 +9,8 @@ ghost use Rattle.rules.specs.Halves.{over};
 ghost use Rattle.reels.specs.Header.{partAt};
 ghost use Rattle.segments.specs.Spots.{noSegment, readAt, nextOf, onData, passedBy};
 ghost use Rattle.segments.specs.Promise.{Takeable, Taken, Coming, Comes, Copyable, Copied, Streamed, SameData};
-use reels::Cursor;
-use reels::PieceRead;
+use pieces::Cursor;
+use pieces::PieceRead;
 
 // A place in the data of a reel: bytes `from` to `to` of block `block` (from 0) are left of the segment read last, and the next segment's word stands at `to`,
 // or, where `to` is the block's end, at place 4 of the next block.
@@ -36,7 +36,7 @@ struct SegmentRead {
 fn read_at(s: &[u8], block: usize, at: usize) -> SegmentRead
     ensures { λ r. ⌜ r ≡ readAt (now (s .entry)) block at ⌝ }
 {
-    let read = reels::segment(reels::block(s, block), Cursor { at });
+    let read = pieces::segment(reels::block(s, block), Cursor { at });
     match read {
         PieceRead::Piece {
             place,

@@ -17,7 +17,7 @@ pub(crate) fn put_word(room: &mut [u8], at: usize, value: usize) {
     if end - 4 < at {
         return;
     }
-    reels::put_word(room, at, value);
+    pieces::put_word(room, at, value);
 }
 
 // Puts the word of a length into the room; where its four bytes are not all inside, or 2 bytes do not hold the length, nothing.
@@ -32,7 +32,7 @@ pub(crate) fn put_length_word(room: &mut [u8], at: usize, size: usize) {
     if end - 4 < at {
         return;
     }
-    reels::put_length_word(room, at, size);
+    pieces::put_length_word(room, at, size);
 }
 
 // The first bytes of the room; none where there are not so many.

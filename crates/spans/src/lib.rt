@@ -66,9 +66,9 @@ fn put_next(
     let size = more.size;
     let end = base + more.bytes;
     fillings::put_offset(base, tally, more, out);
-    reels::put_length_word(out, end - size, size);
+    pieces::put_length_word(out, end - size, size);
     let from = end - part.size;
-    reels::put_coded_word(out, from - 4, code(first, last), part.size + 4);
+    pieces::put_coded_word(out, from - 4, code(first, last), part.size + 4);
     segments::copy(s, at, part.size, &mut out[from..])
 }
 
@@ -109,14 +109,14 @@ fn write(m: usize, s: &[u8], from: Spot, count: usize, blocks: usize, out: &mut 
     let mut at = from;
     let mut tally = cuts::full(m);
     let mut number = 0;
-    reels::put_word(out, 0, blocks);
+    pieces::put_word(out, 0, blocks);
     while number < count {
         let next = segments::ahead(s, at);
         tally = put_record(m, base, s, at, next.size, tally, out);
         at = next.behind;
         number += 1;
     }
-    reels::put_word(out, 4 * blocks + 4, base + tally.bytes);
+    pieces::put_word(out, 4 * blocks + 4, base + tally.bytes);
 }
 
 // TC leaves the blocks: its output is its input.

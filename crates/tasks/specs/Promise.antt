@@ -4,7 +4,7 @@ use Prim.Native.Nat.{ℕ, _+_, _-_}
 use Rattle.rules.specs.Plan.{selects}
 use Rattle.terms.specs.Meaning.{modeOf}
 use Rattle.terms.specs.declared.Task.{Task}
-use Rattle.reels.specs.declared.Form.{Form}
+use Rattle.pieces.specs.declared.Form.{Form}
 
 -- what the plan asks of input blocks
 abbrev pub formOf : Task → Form

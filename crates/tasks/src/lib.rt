@@ -2,7 +2,7 @@
 ghost use mathlib.Core.Path.{_≡_};
 ghost use Prim.Native.Nat.{_≤_};
 ghost use Rattle.tasks.specs.Promise.{formOf, formUnder, tailOf, lengthOf};
-use reels::Form;
+use pieces::Form;
 use terms::Mode;
 use terms::Task;
 

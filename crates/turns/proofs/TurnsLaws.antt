@@ -17,11 +17,11 @@ use Rattle.rules.proofs.Tests.{and-left, and-right}
 use Rattle.rules.proofs.CodedWords.{headedTo-exactly}
 use Rattle.rules.proofs.SpannedSteps.{walkAt, joinAt, inTurn-count, join-start, join-end, join-bad, join-good}
 use Rattle.rules.proofs.SpannedCounts.{counted, Alike, counted-alike}
-use Rattle.reels.specs.Pieces.{found, variableStart, wordedIn}
-use Rattle.reels.specs.declared.Cursor.{Cursor}
-use Rattle.reels.specs.declared.StartRead.the-variants.{From, NoStart}
-use Rattle.reels.specs.declared.PieceRead.the-variants.{Piece as Found, End, Bad}
-use Rattle.reels.proofs.PiecesLaws.{worded-told, worded-untold, worded-further, further, start-told, start-untold}
+use Rattle.pieces.specs.Pieces.{found, variableStart, wordedIn}
+use Rattle.pieces.specs.declared.Cursor.{Cursor}
+use Rattle.pieces.specs.declared.StartRead.the-variants.{From, NoStart}
+use Rattle.pieces.specs.declared.PieceRead.the-variants.{Piece as Found, End, Bad}
+use Rattle.pieces.proofs.PiecesLaws.{worded-told, worded-untold, worded-further, further, start-told, start-untold}
 use Rattle.turns.specs.declared.Counts.{Counts}
 use Rattle.turns.specs.declared.TurnsRead.{TurnsRead}
 use Rattle.turns.specs.declared.TurnsRead.the-variants.{InTurn, Breaks}

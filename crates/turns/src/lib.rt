@@ -6,11 +6,11 @@ ghost use lib.ListN.{length};
 ghost use Rattle.reels.specs.Header.{headerOf};
 ghost use Rattle.turns.specs.Turns.{inTurnOf, takenOf, Walked, Ruled};
 ghost use Rattle.turns.specs.Promise.{SpannedAs};
-use reels::Cursor;
+use pieces::Cursor;
+use pieces::PieceRead;
+use pieces::StartRead;
 use reels::HeaderRead;
-use reels::PieceRead;
 use reels::ReelRead;
-use reels::StartRead;
 
 // The records that ended so far, and how many bytes the open record has: 0 where none is open, since each segment has a byte or more.
 struct Counts {
@@ -62,7 +62,7 @@ fn walked(b: &[u8], from: Cursor, before: Counts) -> TurnsRead
     let mut at = from.at;
     let mut counts = before;
     loop {
-        let read = reels::segment(b, Cursor { at });
+        let read = pieces::segment(b, Cursor { at });
         match read {
             PieceRead::Piece {
                 place: _,
@@ -93,7 +93,7 @@ fn rule(g: usize, b: &[u8], before: Counts) -> TurnsRead
     if b.len() < 5 {
         return TurnsRead::Breaks;
     }
-    let start = reels::variable_start(b);
+    let start = pieces::variable_start(b);
     match start {
         StartRead::From { cursor } => walked(b, cursor, before),
         StartRead::NoStart => TurnsRead::Breaks,

@@ -13,7 +13,7 @@ use Rattle.rules.proofs.ReadBack.{underB-accepted}
 use Rattle.rules.proofs.JudgeRead.{ours-refused, ours-reach}
 use Rattle.rules.proofs.JudgeSteps.{blocks-plain, judged-ours, judged-no-reel, judged-bad, judged-told, plain-run, run-refused, run-reaches}
 use Rattle.terms.specs.declared.Task.{Task}
-use Rattle.reels.specs.declared.Form.{Form}
+use Rattle.pieces.specs.declared.Form.{Form}
 use Rattle.reels.specs.declared.ReelRead.{ReelRead}
 use Rattle.reels.specs.declared.ReelRead.the-variants.{Read, NotReel, BadBlock}
 use Rattle.reels.specs.Records.{ReadAs}

@@ -18,8 +18,8 @@ use Rattle.rules.specs.EvenRecords.{Even}
 use Rattle.rules.proofs.EvenLaws.{taken-even}
 use Rattle.rules.proofs.MeasureLaws.{record-high}
 use Rattle.rules.proofs.ReelSteps.{offset-first}
-use Rattle.reels.specs.declared.Form.{Form}
-use Rattle.reels.specs.Form.{FormIs}
+use Rattle.pieces.specs.declared.Form.{Form}
+use Rattle.pieces.specs.Form.{FormIs}
 use Rattle.walks.specs.Walking.{fixedStart}
 use Rattle.walks.specs.Promise.{Good, Sound}
 

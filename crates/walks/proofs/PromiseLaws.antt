@@ -10,9 +10,9 @@ use Rattle.rules.proofs.PieceLaws.{slice-taken}
 use Rattle.rules.specs.Base.{joined}
 use Rattle.rules.specs.Plan.{Plan}
 use Rattle.rules.specs.Accepted.{Accepted}
-use Rattle.reels.specs.declared.Form.{Form}
+use Rattle.pieces.specs.declared.Form.{Form}
 use Rattle.reels.specs.declared.ReelRead.the-variants.{Read}
-use Rattle.reels.specs.Form.{FormIs}
+use Rattle.pieces.specs.Form.{FormIs}
 use Rattle.reels.specs.Records.{ReadAs}
 use Rattle.reels.proofs.ReelTold.{tells}
 use Rattle.walks.specs.declared.Walk.{Walk}

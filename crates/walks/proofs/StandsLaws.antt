@@ -21,8 +21,8 @@ use Rattle.rules.proofs.ReelLaws.{length-blocks}
 use Rattle.rules.proofs.RecordSteps.{records-end, records-done}
 use Rattle.rules.proofs.MarkedLaws.{first-block, no-more-blocks}
 use Rattle.terms.specs.Meaning.{formatOf}
-use Rattle.reels.specs.declared.Form.{Form}
-use Rattle.reels.specs.Form.{FormIs}
+use Rattle.pieces.specs.declared.Form.{Form}
+use Rattle.pieces.specs.Form.{FormIs}
 use Rattle.reels.specs.Header.{partAt}
 use Rattle.reels.proofs.HeaderLaws.{part-step}
 use Rattle.walks.specs.Marks.{marked, markedAll}

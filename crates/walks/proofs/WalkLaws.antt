@@ -19,8 +19,8 @@ use Rattle.rules.proofs.ReelSteps.{offset-rises, offset-last, offset-most}
 use Rattle.rules.proofs.BlockSteps.{good-inside}
 use Rattle.rules.proofs.RecordSteps.{pieceOf, Next, fixed-pos, records-next}
 use Rattle.terms.specs.Meaning.{formatOf}
-use Rattle.reels.specs.declared.Form.{Form}
-use Rattle.reels.specs.Form.{FormIs}
+use Rattle.pieces.specs.declared.Form.{Form}
+use Rattle.pieces.specs.Form.{FormIs}
 use Rattle.reels.specs.Header.{partAt}
 use Rattle.walks.specs.declared.Walk.{Walk}
 use Rattle.walks.specs.declared.RecordRead.{RecordRead}

@@ -12,8 +12,8 @@ use Rattle.rules.specs.Accepted.{Accepted}
 use Rattle.rules.specs.Reel.{blockCount, isReel, blocksOf}
 use Rattle.rules.specs.Blocks.{leastData, recordsFrom, takenFrom}
 use Rattle.rules.specs.ReelPlaces.{recordsAt}
-use Rattle.reels.specs.declared.Form.{Form}
-use Rattle.reels.specs.Form.{FormIs}
+use Rattle.pieces.specs.declared.Form.{Form}
+use Rattle.pieces.specs.Form.{FormIs}
 use Rattle.reels.specs.Header.{partAt}
 use Rattle.walks.specs.declared.Walk.{Walk}
 use Rattle.walks.specs.declared.RecordRead.{RecordRead}

@@ -9,7 +9,7 @@ use Rattle.rules.specs.Output.{cost}
 use Rattle.rules.specs.Reel.{blockCount}
 use Rattle.rules.specs.ReelPlaces.{wordAt, offsetAt}
 use Rattle.terms.specs.Meaning.{formatOf}
-use Rattle.reels.specs.declared.Form.{Form}
+use Rattle.pieces.specs.declared.Form.{Form}
 use Rattle.walks.specs.declared.Walk.{Walk}
 use Rattle.walks.specs.declared.RecordRead.{RecordRead}
 use Rattle.walks.specs.declared.RecordRead.the-variants.{Record, End}

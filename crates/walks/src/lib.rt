@@ -8,7 +8,7 @@ ghost use Rattle.rules.specs.Output.{cost};
 ghost use Rattle.terms.specs.Meaning.{formatOf};
 ghost use Rattle.walks.specs.Walking.{Starting, blockStart, behindOf, endIn, openedWalk, fixedStart};
 ghost use Rattle.walks.specs.Promise.{Sound, Standing, Begun, Told, Taken};
-use reels::Form;
+use pieces::Form;
 use terms::Format;
 
 // A place before a record of a reel: where the offset stands at which its block ends, the place itself, that end, and whether the record is the first of its
@@ -62,7 +62,7 @@ fn block_start(form: Form, s: &[u8], word: usize, from: usize) -> Walk
     Walk {
         word,
         at,
-        end: reels::word(s, word),
+        end: pieces::word(s, word),
         begins,
     }
 }
@@ -72,7 +72,7 @@ fn begin(form: Form, s: &[u8]) -> Walk
     requires { ⌜ Sound form (now s) ⌝ }
     ensures { λ r. ⌜ Begun form (now (s .entry)) r ⌝ }
 {
-    let from = reels::word(s, 4);
+    let from = pieces::word(s, 4);
     block_start(form, s, 8, from)
 }
 
@@ -180,7 +180,7 @@ pub fn fixed_start(form: Form, s: &[u8], first: usize) -> usize
     requires { ⌜ (1 ≤ first) × (first ≤ 65536) ⌝ }
     ensures { λ r. ⌜ r ≡ fixedStart form (now (s .entry)) first ⌝ }
 {
-    let from = reels::word(s, 4);
+    let from = pieces::word(s, 4);
     from + (first - 1) * form.n
 }
 

@@ -17,7 +17,7 @@ use Rattle.rules.proofs.FillLaws.{total-least}
 use Rattle.rules.proofs.BlockSizes.{least-selects}
 use Rattle.terms.specs.Meaning.{formatOf}
 use Rattle.terms.specs.declared.Task.{Task}
-use Rattle.reels.specs.declared.Form.{Form}
+use Rattle.pieces.specs.declared.Form.{Form}
 use Rattle.walks.specs.declared.Walk.{Walk}
 use Rattle.walks.specs.Promise.{Walks, Taken}
 use Rattle.tasks.specs.Promise.{formOf, lengthOf}

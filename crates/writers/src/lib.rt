@@ -52,7 +52,7 @@ fn put_piece(
     requires { ⌜ (n ≡ lengthOf task (length (now «record»))) × (task .format ≡ Format.FV) ⌝ }
     ensures { λ _. ⌜ PiecePut task (now (fields .entry)) (now («record» .entry)) at (now (out .entry)) (now (out .exit)) ⌝ }
 {
-    reels::put_length_word(out, at, n + 4);
+    pieces::put_length_word(out, at, n + 4);
     let from = at + task.cost;
     put_data(task, fields, covered, record, &mut out[from..]);
 }
@@ -79,7 +79,7 @@ fn put_next(
     fillings::put_offset(base, tally, more, out);
     let end = base + more.bytes;
     let size = more.size;
-    reels::put_length_word(out, end - size, size);
+    pieces::put_length_word(out, end - size, size);
     put_piece(task, fields, covered, record, n, end - (task.cost + n), out);
 }
 
@@ -117,7 +117,7 @@ fn write_walked(task: Task, fields: &[u16], s: &[u8], blocks: usize, out: &mut [
                 walk = next;
             }
             RecordRead::End => {
-                reels::put_word(out, 4 * blocks + 4, base + tally.bytes);
+                pieces::put_word(out, 4 * blocks + 4, base + tally.bytes);
                 return;
             }
         }
@@ -143,6 +143,6 @@ pub fn write_reel(task: Task, fields: &[u16], s: &[u8], blocks: usize, out: &mut
     requires { ⌜ Lent task (now fields) (now s) blocks (length (now out)) ⌝ }
     ensures { λ _. ⌜ ReelPut task (now (fields .entry)) (now (s .entry)) blocks (now (out .entry)) (now (out .exit)) ⌝ }
 {
-    reels::put_word(out, 0, blocks);
+    pieces::put_word(out, 0, blocks);
     put_body(task, fields, s, blocks, out);
 }

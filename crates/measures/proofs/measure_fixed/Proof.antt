@@ -3,7 +3,7 @@ use mathlib.Core.Path.{_≡_, ap, _∙_}
 use native.Mathlib.Omega.{arith}
 use lib.ListN.{length}
 use borrow.Author.Needs.{needs}
-use Rattle.reels.specs.declared.Form.{Form}
+use Rattle.pieces.specs.declared.Form.{Form}
 use Rattle.walks.specs.Walking.{fixedStart}
 use Rattle.tasks.specs.Promise.{formOf}
 use Rattle.measures.proofs.FairLaws.{asks, first-low, first-high, sound}

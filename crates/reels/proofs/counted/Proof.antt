@@ -5,8 +5,8 @@ use native.Mathlib.Omega.{arith}
 use borrow.Author.Needs.{needs}
 use denote.Ref.{now}
 use lib.ListN.{length}
-use Rattle.reels.specs.Pieces.{pieceOf}
-use Rattle.reels.specs.declared.PieceRead.the-variants.{Piece}
+use Rattle.pieces.specs.Pieces.{pieceOf}
+use Rattle.pieces.specs.declared.PieceRead.the-variants.{Piece}
 use Rattle.reels.proofs.RecordsLaws.{Counting, counting-start, counting-further, counting-step, counting-short, counting-bad, counting-none, counting-end}
 use Rattle.reels.proofs.counted.Statement.{statement}
 use Rattle.reels.proofs.counted.Tie as tie

@@ -2,7 +2,7 @@
 use mathlib.Core.Path.{ap}
 use mathlib.Core.Bool.{Bool}
 use borrow.Author.Needs.{needs}
-use Rattle.reels.specs.declared.Form.{Form}
+use Rattle.pieces.specs.declared.Form.{Form}
 use Rattle.tasks.proofs.form_under.Statement.{statement}
 use Rattle.tasks.proofs.form_under.Tie as tie
 

@@ -6,8 +6,8 @@ use borrow.Author.Needs.{needs}
 use borrow.Author.Tests.{not-true, not-false}
 use denote.Ref.{now}
 use lib.ListN.{length}
-use Rattle.reels.specs.Pieces.{wordedIn}
-use Rattle.reels.specs.declared.PieceRead.the-variants.{Piece}
+use Rattle.pieces.specs.Pieces.{wordedIn}
+use Rattle.pieces.specs.declared.PieceRead.the-variants.{Piece}
 use Rattle.turns.proofs.TurnsLaws.{Going, going-start, going-inside, going-step, going-out, going-bad, going-end, in-turn-most}
 use Rattle.turns.proofs.walked.Statement.{statement}
 use Rattle.turns.proofs.walked.Tie as tie

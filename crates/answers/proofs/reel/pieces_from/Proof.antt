@@ -6,7 +6,7 @@ use denote.Ref.{now}
 use lib.ListN.{length}
 use borrow.Author.Needs.{needs}
 use Rattle.terms.specs.Meaning.{formatOf}
-use Rattle.reels.proofs.PiecesLaws.{further, piece-further}
+use Rattle.pieces.proofs.PiecesLaws.{further, piece-further}
 use Rattle.answers.proofs.reel.pieces_from.Statement.{statement}
 use Rattle.answers.proofs.reel.pieces_from.Tie as tie
 

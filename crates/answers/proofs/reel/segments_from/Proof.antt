@@ -5,7 +5,7 @@ use native.Mathlib.Omega.{arith}
 use denote.Ref.{now}
 use lib.ListN.{length}
 use borrow.Author.Needs.{needs}
-use Rattle.reels.proofs.PiecesLaws.{further, worded-further}
+use Rattle.pieces.proofs.PiecesLaws.{further, worded-further}
 use Rattle.answers.proofs.reel.segments_from.Statement.{statement}
 use Rattle.answers.proofs.reel.segments_from.Tie as tie
 

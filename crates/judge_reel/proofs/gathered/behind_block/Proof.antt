@@ -6,8 +6,8 @@ use borrow.Author.Needs.{needs}
 use native.Mathlib.Omega.{arith}
 use lib.ListN.{length}
 use Rattle.io.specs.Counts.{Counts}
-use Rattle.reels.proofs.PiecesLaws.{further}
-use Rattle.reels.specs.declared.PieceRead.the-variants.{Piece}
+use Rattle.pieces.proofs.PiecesLaws.{further}
+use Rattle.pieces.specs.declared.PieceRead.the-variants.{Piece}
 use Rattle.judge_reel.proofs.gathered.behind_block.Statement.{statement}
 use Rattle.judge_reel.proofs.gathered.behind_block.Tie as tie
 
