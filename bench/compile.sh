@@ -9,14 +9,18 @@ home=$(cd "$kit/../.." && pwd -P)
 
 # The libraries that a crate reaches, with itself and the kit's own. Sets libraries.
 reach() {
-    local seen=' ' ahead=("$1") name below
-    libraries=(--lib "std=$home/libs/std/src/lib.rt")
+    local seen=' ' ahead=(std "$1") name below
+    libraries=()
     while [ ${#ahead[@]} -gt 0 ]; do
         name=${ahead[0]} ahead=("${ahead[@]:1}")
         case $seen in *" $name "*) continue ;; esac
         seen="$seen$name "
-        libraries+=(--lib "$name=$root/crates/$name/src/lib.rt")
-        read -ra below < <(sed -n "s/^$name: *//p" "$root/crates.txt")
+        if [ -d "$root/crates/$name" ]; then
+            libraries+=(--lib "$name=$root/crates/$name/src/lib.rt")
+        else
+            libraries+=(--lib "$name=$home/libs/$name/src/lib.rt")
+        fi
+        read -ra below < <(cat "$root/crates.txt" "$home/libs/libs.txt" | sed -n "s/^$name: *//p"; echo)
         ahead+=("${below[@]}")
     done
 }

@@ -13,6 +13,7 @@ void lowered_plan(bhx_planned *answer, const struct slice *deck) __asm__("bhexod
 void lowered_plan_into(bhx_planned *answer, const struct slice *deck, const struct slice *table) __asm__("bhexodana::bhx_plan_into");
 void lowered_run(bhx_ran *answer, const struct slice *deck, const struct slice *reel, const struct slice *out) __asm__("bhexodana::bhx_run");
 void lowered_twins(bhx_twinned *answer, const struct slice *deck, const struct slice *out) __asm__("bhexodana::bhx_twins");
+void lowered_judge(bhx_judged *answer, const struct slice *deck, const struct slice *ours, const struct slice *theirs) __asm__("bhexodana::bhx_judge");
 
 bhx_planned bhx_plan(const uint8_t *deck, size_t deck_len)
 {
@@ -39,5 +40,12 @@ bhx_twinned bhx_twins(const uint8_t *deck, size_t deck_len, uint8_t *out, size_t
 {
     bhx_twinned answer;
     lowered_twins(&answer, &(struct slice){deck, deck_len}, &(struct slice){out, room});
+    return answer;
+}
+
+bhx_judged bhx_judge(const uint8_t *deck, size_t deck_len, const uint8_t *ours, size_t ours_len, const uint8_t *theirs, size_t theirs_len)
+{
+    bhx_judged answer;
+    lowered_judge(&answer, &(struct slice){deck, deck_len}, &(struct slice){ours, ours_len}, &(struct slice){theirs, theirs_len});
     return answer;
 }
