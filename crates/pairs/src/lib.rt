@@ -88,7 +88,7 @@ pub fn first_apart(task: Task, fields: &[u16], ours: &[u8], theirs: &[u8]) -> us
         let read = walks::record(form, ours, w);
         match read {
             RecordRead::Record {
-                start,
+                start: at,
                 length,
                 begins: _,
                 next,
@@ -101,15 +101,9 @@ pub fn first_apart(task: Task, fields: &[u16], ours: &[u8], theirs: &[u8]) -> us
                         begins: _,
                         next: behind,
                     } => {
-                        let end = start + length;
-                        let past = from + size;
-                        if !agree(
-                            task,
-                            fields,
-                            &ours[start..end],
-                            &theirs[from..past],
-                            &mut room,
-                        ) {
+                        let end = at + length;
+                        let to = from + size;
+                        if !agree(task, fields, &ours[at..end], &theirs[from..to], &mut room) {
                             return number;
                         }
                         w = next;

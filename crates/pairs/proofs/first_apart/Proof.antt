@@ -72,8 +72,8 @@ add-end c =
     let g = inside (c .before .before .before .before .before .before .before .«record» .ensures) (c .before .before .before .before .before .read .given .1) in
     omega (arith, g .ends, ours-short f u y)
 
-add-past : tie.Need-add-past Inv-loop μ-loop
-add-past c =
+add-to : tie.Need-add-to Inv-loop μ-loop
+add-to c =
     let l = c .before .before .before .before .before .before .before .before in
     let f = l .before .before .before .before .form-of .ensures in
     let u = l .before .before .before .form-under .ensures in
@@ -201,7 +201,7 @@ first-apart-spec =
     record-requires-2
     enum-known-other
     add-end
-    add-past
+    add-to
     sub-agree
     part-agree-start
     part-agree-end
