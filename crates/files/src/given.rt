@@ -1,6 +1,6 @@
 // What the arguments give: names of files, and the deck and the reel that two of them name. What fails is said on standard error.
 ghost use mathlib.Core.Path.{_≡_};
-ghost use lib.ListN.{length};
+ghost use lib.ListN.{length, replicate};
 ghost use Rattle.io.specs.Counts.{Counts};
 use inputs::DeckRead;
 use inputs::Filled;
@@ -48,10 +48,10 @@ pub fn deck(path: &[u8], room: &mut [u8; 65536]) -> DeckRead
     read
 }
 
-// Room for one byte more than the longest reel has: a file that fills it is no reel, whatever follows. The `ensures` gives the length, which lending the array as a
+// Room for one byte more than the longest reel has: a file that fills it is no reel, whatever follows. Its length is said besides, which lending the array as a
 // slice needs.
 pub fn reel_room() -> [u8; 65537]
-    ensures { λ r. ⌜ 65537 ≡ length r ⌝ }
+    ensures { λ r. ⌜ (65537 ≡ length r) × (r ≡ replicate 65537 0) ⌝ }
 {
     [0; 65537]
 }

@@ -70,9 +70,9 @@ fn say_byte(deck: &[u8], asked: Asked, fields: &[u16], ours: &[u8], theirs: &[u8
     say(b" in byte ");
     number(at + 1);
     say(b": ours gives ");
-    say(&notices::hex(ours[at]));
+    say(&hexadecimal::hex(ours[at]));
     say(b", theirs has ");
-    say(&notices::hex(theirs[at]));
+    say(&hexadecimal::hex(theirs[at]));
     say_writer(deck, asked, fields, at + 1);
 }
 

@@ -7,8 +7,6 @@ mod field;
 mod reel;
 
 pub use field::field_on_card;
-ghost use mathlib.Core.Path.{_≡_};
-ghost use lib.ListN.{length};
 use libc::STDERR_FILENO;
 use libc::STDOUT_FILENO;
 use plans::Planned;
@@ -20,23 +18,6 @@ pub fn say(text: &[u8]) {
 
 pub fn number(n: usize) {
     io::print_decimal(STDERR_FILENO, n as u64);
-}
-
-// The digit of a byte's low half.
-fn digit(byte: u8) -> u8 {
-    let value = byte % 16;
-    if value < 10 {
-        b'0' + value
-    } else {
-        b'A' + (value - 10)
-    }
-}
-
-// The two hexadecimal digits of a byte. The `ensures` gives the length, which lending the array as a slice needs.
-pub fn hex(byte: u8) -> [u8; 2]
-    ensures { λ r. ⌜ 2 ≡ length r ⌝ }
-{
-    [digit(byte / 16), digit(byte)]
 }
 
 // The numbers on standard output, with a blank between.

@@ -39,7 +39,7 @@ fn column(byte: usize) -> usize
 fn put_bytes(row: &mut [u8], bytes: &[u8]) {
     let mut i = 0;
     while i < bytes.len() {
-        room::put(row, column(i), &notices::hex(bytes[i]));
+        room::put(row, column(i), &hexadecimal::hex(bytes[i]));
         i += 1;
     }
 }

@@ -1,0 +1,23 @@
+// A byte as people are shown it: two hexadecimal digits.
+ghost use mathlib.Core.Path.{_≡_};
+ghost use Prim.Native.Nat.{_%_};
+ghost use Rattle.hexadecimal.specs.Promise.{digitOf, Digits};
+
+// The digit of a byte's low half.
+fn digit(byte: u8) -> u8
+    ensures { λ r. ⌜ r ≡ digitOf (byte % 16) ⌝ }
+{
+    let half = byte % 16;
+    if half < 10 {
+        b'0' + half
+    } else {
+        b'A' + (half - 10)
+    }
+}
+
+// The digits of a byte's halves, the high one first.
+pub fn hex(byte: u8) -> [u8; 2]
+    ensures { λ r. ⌜ Digits byte r ⌝ }
+{
+    [digit(byte / 16), digit(byte)]
+}
