@@ -20,7 +20,7 @@ reach() {
         else
             libraries+=(--lib "$name=$home/libs/$name/src/lib.rt")
         fi
-        read -ra below < <(cat "$root/crates.txt" "$home/libs/libs.txt" | sed -n "s/^$name: *//p"; echo)
+        read -ra below < <(sed -n "s/^$name: *//p" "$root/crates.txt" "$home/libs/libs.txt")
         ahead+=("${below[@]}")
     done
 }

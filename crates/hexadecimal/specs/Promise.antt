@@ -1,20 +1,17 @@
--- The digits by which people are shown a byte: 0 to 9 and A to F in ASCII, one for each half.
+-- How people are shown a byte: by two digits, 0 to 9 and A to F in ASCII, which the rules read as this byte.
 use mathlib.Core.Path.{_≡_}
-use mathlib.Core.Bool.{cond}
-use mathlib.Core.List.{List, [], _∷_, map}
-use Prim.Native.Nat.{ℕ, _+_}
-use lib.Dec.{ltb}
+use mathlib.Core.Logic.{_⊎_}
+use mathlib.Core.List.{List, [], _∷_}
+use Prim.Native.Nat.{ℕ, _≤_}
 use lib.ListN.{length}
-use Rattle.rules.specs.Halves.{halves}
+use Rattle.rules.specs.Base.{pairs, digitsOf}
+use Rattle.rules.specs.Places.{All}
 
--- of a half: 0 is hex 30, and A is hex 41
-abbrev pub digitOf : ℕ → ℕ
-digitOf half = cond (ltb half 10) (48 + half) (55 + half)
+-- a digit: hex 30 to 39, and hex 41 to 46
+abbrev pub Digit : ℕ → Type 0
+Digit c = ((48 ≤ c) × (c ≤ 57)) ⊎ ((65 ≤ c) × (c ≤ 70))
 
--- of a byte
-abbrev pub digitsOf : ℕ → List ℕ
-digitsOf byte = map digitOf (halves (byte ∷ []))
-
--- these are they; that there are two is said besides, which lending them as a slice asks for
-abbrev pub Digits : ℕ → List ℕ → Type 0
-Digits byte r = (2 ≡ length r) × (r ≡ digitsOf byte)
+pub record Shows (byte : ℕ) (r : List ℕ) : Type 0 where
+  pub two : 2 ≡ length r
+  pub digits : All Digit r
+  pub reads : pairs (digitsOf r) ≡ byte ∷ []

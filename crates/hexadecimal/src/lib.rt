@@ -1,11 +1,12 @@
 // A byte as people are shown it: two hexadecimal digits.
 ghost use mathlib.Core.Path.{_≡_};
 ghost use Prim.Native.Nat.{_%_};
-ghost use Rattle.hexadecimal.specs.Promise.{digitOf, Digits};
+ghost use Rattle.rules.specs.Base.{digitOf};
+ghost use Rattle.hexadecimal.specs.Promise.{Digit, Shows};
 
 // The digit of a byte's low half.
 fn digit(byte: u8) -> u8
-    ensures { λ r. ⌜ r ≡ digitOf (byte % 16) ⌝ }
+    ensures { λ r. ⌜ Digit r × (digitOf r ≡ byte % 16) ⌝ }
 {
     let half = byte % 16;
     if half < 10 {
@@ -17,7 +18,7 @@ fn digit(byte: u8) -> u8
 
 // The digits of a byte's halves, the high one first.
 pub fn hex(byte: u8) -> [u8; 2]
-    ensures { λ r. ⌜ Digits byte r ⌝ }
+    ensures { λ r. ⌜ Shows byte r ⌝ }
 {
     [digit(byte / 16), digit(byte)]
 }
