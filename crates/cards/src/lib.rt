@@ -174,10 +174,10 @@ fn list(operand: &[u8], card: usize, column: usize, noted: Noted, row: &mut [u16
             let after = cv_noted(noted, card, column);
             rest(&operand[used..], card, column + used, after, row)
         }
-        ItemRead::NoItem { at } => ListRead {
-            noted,
-            unread: column + at,
-        },
+        ItemRead::NoItem { at } => {
+            let unread = column + at;
+            ListRead { noted, unread }
+        }
     }
 }
 
@@ -460,16 +460,24 @@ fn card_on(deck: &[u8], at: usize, end: usize, next: usize) -> CardAt
 {
     let read = lines::operand(&deck[at..end]);
     match read {
-        CardRead::UCard { start, end: stop } => CardAt::UAt {
-            start: at + start,
-            end: at + stop,
-            next,
-        },
-        CardRead::FsCard { start, end: stop } => CardAt::FsAt {
-            start: at + start,
-            end: at + stop,
-            next,
-        },
+        CardRead::UCard { start, end: stop } => {
+            let u_start = at + start;
+            let u_end = at + stop;
+            CardAt::UAt {
+                start: u_start,
+                end: u_end,
+                next,
+            }
+        }
+        CardRead::FsCard { start, end: stop } => {
+            let fs_start = at + start;
+            let fs_end = at + stop;
+            CardAt::FsAt {
+                start: fs_start,
+                end: fs_end,
+                next,
+            }
+        }
         CardRead::EndCard => CardAt::NoOperand,
         CardRead::NoCard => CardAt::NoOperand,
     }

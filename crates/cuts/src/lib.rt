@@ -26,10 +26,12 @@ fn opened(m: usize, tally: Tally) -> Tally
     ensures { λ r. ⌜ r ≡ openedOf m tally ⌝ }
 {
     if m - tally.size < 5 {
+        let blocks = tally.blocks + 1;
+        let bytes = tally.bytes + 4;
         return Tally {
-            blocks: tally.blocks + 1,
+            blocks,
             size: 4,
-            bytes: tally.bytes + 4,
+            bytes,
         };
     }
     tally
@@ -42,12 +44,15 @@ pub fn cut(m: usize, tally: Tally, rest: usize) -> Part
 {
     let block = opened(m, tally);
     let size = segments::smaller(rest, m - block.size - 4);
+    let segment = size + 4;
+    let filled = block.size + segment;
+    let bytes = block.bytes + segment;
     Part {
         size,
         tally: Tally {
             blocks: block.blocks,
-            size: block.size + (size + 4),
-            bytes: block.bytes + (size + 4),
+            size: filled,
+            bytes,
         },
     }
 }

@@ -49,16 +49,21 @@ pub fn tallied(task: Task, tally: Tally, begins: bool, length: usize) -> Tally
     let cost = task.cost;
     let more = cost + length;
     if opens(task, tally, begins, length) {
+        let blocks = tally.blocks + 1;
+        let opened = cost + more;
+        let bytes = tally.bytes + opened;
         return Tally {
-            blocks: tally.blocks + 1,
-            size: cost + more,
-            bytes: tally.bytes + (cost + more),
+            blocks,
+            size: opened,
+            bytes,
         };
     }
+    let size = tally.size + more;
+    let all = tally.bytes + more;
     Tally {
         blocks: tally.blocks,
-        size: tally.size + more,
-        bytes: tally.bytes + more,
+        size,
+        bytes: all,
     }
 }
 

@@ -91,10 +91,14 @@ fn measure_walked(task: Task, s: &[u8]) -> Measured
                 number += 1;
             }
             RecordRead::End => {
+                let records = number - first;
+                let words = 4 * tally.blocks;
+                let header = words + 8;
+                let length = header + tally.bytes;
                 return Measured::Fits {
                     blocks: tally.blocks,
-                    records: number - first,
-                    length: 4 * tally.blocks + 8 + tally.bytes,
+                    records,
+                    length,
                 };
             }
         }
@@ -187,10 +191,14 @@ fn measure_fixed(task: Task, s: &[u8]) -> Measured
     let from = walks::fixed_start(tasks::form_of(task), s, task.first);
     let records = walks::rest(s, from).len() / task.n;
     let blocks = fixed_blocks(task, s, from, records);
+    let words = 4 * blocks;
+    let header = words + 8;
+    let data = records * task.width;
+    let length = header + data;
     Measured::Fits {
         blocks,
         records,
-        length: 4 * blocks + 8 + records * task.width,
+        length,
     }
 }
 

@@ -143,12 +143,15 @@ pub fn piece(form: Form, b: &[u8], c: Cursor) -> PieceRead
     match format {
         Format::FF => fixed_piece(form.n, at, end),
         Format::FV => variable_piece(b, at, 0),
-        Format::FU => PieceRead::Piece {
-            place: at,
-            length: end - at,
-            third: 0,
-            next: Cursor { at: end },
-        },
+        Format::FU => {
+            let length = end - at;
+            PieceRead::Piece {
+                place: at,
+                length,
+                third: 0,
+                next: Cursor { at: end },
+            }
+        }
         Format::FS => PieceRead::Bad,
     }
 }
@@ -164,11 +167,12 @@ fn fixed_piece(n: usize, at: usize, end: usize) -> PieceRead
     if n > end - at {
         return PieceRead::Bad;
     }
+    let behind = at + n;
     PieceRead::Piece {
         place: at,
         length: n,
         third: 0,
-        next: Cursor { at: at + n },
+        next: Cursor { at: behind },
     }
 }
 
@@ -179,12 +183,18 @@ fn variable_piece(b: &[u8], at: usize, top: u8) -> PieceRead
 {
     let word = length_word(b, at, 5, top);
     match word {
-        LengthRead::Length { length } => PieceRead::Piece {
-            place: at + 4,
-            length: length - 4,
-            third: wide(b[at + 2]),
-            next: Cursor { at: at + length },
-        },
+        LengthRead::Length { length } => {
+            let place = at + 4;
+            let size = length - 4;
+            let third = wide(b[at + 2]);
+            let behind = at + length;
+            PieceRead::Piece {
+                place,
+                length: size,
+                third,
+                next: Cursor { at: behind },
+            }
+        }
         LengthRead::NoLength => PieceRead::Bad,
     }
 }

@@ -203,11 +203,17 @@ fn number_at(s: &[u8], from: usize) -> NumberRead
 {
     let n = number(&s[from..]);
     match n {
-        NumberRead::IsNumber { value, used } => NumberRead::IsNumber {
-            value,
-            used: from + used,
-        },
-        NumberRead::NoNumber { at } => NumberRead::NoNumber { at: from + at },
+        NumberRead::IsNumber { value, used } => {
+            let behind = from + used;
+            NumberRead::IsNumber {
+                value,
+                used: behind,
+            }
+        }
+        NumberRead::NoNumber { at } => {
+            let stop = from + at;
+            NumberRead::NoNumber { at: stop }
+        }
     }
 }
 
@@ -221,9 +227,10 @@ fn number_then(s: &[u8], from: usize, mark: u8) -> NumberRead
         NumberRead::IsNumber { value, used } => {
             let byte = peek(s, used);
             if byte == mark as usize {
+                let behind = used + 1;
                 return NumberRead::IsNumber {
                     value,
-                    used: used + 1,
+                    used: behind,
                 };
             }
             NumberRead::NoNumber { at: used }
@@ -241,10 +248,11 @@ fn size_behind(s: &[u8], from: usize, n: usize) -> SizeRead
 {
     let mark = peek(s, from);
     if mark == CLOSE {
+        let behind = from + 1;
         return SizeRead::IsSize {
             size: Size::One { g: n },
             second: 0,
-            used: from + 1,
+            used: behind,
         };
     }
     if mark != COMMA {
@@ -358,7 +366,8 @@ fn data_behind(s: &[u8], from: usize, key: usize) -> InputRead
     }
     let sign = peek(s, from + 1);
     if sign != EQUALS {
-        return InputRead::NoInput { at: from + 1 };
+        let stop = from + 1;
+        return InputRead::NoInput { at: stop };
     }
     let start = from + 2;
     let n = number_then(s, start, b')');
@@ -572,7 +581,8 @@ fn kind(s: &[u8], from: usize) -> KindRead
         if letter == LETTER_U {
             return sizes_behind(s, from + 2, Kind::Unpack);
         }
-        return KindRead::NoKind { at: from + 1 };
+        let stop = from + 1;
+        return KindRead::NoKind { at: stop };
     }
     let n = number_at(s, from);
     match n {
@@ -658,9 +668,10 @@ fn key_start(s: &[u8]) -> NumberRead
         NumberRead::IsNumber { value, used } => {
             let mark = peek(s, used);
             if mark == COMMA {
+                let behind = used + 1;
                 return NumberRead::IsNumber {
                     value,
-                    used: used + 1,
+                    used: behind,
                 };
             }
             NumberRead::NoNumber { at: used }

@@ -146,7 +146,8 @@ fn divided(form: Form, b: &[u8]) -> BlockRead
     if size % n != 0 {
         return BlockRead::Breaks;
     }
-    BlockRead::Records { count: size / n }
+    let count = size / n;
+    BlockRead::Records { count }
 }
 
 // The pieces of a block, from its start on.
@@ -194,7 +195,8 @@ fn read_blocks(form: Form, s: &[u8], blocks: usize) -> ReelRead
                 i += 1;
             }
             BlockRead::Breaks => {
-                return ReelRead::BadBlock { block: i + 1 };
+                let block = i + 1;
+                return ReelRead::BadBlock { block };
             }
         }
     }

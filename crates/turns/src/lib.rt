@@ -43,14 +43,13 @@ fn taken(counts: Counts, code: usize, size: usize) -> Counts
     ensures { λ r. ⌜ r ≡ takenOf counts code size ⌝ }
 {
     if code % 2 == 0 {
-        return Counts {
-            records: counts.records + 1,
-            held: 0,
-        };
+        let records = counts.records + 1;
+        return Counts { records, held: 0 };
     }
+    let held = counts.held + size;
     Counts {
         records: counts.records,
-        held: counts.held + size,
+        held,
     }
 }
 
@@ -119,7 +118,8 @@ fn read_blocks(g: usize, s: &[u8], blocks: usize) -> ReelRead
                 i += 1;
             }
             TurnsRead::Breaks => {
-                return ReelRead::BadBlock { block: i + 1 };
+                let block = i + 1;
+                return ReelRead::BadBlock { block };
             }
         }
     }

@@ -162,8 +162,8 @@ list-rest-requires-2 t c κs =
 list-enum-known-next-3 : (t : ℕ) → list-lts.Need-enum-known-next-3 (list-claims t) (list-at t) list.Post
 list-enum-known-next-3 t c = search needs
 
-list-add-t32 : (t : ℕ) → list-lts.Need-add-t32 (list-claims t) (list-at t) list.Post
-list-add-t32 t c = let k = is-none t (c .before) .0 in omega arith
+list-add-unread : (t : ℕ) → list-lts.Need-add-unread (list-claims t) (list-at t) list.Post
+list-add-unread t c = let k = is-none t (c .before) .0 in omega arith
 
 list-returns : (t : ℕ) → list-lts.Need-returns (list-claims t) (list-at t) list.Post
 list-returns t c =
@@ -255,7 +255,7 @@ pub +list+rest-spec : {M : Type 1} → statement M
     (list-add-rest-2 t)
     (list-rest-requires-2 t)
     (list-enum-known-next-3 t)
-    (list-add-t32 t)
+    (list-add-unread t)
     (list-returns t)
     (list-returns-2 t)
     (list-returns-3 t))

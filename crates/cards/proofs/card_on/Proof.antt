@@ -45,16 +45,16 @@ is-u c = subst (CardSays (slice (c .before .before .before .before .before .args
 is-fs : (c : tie.After-read2) → CardSays (slice (c .before .before .before .before .before .args .at) (c .before .before .before .before .before .args .end) (now (c .before .before .before .before .before .args .deck))) (FsCard (c .read2 .given .0 .0) (c .read2 .given .0 .1 .0))
 is-fs c = subst (CardSays (slice (c .before .before .before .before .before .args .at) (c .before .before .before .before .before .args .end) (now (c .before .before .before .before .before .args .deck)))) (c .read2 .given .1) (said (c .before .before))
 
-add-t15 : tie.Need-add-t15
-add-t15 c =
+add-u-start : tie.Need-add-u-start
+add-u-start c =
     let a = c .before .before .before .before .before .before .args in
     let e = is-u (c .before) in
     let k = line-length (now (a .deck)) (a .at) (a .end) (a .next) (c .before .before .before .before .before .before .pre .0) in
     let p = c .before .before .before .before .before .before .pre .0 in
     omega (arith, e .1, e .2, p .1, p .2)
 
-add-t16 : tie.Need-add-t16
-add-t16 c =
+add-u-end : tie.Need-add-u-end
+add-u-end c =
     let a = c .before .before .before .before .before .before .args in
     let e = is-u (c .before) in
     let k = line-length (now (a .deck)) (a .at) (a .end) (a .next) (c .before .before .before .before .before .before .pre .0) in
@@ -64,16 +64,16 @@ add-t16 c =
 enum-known-read-2 : tie.Need-enum-known-read-2
 enum-known-read-2 c = search needs
 
-add-t17 : tie.Need-add-t17
-add-t17 c =
+add-fs-start : tie.Need-add-fs-start
+add-fs-start c =
     let a = c .before .before .before .before .before .before .args in
     let e = is-fs (c .before) in
     let k = line-length (now (a .deck)) (a .at) (a .end) (a .next) (c .before .before .before .before .before .before .pre .0) in
     let p = c .before .before .before .before .before .before .pre .0 in
     omega (arith, e .1, e .2, p .1, p .2)
 
-add-t18 : tie.Need-add-t18
-add-t18 c =
+add-fs-end : tie.Need-add-fs-end
+add-fs-end c =
     let a = c .before .before .before .before .before .before .args in
     let e = is-fs (c .before) in
     let k = line-length (now (a .deck)) (a .at) (a .end) (a .next) (c .before .before .before .before .before .before .pre .0) in
@@ -121,11 +121,11 @@ card-on-spec =
     part-operand-end
     operand-requires
     enum-known-read
-    add-t15
-    add-t16
+    add-u-start
+    add-u-end
     enum-known-read-2
-    add-t17
-    add-t18
+    add-fs-start
+    add-fs-end
     enum-told
     enum-told-2
     returns

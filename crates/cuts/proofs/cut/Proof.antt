@@ -17,17 +17,14 @@ sub-smaller-2 c = omega (arith, block-is (c .before .before .pre) (c .before .op
 smaller-requires : tie.Need-smaller-requires
 smaller-requires c κs = search needs
 
-add-t6 : tie.Need-add-t6
-add-t6 c = search needs
+add-segment : tie.Need-add-segment
+add-segment c = search needs
 
-add-t7 : tie.Need-add-t7
-add-t7 c = omega (arith, block-is (c .before .before .before .before .pre) (c .before .before .before .opened .ensures) .room)
+add-filled : tie.Need-add-filled
+add-filled c = omega (arith, block-is (c .before .before .before .before .pre) (c .before .before .before .opened .ensures) .room)
 
-add-t8 : tie.Need-add-t8
-add-t8 c = search needs
-
-add-t9 : tie.Need-add-t9
-add-t9 c = omega (arith, block-is (c .before .before .before .before .before .pre) (c .before .before .before .before .opened .ensures) .most)
+add-bytes : tie.Need-add-bytes
+add-bytes c = omega (arith, block-is (c .before .before .before .before .before .pre) (c .before .before .before .before .opened .ensures) .most)
 
 returns : tie.Need-returns
 returns c = cut-as _ _ _ _ (c .before .before .before .before .opened .ensures) _ (c .before .before .smaller .ensures)
@@ -40,8 +37,7 @@ cut-spec =
     sub-smaller
     sub-smaller-2
     smaller-requires
-    add-t6
-    add-t7
-    add-t8
-    add-t9
+    add-segment
+    add-filled
+    add-bytes
     returns)

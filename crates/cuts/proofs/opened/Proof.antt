@@ -8,11 +8,11 @@ use Rattle.cuts.proofs.opened.Tie as tie
 sub-if1 : tie.Need-sub-if1
 sub-if1 c = search needs
 
-add-t5 : tie.Need-add-t5
-add-t5 c = search needs
+add-blocks : tie.Need-add-blocks
+add-blocks c = search needs
 
-add-t6 : tie.Need-add-t6
-add-t6 c = search needs
+add-bytes : tie.Need-add-bytes
+add-bytes c = search needs
 
 returns : tie.Need-returns
 returns c = opened-new _ _ (omega (arith, c .before .before .if1 .taken))
@@ -21,4 +21,4 @@ returns-2 : tie.Need-returns-2
 returns-2 c = opened-same _ _ (omega (arith, c .if1 .left))
 
 pub opened-spec : {M : Type 1} → statement M
-opened-spec = tie.close (tie.spec sub-if1 add-t5 add-t6 returns returns-2)
+opened-spec = tie.close (tie.spec sub-if1 add-blocks add-bytes returns returns-2)

@@ -11,26 +11,23 @@ add-more c = search needs
 opens-requires : tie.Need-opens-requires
 opens-requires c κs = search needs
 
-add-t8 : tie.Need-add-t8
-add-t8 c = search needs
+add-blocks : tie.Need-add-blocks
+add-blocks c = search needs
 
-add-t9 : tie.Need-add-t9
-add-t9 c = search needs
+add-opened : tie.Need-add-opened
+add-opened c = search needs
 
-add-t10 : tie.Need-add-t10
-add-t10 c = search needs
-
-add-t11 : tie.Need-add-t11
-add-t11 c = search needs
+add-bytes : tie.Need-add-bytes
+add-bytes c = search needs
 
 returns : tie.Need-returns
 returns c = tally-opens (c .before .before .before .before .args .task) _ _ _ (sym (c .before .before .before .opens .ensures) ∙ c .before .before .if1 .taken)
 
-add-t12 : tie.Need-add-t12
-add-t12 c = search needs
+add-size : tie.Need-add-size
+add-size c = search needs
 
-add-t13 : tie.Need-add-t13
-add-t13 c = search needs
+add-all : tie.Need-add-all
+add-all c = search needs
 
 returns-2 : tie.Need-returns-2
 returns-2 c = tally-behind (c .before .before .before .before .args .task) _ _ _ (sym (c .before .before .before .opens .ensures) ∙ c .before .before .if1 .left)
@@ -41,11 +38,10 @@ tallied-spec =
     (tie.spec
     add-more
     opens-requires
-    add-t8
-    add-t9
-    add-t10
-    add-t11
+    add-blocks
+    add-opened
+    add-bytes
     returns
-    add-t12
-    add-t13
+    add-size
+    add-all
     returns-2)

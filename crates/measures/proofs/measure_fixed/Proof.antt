@@ -37,17 +37,17 @@ div-records c =
 fixed-blocks-requires : tie.Need-fixed-blocks-requires
 fixed-blocks-requires c κs = fixed-from (c .before .before .before .before .before .pre .0) (c .before .before .before .before .before .pre .1) (start c) _ (ap length (c .before .rest .ensures))
 
-mul-t8 : tie.Need-mul-t8
-mul-t8 c = search needs
+mul-words : tie.Need-mul-words
+mul-words c = search needs
 
-add-t9 : tie.Need-add-t9
-add-t9 c = search needs
+add-header : tie.Need-add-header
+add-header c = search needs
 
-mul-t10 : tie.Need-mul-t10
-mul-t10 c = omega (arith, bytes-small (c .before .before .before .before .before .before .before .pre .0) (c .before .before .before .before .before .before .before .pre .1) (start (c .before .before)) _ (ap length (c .before .before .before .rest .ensures)))
+mul-data : tie.Need-mul-data
+mul-data c = omega (arith, bytes-small (c .before .before .before .before .before .before .before .pre .0) (c .before .before .before .before .before .before .before .pre .1) (start (c .before .before)) _ (ap length (c .before .before .before .rest .ensures)))
 
-add-t11 : tie.Need-add-t11
-add-t11 c = omega (arith, c .before .fixed-blocks .ensures .few, bytes-small (c .before .before .before .before .before .before .before .pre .0) (c .before .before .before .before .before .before .before .pre .1) (start (c .before .before)) _ (ap length (c .before .before .before .rest .ensures)))
+add-length : tie.Need-add-length
+add-length c = omega (arith, c .before .fixed-blocks .ensures .few, bytes-small (c .before .before .before .before .before .before .before .pre .0) (c .before .before .before .before .before .before .before .pre .1) (start (c .before .before)) _ (ap length (c .before .before .before .rest .ensures)))
 
 returns : tie.Need-returns
 returns c = fixed-measures (c .before .before .before .before .before .before .before .pre .0) (c .before .before .before .before .before .before .before .pre .1) (start (c .before .before)) _ _ (ap length (c .before .before .before .rest .ensures)) (c .before .fixed-blocks .ensures)
@@ -61,8 +61,8 @@ measure-fixed-spec =
     rest-requires
     div-records
     fixed-blocks-requires
-    mul-t8
-    add-t9
-    mul-t10
-    add-t11
+    mul-words
+    add-header
+    mul-data
+    add-length
     returns)

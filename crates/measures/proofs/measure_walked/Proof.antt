@@ -60,17 +60,17 @@ loop-again c =
 enum-told : tie.Need-enum-told Inv-loop μ-loop
 enum-told c = search needs
 
-sub-t16 : tie.Need-sub-t16 Inv-loop μ-loop
-sub-t16 c = omega (arith, c .before .before .before .loop .inv .blocks)
+sub-records : tie.Need-sub-records Inv-loop μ-loop
+sub-records c = omega (arith, c .before .before .before .loop .inv .blocks)
 
-mul-t17 : tie.Need-mul-t17 Inv-loop μ-loop
-mul-t17 c = let g = go-bytes (c .before .before .before .before .before .before .before .before .before .args .task) (c .before .before .before .before .before .before .before .form-of .ensures) (c .before .before .before .before .loop .inv) (c .before .before .before .«record» .ensures) (c .before .before .before .before .before .before .before .before .before .pre) in omega (arith, g .0)
+mul-words : tie.Need-mul-words Inv-loop μ-loop
+mul-words c = let g = go-bytes (c .before .before .before .before .before .before .before .before .before .args .task) (c .before .before .before .before .before .before .before .form-of .ensures) (c .before .before .before .before .loop .inv) (c .before .before .before .«record» .ensures) (c .before .before .before .before .before .before .before .before .before .pre) in omega (arith, g .0)
 
-add-t18 : tie.Need-add-t18 Inv-loop μ-loop
-add-t18 c = let g = go-bytes (c .before .before .before .before .before .before .before .before .before .args .task) (c .before .before .before .before .before .before .before .form-of .ensures) (c .before .before .before .before .loop .inv) (c .before .before .before .«record» .ensures) (c .before .before .before .before .before .before .before .before .before .pre) in omega (arith, g .0)
+add-header : tie.Need-add-header Inv-loop μ-loop
+add-header c = let g = go-bytes (c .before .before .before .before .before .before .before .before .before .args .task) (c .before .before .before .before .before .before .before .form-of .ensures) (c .before .before .before .before .loop .inv) (c .before .before .before .«record» .ensures) (c .before .before .before .before .before .before .before .before .before .pre) in omega (arith, g .0)
 
-add-t19 : tie.Need-add-t19 Inv-loop μ-loop
-add-t19 c = let g = go-bytes (c .before .before .before .before .before .before .before .before .before .before .args .task) (c .before .before .before .before .before .before .before .before .form-of .ensures) (c .before .before .before .before .before .loop .inv) (c .before .before .before .before .«record» .ensures) (c .before .before .before .before .before .before .before .before .before .before .pre) in omega (arith, g .0, g .1)
+add-length : tie.Need-add-length Inv-loop μ-loop
+add-length c = let g = go-bytes (c .before .before .before .before .before .before .before .before .before .before .args .task) (c .before .before .before .before .before .before .before .before .form-of .ensures) (c .before .before .before .before .before .loop .inv) (c .before .before .before .before .«record» .ensures) (c .before .before .before .before .before .before .before .before .before .before .pre) in omega (arith, g .0, g .1)
 
 returns-2 : tie.Need-returns-2 Inv-loop μ-loop
 returns-2 c = go-end (c .before .before .before .before .before .before .before .before .before .before .args .task) (c .before .before .before .before .before .before .before .before .form-of .ensures) (c .before .before .before .before .before .loop .inv) (c .before .before .before .before .«record» .ensures) (c .before .before .enum-told .given .1)
@@ -94,8 +94,8 @@ measure-walked-spec =
     loop-less
     loop-again
     enum-told
-    sub-t16
-    mul-t17
-    add-t18
-    add-t19
+    sub-records
+    mul-words
+    add-header
+    add-length
     returns-2)

@@ -14,11 +14,11 @@ sub-if2 c = search needs
 returns-2 : tie.Need-returns-2
 returns-2 c = fixed-over _ _ _ (omega arith)
 
-add-t5 : tie.Need-add-t5
-add-t5 c = search needs
+add-behind : tie.Need-add-behind
+add-behind c = search needs
 
 returns-3 : tie.Need-returns-3
 returns-3 c = fixed-good _ _ _ (c .before .if1 .left) (omega arith)
 
 pub fixed-piece-spec : {M : Type 1} → statement M
-fixed-piece-spec = tie.close (tie.spec returns sub-if2 returns-2 add-t5 returns-3)
+fixed-piece-spec = tie.close (tie.spec returns sub-if2 returns-2 add-behind returns-3)

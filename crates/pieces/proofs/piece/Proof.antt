@@ -26,8 +26,8 @@ variable-piece-requires c κs = search needs
 enum-told-3 : tie.Need-enum-told-3
 enum-told-3 c = search needs
 
-sub-t9 : tie.Need-sub-t9
-sub-t9 c = search needs
+sub-length : tie.Need-sub-length
+sub-length c = search needs
 
 enum-told-4 : tie.Need-enum-told-4
 enum-told-4 c = search needs
@@ -54,7 +54,7 @@ piece-spec =
     enum-told-2
     variable-piece-requires
     enum-told-3
-    sub-t9
+    sub-length
     enum-told-4
     returns-2
     returns-3

@@ -27,11 +27,11 @@ length-word-requires c κs = search needs
 enum-known-word : tie.Need-enum-known-word
 enum-known-word c = search needs
 
-add-t7 : tie.Need-add-t7
-add-t7 c = search needs
+add-place : tie.Need-add-place
+add-place c = search needs
 
-sub-t8 : tie.Need-sub-t8
-sub-t8 c = omega (arith, within (c .before))
+sub-size : tie.Need-sub-size
+sub-size c = omega (arith, within (c .before))
 
 add-wide : tie.Need-add-wide
 add-wide c = search needs
@@ -42,8 +42,8 @@ shared-slice-read-wide c = omega (arith, within (c .before .before))
 wide-requires : tie.Need-wide-requires
 wide-requires c κs = search needs
 
-add-t13 : tie.Need-add-t13
-add-t13 c = omega (arith, within (c .before .before .before))
+add-behind : tie.Need-add-behind
+add-behind c = omega (arith, within (c .before .before .before))
 
 enum-told : tie.Need-enum-told
 enum-told c = search needs
@@ -60,12 +60,12 @@ variable-piece-spec =
     (tie.spec
     length-word-requires
     enum-known-word
-    add-t7
-    sub-t8
+    add-place
+    sub-size
     add-wide
     shared-slice-read-wide
     wide-requires
-    add-t13
+    add-behind
     enum-told
     returns
     returns-2)

@@ -33,8 +33,8 @@ add-peek c = search needs
 peek-requires-2 : tie.Need-peek-requires-2
 peek-requires-2 c κs = search needs
 
-add-t13 : tie.Need-add-t13
-add-t13 c = search needs
+add-stop : tie.Need-add-stop
+add-stop c = search needs
 
 returns-2 : tie.Need-returns-2
 returns-2 c =
@@ -75,7 +75,7 @@ data-behind-spec =
     returns
     add-peek
     peek-requires-2
-    add-t13
+    add-stop
     returns-2
     add-start
     number-then-requires

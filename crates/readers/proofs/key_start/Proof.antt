@@ -43,8 +43,8 @@ peek-requires-3 c κs = search needs
 is : (c : tie.After-n) → ReadsFrom (numberThen 41) 3 (now (c .before .before .before .before .before .before .before .before .args .s)) (c .n .given .0 .0) (c .n .given .0 .1 .0)
 is c = subst (NumberFrom (numberThen 41) 3 (now (c .before .before .before .before .before .before .before .before .args .s))) (c .n .given .1) (c .before .before .number-then .ensures)
 
-add-t12 : tie.Need-add-t12
-add-t12 c = let h = is (c .before .before .before) in omega arith
+add-behind : tie.Need-add-behind
+add-behind c = let h = is (c .before .before .before) in omega arith
 
 returns-3 : tie.Need-returns-3
 returns-3 c =
@@ -75,7 +75,7 @@ key-start-spec =
     number-then-requires
     enum-known-n
     peek-requires-3
-    add-t12
+    add-behind
     returns-3
     enum-known-n-2
     returns-4

@@ -61,8 +61,8 @@ returns-2 c =
     let f = letter (c .before .before .before) ∙ c .before .if3 .taken in
     kind-goes s (a .from) unpack e 85 f refl (kind-unpack s (a .from) e f) (c .sizes-behind2 .result) (c .sizes-behind2 .ensures)
 
-add-t10 : tie.Need-add-t10
-add-t10 c = search needs
+add-stop : tie.Need-add-stop
+add-stop c = search needs
 
 returns-3 : tie.Need-returns-3
 returns-3 c =
@@ -112,7 +112,7 @@ kind-spec =
     add-sizes-behind-2
     sizes-behind-requires-2
     returns-2
-    add-t10
+    add-stop
     returns-3
     number-at-requires
     enum-known-n

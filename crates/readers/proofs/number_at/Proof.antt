@@ -46,8 +46,8 @@ stops c =
     let a = c .before .before .before .before .before .args in
     subst (NumberSays (drop (a .from) (now (a .s)))) (c .n2 .given .1) (said (c .before .before))
 
-add-t12 : tie.Need-add-t12
-add-t12 c =
+add-behind : tie.Need-add-behind
+add-behind c =
     let a = c .before .before .before .before .before .before .args in
     let h = is (c .before) in
     omega (arith, length-drop (a .from) (now (a .s)))
@@ -55,8 +55,8 @@ add-t12 c =
 enum-known-n-2 : tie.Need-enum-known-n-2
 enum-known-n-2 c = search needs
 
-add-t13 : tie.Need-add-t13
-add-t13 c =
+add-stop : tie.Need-add-stop
+add-stop c =
     let a = c .before .before .before .before .before .before .args in
     let h = stops (c .before) in
     omega (arith, length-drop (a .from) (now (a .s)))
@@ -80,8 +80,8 @@ number-at-spec =
     part-number-end
     number-requires
     enum-known-n
-    add-t12
+    add-behind
     enum-known-n-2
-    add-t13
+    add-stop
     returns
     returns-2)

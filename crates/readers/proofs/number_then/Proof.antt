@@ -24,8 +24,8 @@ is c =
     let a = c .before .before .before .before .args in
     subst (NumberFrom number (a .from) (now (a .s))) (c .n .given .1) (c .before .before .number-at .ensures)
 
-add-t12 : tie.Need-add-t12
-add-t12 c = let h = is (c .before .before .before) in omega arith
+add-behind : tie.Need-add-behind
+add-behind c = let h = is (c .before .before .before) in omega arith
 
 returns : tie.Need-returns
 returns c =
@@ -52,7 +52,7 @@ number-then-spec =
     number-at-requires
     enum-known-n
     peek-requires
-    add-t12
+    add-behind
     returns
     enum-known-n-2
     returns-2

@@ -19,8 +19,8 @@ peek-requires c κs = search needs
 mark : (c : tie.After-peek) → getD (now (c .before .before .args .s)) (c .before .before .args .from) 256 ≡ c .peek .result
 mark c = sym (c .peek .ensures)
 
-add-t12 : tie.Need-add-t12
-add-t12 c = search needs
+add-behind : tie.Need-add-behind
+add-behind c = search needs
 
 returns : tie.Need-returns
 returns c =
@@ -66,7 +66,7 @@ size-behind-spec =
     tie.close
     (tie.spec
     peek-requires
-    add-t12
+    add-behind
     returns
     returns-2
     add-start

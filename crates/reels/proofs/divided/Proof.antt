@@ -14,11 +14,11 @@ rem-if2 c = search needs
 returns-2 : tie.Need-returns-2
 returns-2 c = divided-over _ _ (c .before .before .pre .0) (c .before .before .pre .1 .0) (c .before .before .pre .1 .1) (λ e. omega (arith, e))
 
-div-t6 : tie.Need-div-t6
-div-t6 c = search needs
+div-count : tie.Need-div-count
+div-count c = search needs
 
 returns-3 : tie.Need-returns-3
 returns-3 c = divided-even _ _ (c .before .before .pre .0) (c .before .before .pre .1 .0) (c .before .before .pre .1 .1) (c .before .if1 .left) (omega arith)
 
 pub divided-spec : {M : Type 1} → statement M
-divided-spec = tie.close (tie.spec returns rem-if2 returns-2 div-t6 returns-3)
+divided-spec = tie.close (tie.spec returns rem-if2 returns-2 div-count returns-3)

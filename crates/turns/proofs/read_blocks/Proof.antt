@@ -63,8 +63,8 @@ loop-again c = reading-step (c .before .before .before .before .before .before .
 enum-told : tie.Need-enum-told Inv-loop μ-loop
 enum-told c = search needs
 
-add-t10 : tie.Need-add-t10 Inv-loop μ-loop
-add-t10 c = omega arith
+add-block : tie.Need-add-block Inv-loop μ-loop
+add-block c = omega arith
 
 returns : tie.Need-returns Inv-loop μ-loop
 returns c = reading-bad (c .before .before .before .before .before .loop .inv) (c .before .before .before .before .loop-test .taken) (ruled-none c)
@@ -89,7 +89,7 @@ read-blocks-spec =
     loop-less
     loop-again
     enum-told
-    add-t10
+    add-block
     returns
     returns-2
     returns-3)

@@ -4,17 +4,17 @@ use Rattle.turns.proofs.TurnsLaws.{taken-even, taken-odd}
 use Rattle.turns.proofs.taken.Statement.{statement}
 use Rattle.turns.proofs.taken.Tie as tie
 
-add-t6 : tie.Need-add-t6
-add-t6 c = search needs
+add-records : tie.Need-add-records
+add-records c = search needs
 
 returns : tie.Need-returns
 returns c = taken-even _ _ _ (c .before .if1 .taken)
 
-add-t4 : tie.Need-add-t4
-add-t4 c = search needs
+add-held : tie.Need-add-held
+add-held c = search needs
 
 returns-2 : tie.Need-returns-2
 returns-2 c = taken-odd _ _ _ (c .before .if1 .left)
 
 pub taken-spec : {M : Type 1} → statement M
-taken-spec = tie.close (tie.spec add-t6 returns add-t4 returns-2)
+taken-spec = tie.close (tie.spec add-records returns add-held returns-2)
