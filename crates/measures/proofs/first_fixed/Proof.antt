@@ -16,6 +16,12 @@ Inv-loop fields s n first from «data» at₀ number₀ at number = Asking n fir
 abbrev μ-loop : tie.MeasureT-loop
 μ-loop fields s n first from «data» at₀ number₀ at number = length «data» - at
 
+abbrev past-form-of : tie.After-rest Inv-loop μ-loop → tie.After-form-of Inv-loop μ-loop
+past-form-of c = c .before .before
+
+abbrev start : tie.After-rest Inv-loop μ-loop → tie.Start Inv-loop μ-loop
+start c = c .before .before .before .before .before
+
 form-of-requires : tie.Need-form-of-requires Inv-loop μ-loop
 form-of-requires c κs = search needs
 
@@ -27,14 +33,18 @@ rest-requires : tie.Need-rest-requires Inv-loop μ-loop
 rest-requires c κs = search needs
 
 loop-holds : tie.Need-loop-holds Inv-loop μ-loop
-loop-holds c = ask-start _ _ _ _ (first-low (asks (c .before .before .form-of .ensures) (c .before .before .before .before .before .pre .0 .given .fair)))
+loop-holds c = ask-start _ _ _ _ (first-low (asks (past-form-of c .form-of .ensures) (start c .pre .0 .given .fair)))
 
 -- the data is no longer than the reel
 few : (c : tie.In-loop Inv-loop μ-loop) → length (c .before .before .rest .result .now) ≤ 65536
-few c = omega (arith, ap length (c .before .before .rest .ensures), length-drop (c .before .before .before .fixed-start .result) (c .before .before .before .before .before .before .before .args .s .now), seek-few (c .before .before .before .before .before .before .before .args .task) (c .before .before .before .before .before .before .before .args .fields .now) (c .before .before .before .before .before .before .before .args .s .now) (c .before .before .before .before .before .before .before .pre .1) (c .before .before .before .before .form-of .ensures) (c .before .before .before .fixed-start .ensures) (c .before .before .rest .ensures) (c .before .before .before .before .before .before .before .pre .0))
+few c =
+    let r = c .before .before in
+    omega (arith, ap length (r .rest .ensures), length-drop (r .before .fixed-start .result) (start r .args .s .now), seek-few (start r .args .task) (start r .args .fields .now) (start r .args .s .now) (start r .pre .1) (past-form-of r .form-of .ensures) (r .before .fixed-start .ensures) (r .rest .ensures) (start r .pre .0))
 
 add-end : tie.Need-add-end Inv-loop μ-loop
-add-end c = let l = seek-inside (c .before .before .before .before .before .before .before .args .task) (c .before .before .before .before .before .before .before .args .fields .now) (c .before .before .before .before .before .before .before .args .s .now) (c .before .before .before .before .before .before .before .pre .1) (c .before .before .before .before .form-of .ensures) (c .before .before .before .fixed-start .ensures) (c .before .before .rest .ensures) (c .before .loop .inv) (c .before .before .before .before .before .before .before .pre .0) (omega arith) in omega (arith, few c)
+add-end c =
+    let r = c .before .before in
+    let l = seek-inside (start r .args .task) (start r .args .fields .now) (start r .args .s .now) (start r .pre .1) (past-form-of r .form-of .ensures) (r .before .fixed-start .ensures) (r .rest .ensures) (c .before .loop .inv) (start r .pre .0) (omega arith) in omega (arith, few c)
 
 sub-permitted : tie.Need-sub-permitted Inv-loop μ-loop
 sub-permitted c = search needs
@@ -43,25 +53,39 @@ part-permitted-start : tie.Need-part-permitted-start Inv-loop μ-loop
 part-permitted-start c = search needs
 
 part-permitted-end : tie.Need-part-permitted-end Inv-loop μ-loop
-part-permitted-end c = seek-inside (c .before .before .before .before .before .before .before .args .task) (c .before .before .before .before .before .before .before .args .fields .now) (c .before .before .before .before .before .before .before .args .s .now) (c .before .before .before .before .before .before .before .pre .1) (c .before .before .before .before .form-of .ensures) (c .before .before .before .fixed-start .ensures) (c .before .before .rest .ensures) (c .before .loop .inv) (c .before .before .before .before .before .before .before .pre .0) (omega arith)
+part-permitted-end c =
+    let r = c .before .before in
+    seek-inside (start r .args .task) (start r .args .fields .now) (start r .args .s .now) (start r .pre .1) (past-form-of r .form-of .ensures) (r .before .fixed-start .ensures) (r .rest .ensures) (c .before .loop .inv) (start r .pre .0) (omega arith)
 
 permitted-requires : tie.Need-permitted-requires Inv-loop μ-loop
-permitted-requires c κs = seek-readable (c .before .before .before .before .before .before .before .before .args .task) (c .before .before .before .before .before .before .before .before .args .fields .now) (c .before .before .before .before .before .before .before .before .args .s .now) (c .before .before .before .before .before .before .before .before .pre .1) (c .before .before .before .before .before .form-of .ensures) (c .before .before .before .before .fixed-start .ensures) (c .before .before .before .rest .ensures) (c .before .before .loop .inv) (c .before .before .before .before .before .before .before .before .pre .0) (omega arith)
+permitted-requires c κs =
+    let r = c .before .before .before in
+    seek-readable (start r .args .task) (start r .args .fields .now) (start r .args .s .now) (start r .pre .1) (past-form-of r .form-of .ensures) (r .before .fixed-start .ensures) (r .rest .ensures) (c .before .before .loop .inv) (start r .pre .0) (omega arith)
 
 returns : tie.Need-returns Inv-loop μ-loop
-returns c = seek-stop (c .before .before .before .before .before .before .before .before .before .before .args .task) (c .before .before .before .before .before .before .before .before .before .before .args .fields .now) (c .before .before .before .before .before .before .before .before .before .before .args .s .now) (c .before .before .before .before .before .before .before .before .before .before .pre .1) (c .before .before .before .before .before .before .before .form-of .ensures) (c .before .before .before .before .before .before .fixed-start .ensures) (c .before .before .before .before .before .rest .ensures) (c .before .before .before .before .loop .inv) (omega arith) _ (c .before .permitted .ensures) (not-true _ (c .if1 .taken))
+returns c =
+    let r = c .before .before .before .before .before in
+    seek-stop (start r .args .task) (start r .args .fields .now) (start r .args .s .now) (start r .pre .1) (past-form-of r .form-of .ensures) (r .before .fixed-start .ensures) (r .rest .ensures) (c .before .before .before .before .loop .inv) (omega arith) _ (c .before .permitted .ensures) (not-true _ (c .if1 .taken))
 
 add-number : tie.Need-add-number Inv-loop μ-loop
-add-number c = omega (arith, c .before .before .before .before .loop .inv .few, few (c .before .before .before), seek-high (c .before .before .before .before .before .before .before .before .before .before .args .task) (c .before .before .before .before .before .before .before .before .before .before .args .fields .now) (c .before .before .before .before .before .before .before .before .before .before .args .s .now) (c .before .before .before .before .before .before .before .before .before .before .pre .1) (c .before .before .before .before .before .before .before .form-of .ensures) (c .before .before .before .before .before .before .fixed-start .ensures) (c .before .before .before .before .before .rest .ensures) (c .before .before .before .before .before .before .before .before .before .before .pre .0))
+add-number c =
+    let r = c .before .before .before .before .before in
+    omega (arith, c .before .before .before .before .loop .inv .few, few (c .before .before .before), seek-high (start r .args .task) (start r .args .fields .now) (start r .args .s .now) (start r .pre .1) (past-form-of r .form-of .ensures) (r .before .fixed-start .ensures) (r .rest .ensures) (start r .pre .0))
 
 loop-less : tie.Need-loop-less Inv-loop μ-loop
-loop-less c = omega (arith, seek-some (c .before .before .before .before .before .before .before .before .before .before .args .task) (c .before .before .before .before .before .before .before .before .before .before .args .fields .now) (c .before .before .before .before .before .before .before .before .before .before .args .s .now) (c .before .before .before .before .before .before .before .before .before .before .pre .1) (c .before .before .before .before .before .before .before .form-of .ensures) (c .before .before .before .before .before .before .fixed-start .ensures) (c .before .before .before .before .before .rest .ensures) (c .before .before .before .before .before .before .before .before .before .before .pre .0))
+loop-less c =
+    let r = c .before .before .before .before .before in
+    omega (arith, seek-some (start r .args .task) (start r .args .fields .now) (start r .args .s .now) (start r .pre .1) (past-form-of r .form-of .ensures) (r .before .fixed-start .ensures) (r .rest .ensures) (start r .pre .0))
 
 loop-again : tie.Need-loop-again Inv-loop μ-loop
-loop-again c = ask-more (seek-some (c .before .before .before .before .before .before .before .before .before .before .args .task) (c .before .before .before .before .before .before .before .before .before .before .args .fields .now) (c .before .before .before .before .before .before .before .before .before .before .args .s .now) (c .before .before .before .before .before .before .before .before .before .before .pre .1) (c .before .before .before .before .before .before .before .form-of .ensures) (c .before .before .before .before .before .before .fixed-start .ensures) (c .before .before .before .before .before .rest .ensures) (c .before .before .before .before .before .before .before .before .before .before .pre .0)) (c .before .before .before .before .loop .inv) (omega arith) _ (c .before .permitted .ensures) (not-false _ (c .if1 .left))
+loop-again c =
+    let r = c .before .before .before .before .before in
+    ask-more (seek-some (start r .args .task) (start r .args .fields .now) (start r .args .s .now) (start r .pre .1) (past-form-of r .form-of .ensures) (r .before .fixed-start .ensures) (r .rest .ensures) (start r .pre .0)) (c .before .before .before .before .loop .inv) (omega arith) _ (c .before .permitted .ensures) (not-false _ (c .if1 .left))
 
 returns-2 : tie.Need-returns-2 Inv-loop μ-loop
-returns-2 c = seek-end (c .before .before .before .before .before .before .before .args .task) (c .before .before .before .before .before .before .before .args .fields .now) (c .before .before .before .before .before .before .before .args .s .now) (c .before .before .before .before .before .before .before .pre .1) (c .before .before .before .before .form-of .ensures) (c .before .before .before .fixed-start .ensures) (c .before .before .rest .ensures) (c .before .loop .inv) (omega arith)
+returns-2 c =
+    let r = c .before .before in
+    seek-end (start r .args .task) (start r .args .fields .now) (start r .args .s .now) (start r .pre .1) (past-form-of r .form-of .ensures) (r .before .fixed-start .ensures) (r .rest .ensures) (c .before .loop .inv) (omega arith)
 
 pub first-fixed-spec : {M : Type 1} → statement M
 first-fixed-spec =

@@ -14,6 +14,12 @@ Inv-loop fields s form first w₀ number₀ w number = Seeking form first fields
 abbrev μ-loop : tie.MeasureT-loop
 μ-loop fields s form first w₀ number₀ w number = bytesLeft s w
 
+abbrev past-form-of : tie.After-record Inv-loop μ-loop → tie.After-form-of Inv-loop μ-loop
+past-form-of c = c .before .before .before
+
+abbrev start : tie.After-record Inv-loop μ-loop → tie.Start Inv-loop μ-loop
+start c = c .before .before .before .before .before .before
+
 form-of-requires : tie.Need-form-of-requires Inv-loop μ-loop
 form-of-requires c κs = search needs
 
@@ -31,8 +37,9 @@ enum-known-read c = search needs
 
 add-end : tie.Need-add-end Inv-loop μ-loop
 add-end c =
-    let g = inside (c .before .before .before .«record» .ensures) (c .before .read .given .1) in
-    omega (arith, g .ends, seek-short (c .before .before .before .before .before .before .form-of .ensures) (c .before .before .before .before .before .before .before .before .before .pre))
+    let r = c .before .before .before in
+    let g = inside (r .«record» .ensures) (c .before .read .given .1) in
+    omega (arith, g .ends, seek-short (past-form-of r .form-of .ensures) (start r .pre))
 
 sub-permitted : tie.Need-sub-permitted Inv-loop μ-loop
 sub-permitted c = search needs
@@ -44,27 +51,36 @@ part-permitted-end : tie.Need-part-permitted-end Inv-loop μ-loop
 part-permitted-end c = let g = inside (c .before .before .before .«record» .ensures) (c .before .read .given .1) in omega (arith, g .ends)
 
 permitted-requires : tie.Need-permitted-requires Inv-loop μ-loop
-permitted-requires c κs = seek-readable (c .before .before .before .before .before .before .before .before .before .before .args .task) (c .before .before .before .before .before .before .before .form-of .ensures) (c .before .before .before .before .before .loop .inv) (c .before .before .before .before .«record» .ensures) (c .before .before .read .given .1) (c .before .before .before .before .before .before .before .before .before .before .pre)
+permitted-requires c κs =
+    let r = c .before .before .before .before in
+    seek-readable (start r .args .task) (past-form-of r .form-of .ensures) (r .before .loop .inv) (r .«record» .ensures) (c .before .before .read .given .1) (start r .pre)
 
 returns : tie.Need-returns Inv-loop μ-loop
 returns c =
-    seek-stop (c .before .before .before .before .before .before .before .before .before .before .before .before .args .task) (c .before .before .before .before .before .before .before .before .before .form-of .ensures) (c .before .before .before .before .before .before .before .loop .inv) (c .before .before .before .before .before .before .«record» .ensures) (c .before .before .before .before .read .given .1)
+    let r = c .before .before .before .before .before .before in
+    seek-stop (start r .args .task) (past-form-of r .form-of .ensures) (r .before .loop .inv) (r .«record» .ensures) (c .before .before .before .before .read .given .1)
     _ (c .before .permitted .ensures) (not-true _ (c .if1 .taken))
 
 add-number : tie.Need-add-number Inv-loop μ-loop
-add-number c = let g = seek-few (c .before .before .before .before .before .before .before .before .before .before .before .before .args .task) (c .before .before .before .before .before .before .before .before .before .form-of .ensures) (c .before .before .before .before .before .before .before .loop .inv) (c .before .before .before .before .before .before .«record» .ensures) (c .before .before .before .before .before .before .before .before .before .before .before .before .pre) in omega arith
+add-number c =
+    let r = c .before .before .before .before .before .before in
+    let g = seek-few (start r .args .task) (past-form-of r .form-of .ensures) (r .before .loop .inv) (r .«record» .ensures) (start r .pre) in omega arith
 
 loop-less : tie.Need-loop-less Inv-loop μ-loop
 loop-less c = inside (c .before .before .before .before .before .before .«record» .ensures) (c .before .before .before .before .read .given .1) .less
 
 loop-again : tie.Need-loop-again Inv-loop μ-loop
-loop-again c = seek-more (c .before .before .before .before .before .before .before .loop .inv) (c .before .before .before .before .before .before .«record» .ensures) (c .before .before .before .before .read .given .1) _ (c .before .permitted .ensures) (not-false _ (c .if1 .left))
+loop-again c =
+    let r = c .before .before .before .before .before .before in
+    seek-more (r .before .loop .inv) (r .«record» .ensures) (c .before .before .before .before .read .given .1) _ (c .before .permitted .ensures) (not-false _ (c .if1 .left))
 
 enum-told : tie.Need-enum-told Inv-loop μ-loop
 enum-told c = search needs
 
 returns-2 : tie.Need-returns-2 Inv-loop μ-loop
-returns-2 c = seek-end (c .before .before .before .before .before .before .before .before .args .task) (c .before .before .before .before .before .form-of .ensures) (c .before .before .before .loop .inv) (c .before .before .«record» .ensures) (c .enum-told .given .1)
+returns-2 c =
+    let r = c .before .before in
+    seek-end (start r .args .task) (past-form-of r .form-of .ensures) (r .before .loop .inv) (r .«record» .ensures) (c .enum-told .given .1)
 
 pub first-walked-spec : {M : Type 1} → statement M
 first-walked-spec =

@@ -13,6 +13,12 @@ Inv-loop task s form first over walk₀ number₀ tally₀ walk number tally = G
 abbrev μ-loop : tie.MeasureT-loop
 μ-loop task s form first over walk₀ number₀ tally₀ walk number tally = bytesLeft s walk
 
+abbrev past-form-of : tie.After-record Inv-loop μ-loop → tie.After-form-of Inv-loop μ-loop
+past-form-of c = c .before .before .before .before
+
+abbrev start : tie.After-record Inv-loop μ-loop → tie.Start Inv-loop μ-loop
+start c = c .before .before .before .before .before .before
+
 form-of-requires : tie.Need-form-of-requires Inv-loop μ-loop
 form-of-requires c κs = search needs
 
@@ -33,47 +39,61 @@ enum-known-read c = search needs
 
 output-length-requires : tie.Need-output-length-requires Inv-loop μ-loop
 output-length-requires c κs =
-    go-short (c .before .before .before .before .before .before .before .before .before .args .task) (c .before .before .before .before .before .before .before .form-of .ensures) (c .before .before .before .before .loop .inv) (c .before .before .before .«record» .ensures) (c .before .read .given .1)
-    (c .before .before .before .before .before .before .before .before .before .pre)
+    let r = c .before .before .before in
+    go-short (start r .args .task) (past-form-of r .form-of .ensures) (r .before .loop .inv) (r .«record» .ensures) (c .before .read .given .1)
+    (start r .pre)
 
 tallied-requires : tie.Need-tallied-requires Inv-loop μ-loop
 tallied-requires c κs =
-    go-small (c .before .before .before .before .before .before .before .before .before .before .args .task) (c .before .before .before .before .before .before .before .before .form-of .ensures) (c .before .before .before .before .before .loop .inv) (c .before .before .before .before .«record» .ensures) (c .before .before .read .given .1)
-    (c .before .before .before .before .before .before .before .before .before .before .pre) _ (c .output-length .ensures)
+    let r = c .before .before .before .before in
+    go-small (start r .args .task) (past-form-of r .form-of .ensures) (r .before .loop .inv) (r .«record» .ensures) (c .before .before .read .given .1)
+    (start r .pre) _ (c .output-length .ensures)
 
 returns : tie.Need-returns Inv-loop μ-loop
 returns c =
-    go-stop (c .before .before .before .before .before .before .before .before .before .before .before .before .before .args .task) (c .before .before .before .before .before .before .before .before .before .before .before .form-of .ensures) (c .before .before .before .before .before .before .before .before .loop .inv) (c .before .before .before .before .before .before .before .«record» .ensures) (c .before .before .before .before .before .read .given .1)
-    (c .before .before .before .before .before .before .before .before .before .before .before .before .before .pre) _ (c .before .before .before .output-length .ensures) _ (c .before .before .tallied .ensures) (omega (arith, c .if1 .taken))
+    let r = c .before .before .before .before .before .before .before in
+    go-stop (start r .args .task) (past-form-of r .form-of .ensures) (r .before .loop .inv) (r .«record» .ensures) (c .before .before .before .before .before .read .given .1)
+    (start r .pre) _ (c .before .before .before .output-length .ensures) _ (c .before .before .tallied .ensures) (omega (arith, c .if1 .taken))
 
 add-number : tie.Need-add-number Inv-loop μ-loop
-add-number c = let g = go-few (c .before .before .before .before .before .before .before .before .before .before .before .before .before .args .task) (c .before .before .before .before .before .before .before .before .before .before .before .form-of .ensures) (c .before .before .before .before .before .before .before .before .loop .inv) (c .before .before .before .before .before .before .before .«record» .ensures) (c .before .before .before .before .before .before .before .before .before .before .before .before .before .pre) in omega arith
+add-number c =
+    let r = c .before .before .before .before .before .before .before in
+    let g = go-few (start r .args .task) (past-form-of r .form-of .ensures) (r .before .loop .inv) (r .«record» .ensures) (start r .pre) in omega arith
 
 loop-less : tie.Need-loop-less Inv-loop μ-loop
 loop-less c = inside (c .before .before .before .before .before .before .before .«record» .ensures) (c .before .before .before .before .before .read .given .1) .less
 
 loop-again : tie.Need-loop-again Inv-loop μ-loop
 loop-again c =
-    go-more (c .before .before .before .before .before .before .before .before .before .before .before .before .before .args .task) (c .before .before .before .before .before .before .before .before .before .before .before .form-of .ensures) (c .before .before .before .before .before .before .before .before .loop .inv) (c .before .before .before .before .before .before .before .«record» .ensures) (c .before .before .before .before .before .read .given .1)
-    (c .before .before .before .before .before .before .before .before .before .before .before .before .before .pre) _ (c .before .before .before .output-length .ensures) _ (c .before .before .tallied .ensures) (omega (arith, c .if1 .left))
+    let r = c .before .before .before .before .before .before .before in
+    go-more (start r .args .task) (past-form-of r .form-of .ensures) (r .before .loop .inv) (r .«record» .ensures) (c .before .before .before .before .before .read .given .1)
+    (start r .pre) _ (c .before .before .before .output-length .ensures) _ (c .before .before .tallied .ensures) (omega (arith, c .if1 .left))
 
 enum-told : tie.Need-enum-told Inv-loop μ-loop
 enum-told c = search needs
 
 sub-records : tie.Need-sub-records Inv-loop μ-loop
-sub-records c = omega (arith, c .before .before .before .loop .inv .blocks)
+sub-records c = omega (arith, (c .before .before) .before .loop .inv .blocks)
 
 mul-words : tie.Need-mul-words Inv-loop μ-loop
-mul-words c = let g = go-bytes (c .before .before .before .before .before .before .before .before .before .args .task) (c .before .before .before .before .before .before .before .form-of .ensures) (c .before .before .before .before .loop .inv) (c .before .before .before .«record» .ensures) (c .before .before .before .before .before .before .before .before .before .pre) in omega (arith, g .0)
+mul-words c =
+    let r = c .before .before .before in
+    let g = go-bytes (start r .args .task) (past-form-of r .form-of .ensures) (r .before .loop .inv) (r .«record» .ensures) (start r .pre) in omega (arith, g .0)
 
 add-header : tie.Need-add-header Inv-loop μ-loop
-add-header c = let g = go-bytes (c .before .before .before .before .before .before .before .before .before .args .task) (c .before .before .before .before .before .before .before .form-of .ensures) (c .before .before .before .before .loop .inv) (c .before .before .before .«record» .ensures) (c .before .before .before .before .before .before .before .before .before .pre) in omega (arith, g .0)
+add-header c =
+    let r = c .before .before .before in
+    let g = go-bytes (start r .args .task) (past-form-of r .form-of .ensures) (r .before .loop .inv) (r .«record» .ensures) (start r .pre) in omega (arith, g .0)
 
 add-length : tie.Need-add-length Inv-loop μ-loop
-add-length c = let g = go-bytes (c .before .before .before .before .before .before .before .before .before .before .args .task) (c .before .before .before .before .before .before .before .before .form-of .ensures) (c .before .before .before .before .before .loop .inv) (c .before .before .before .before .«record» .ensures) (c .before .before .before .before .before .before .before .before .before .before .pre) in omega (arith, g .0, g .1)
+add-length c =
+    let r = c .before .before .before .before in
+    let g = go-bytes (start r .args .task) (past-form-of r .form-of .ensures) (r .before .loop .inv) (r .«record» .ensures) (start r .pre) in omega (arith, g .0, g .1)
 
 returns-2 : tie.Need-returns-2 Inv-loop μ-loop
-returns-2 c = go-end (c .before .before .before .before .before .before .before .before .before .before .args .task) (c .before .before .before .before .before .before .before .before .form-of .ensures) (c .before .before .before .before .before .loop .inv) (c .before .before .before .before .«record» .ensures) (c .before .before .enum-told .given .1)
+returns-2 c =
+    let r = c .before .before .before .before in
+    go-end (start r .args .task) (past-form-of r .form-of .ensures) (r .before .loop .inv) (r .«record» .ensures) (c .before .before .enum-told .given .1)
 
 pub measure-walked-spec : {M : Type 1} → statement M
 measure-walked-spec =

@@ -16,6 +16,18 @@ Inv-loop task fields ours theirs form under room₀ w₀ v₀ number₀ room w v
 abbrev μ-loop : tie.MeasureT-loop
 μ-loop task fields ours theirs form under room₀ w₀ v₀ number₀ room w v number = bytesLeft ours w
 
+abbrev past-record2 : tie.After-known-told2 Inv-loop μ-loop → tie.After-record2 Inv-loop μ-loop
+past-record2 c = c .before .before .before
+
+abbrev past-read : tie.After-known-told2 Inv-loop μ-loop → tie.After-read Inv-loop μ-loop
+past-read c = c .before .before .before .before .before
+
+abbrev past-record : tie.After-known-told2 Inv-loop μ-loop → tie.After-record Inv-loop μ-loop
+past-record c = c .before .before .before .before .before .before .before
+
+abbrev turn : tie.After-known-told2 Inv-loop μ-loop → tie.At-loop Inv-loop μ-loop
+turn c = c .before .before .before .before .before .before .before .before
+
 form-of-requires : tie.Need-form-of-requires Inv-loop μ-loop
 form-of-requires c κs =
     search needs
@@ -64,22 +76,22 @@ enum-known-other c =
 
 add-end : tie.Need-add-end Inv-loop μ-loop
 add-end c =
-    let l = c .before .before .before .before .before .before .before .before in
+    let l = turn c in
     let f = l .before .before .before .before .form-of .ensures in
     let u = l .before .before .before .form-under .ensures in
     let y = l .before .before .before .before .before .before .before .before .pre in
     let k = l .loop .inv .0 in
-    let g = inside (c .before .before .before .before .before .before .before .«record» .ensures) (c .before .before .before .before .before .read .given .1) in
+    let g = inside (past-record c .«record» .ensures) (past-read c .read .given .1) in
     omega (arith, g .ends, ours-short f u y)
 
 add-to : tie.Need-add-to Inv-loop μ-loop
 add-to c =
-    let l = c .before .before .before .before .before .before .before .before in
+    let l = turn c in
     let f = l .before .before .before .before .form-of .ensures in
     let u = l .before .before .before .form-under .ensures in
     let y = l .before .before .before .before .before .before .before .before .pre in
     let k = l .loop .inv .0 in
-    let g = inside (c .before .before .before .record2 .ensures) (c .before .other .given .1) in
+    let g = inside (past-record2 c .record2 .ensures) (c .before .other .given .1) in
     omega (arith, g .ends, theirs-short f u y)
 
 sub-agree : tie.Need-sub-agree Inv-loop μ-loop
@@ -92,7 +104,7 @@ part-agree-start c =
 
 part-agree-end : tie.Need-part-agree-end Inv-loop μ-loop
 part-agree-end c =
-    let g = inside (c .before .before .before .before .before .before .before .«record» .ensures) (c .before .before .before .before .before .read .given .1) in omega (arith, g .ends)
+    let g = inside (past-record c .«record» .ensures) (past-read c .read .given .1) in omega (arith, g .ends)
 
 sub-agree-2 : tie.Need-sub-agree-2 Inv-loop μ-loop
 sub-agree-2 c =
@@ -104,33 +116,35 @@ part-agree-start-2 c =
 
 part-agree-end-2 : tie.Need-part-agree-end-2 Inv-loop μ-loop
 part-agree-end-2 c =
-    let g = inside (c .before .before .before .before .record2 .ensures) (c .before .before .other .given .1) in omega (arith, g .ends)
+    let g = inside (past-record2 (c .before) .record2 .ensures) (c .before .before .other .given .1) in omega (arith, g .ends)
 
 slice-aggregate-agree : tie.Need-slice-aggregate-agree Inv-loop μ-loop
 slice-aggregate-agree c =
-    c .before .before .before .before .before .before .before .before .before .before .before .loop .inv .1
+    turn (c .before .before .before) .loop .inv .1
 
 agree-requires : tie.Need-agree-requires Inv-loop μ-loop
 agree-requires c κs =
-    let l = c .before .before .before .before .before .before .before .before .before .before .before in
+    let k′ = c .before .before .before in
+    let l = turn k′ in
     let f = l .before .before .before .before .form-of .ensures in
     let u = l .before .before .before .form-under .ensures in
     let y = l .before .before .before .before .before .before .before .before .pre in
     let k = l .loop .inv .0 in
-    pair-comparable f u y k (c .before .before .before .before .before .before .before .before .before .before .«record» .ensures) (c .before .before .before .before .before .before .before .before .read .given .1) _ (l .loop .inv .1)
+    pair-comparable f u y k (past-record k′ .«record» .ensures) (past-read k′ .read .given .1) _ (l .loop .inv .1)
 
 returns : tie.Need-returns Inv-loop μ-loop
 returns c =
-    let l = c .before .before .before .before .before .before .before .before .before .before .before .before .before .before in
+    let k′ = c .before .before .before .before .before .before in
+    let l = turn k′ in
     let f = l .before .before .before .before .form-of .ensures in
     let u = l .before .before .before .form-under .ensures in
     let y = l .before .before .before .before .before .before .before .before .pre in
     let k = l .loop .inv .0 in
-    pair-stop f u y k (c .before .before .before .before .before .before .before .before .before .before .before .before .before .«record» .ensures) (c .before .before .before .before .before .before .before .before .before .before .before .read .given .1) (c .before .before .before .before .before .before .before .before .before .record2 .ensures) (c .before .before .before .before .before .before .before .other .given .1) _ (c .before .before .agree .ensures) (not-true _ (c .if1 .taken))
+    pair-stop f u y k (past-record k′ .«record» .ensures) (past-read k′ .read .given .1) (past-record2 k′ .record2 .ensures) (k′ .before .other .given .1) _ (c .before .before .agree .ensures) (not-true _ (c .if1 .taken))
 
 add-number : tie.Need-add-number Inv-loop μ-loop
 add-number c =
-    let l = c .before .before .before .before .before .before .before .before .before .before .before .before .before .before in
+    let l = turn (c .before .before .before .before .before .before) in
     let f = l .before .before .before .before .form-of .ensures in
     let u = l .before .before .before .form-under .ensures in
     let y = l .before .before .before .before .before .before .before .before .pre in
@@ -139,16 +153,18 @@ add-number c =
 
 loop-less : tie.Need-loop-less Inv-loop μ-loop
 loop-less c =
-    inside (c .before .before .before .before .before .before .before .before .before .before .before .before .before .«record» .ensures) (c .before .before .before .before .before .before .before .before .before .before .before .read .given .1) .less
+    let k = c .before .before .before .before .before .before in
+    inside (past-record k .«record» .ensures) (past-read k .read .given .1) .less
 
 loop-again : tie.Need-loop-again Inv-loop μ-loop
 loop-again c =
-    let l = c .before .before .before .before .before .before .before .before .before .before .before .before .before .before in
+    let k′ = c .before .before .before .before .before .before in
+    let l = turn k′ in
     let f = l .before .before .before .before .form-of .ensures in
     let u = l .before .before .before .form-under .ensures in
     let y = l .before .before .before .before .before .before .before .before .pre in
     let k = l .loop .inv .0 in
-    (pair-more f u y k (c .before .before .before .before .before .before .before .before .before .before .before .before .before .«record» .ensures) (c .before .before .before .before .before .before .before .before .before .before .before .read .given .1) (c .before .before .before .before .before .before .before .before .before .record2 .ensures) (c .before .before .before .before .before .before .before .other .given .1) _ (c .before .before .agree .ensures) (not-false _ (c .if1 .left)), omega (arith, l .loop .inv .1, c .before .before .agree .kept .1 .1 .1 .1 .0))
+    (pair-more f u y k (past-record k′ .«record» .ensures) (past-read k′ .read .given .1) (past-record2 k′ .record2 .ensures) (k′ .before .other .given .1) _ (c .before .before .agree .ensures) (not-false _ (c .if1 .left)), omega (arith, l .loop .inv .1, c .before .before .agree .kept .1 .1 .1 .1 .0))
 
 enum-told : tie.Need-enum-told Inv-loop μ-loop
 enum-told c =

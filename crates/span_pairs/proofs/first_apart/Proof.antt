@@ -14,6 +14,9 @@ Inv-loop ours passed count theirs others at₀ there₀ pairs number₀ at there
 abbrev μ-loop : tie.MeasureT-loop
 μ-loop ours passed count theirs others at₀ there₀ pairs number₀ at there number = pairs - number
 
+abbrev start : tie.At-loop Inv-loop μ-loop → tie.Start Inv-loop μ-loop
+start c = c .before .before .before .before .before .before
+
 taken-requires : tie.Need-taken-requires Inv-loop μ-loop
 taken-requires c κs =
     takeable (c .before .before .pre)
@@ -34,72 +37,79 @@ ahead-requires : tie.Need-ahead-requires Inv-loop μ-loop
 ahead-requires c κs =
     let k = c .before .loop .inv in
     let s = c .before .before .smaller .ensures in
-    let a = c .before .before .before .before .before .before .before .args in
-    let y = c .before .before .before .before .before .before .before .pre in
+    let a = start (c .before) .args in
+    let y = start (c .before) .pre in
     let l : c .before .loop .number < min (a .count) (a .others) = omega (arith, s, c .loop-test .taken) in
     coming y (k y) (next y (k y) l)
 
 ahead-requires-2 : tie.Need-ahead-requires-2 Inv-loop μ-loop
 ahead-requires-2 c κs =
-    let k = c .before .before .loop .inv in
-    let s = c .before .before .before .smaller .ensures in
-    let a = c .before .before .before .before .before .before .before .before .args in
-    let y = c .before .before .before .before .before .before .before .before .pre in
-    let l : c .before .before .loop .number < min (a .count) (a .others) = omega (arith, s, c .before .loop-test .taken) in
+    let l′ = c .before .before in
+    let k = l′ .loop .inv in
+    let s = l′ .before .smaller .ensures in
+    let a = start l′ .args in
+    let y = start l′ .pre in
+    let l : l′ .loop .number < min (a .count) (a .others) = omega (arith, s, c .before .loop-test .taken) in
     coming′ y (k y) (next y (k y) l)
 
 add-result : tie.Need-add-result Inv-loop μ-loop
 add-result c =
-    let k = c .before .before .before .before .before .before .loop .inv in
-    let s = c .before .before .before .before .before .before .before .smaller .ensures in
-    let a = c .before .before .before .before .before .before .before .before .before .before .before .before .args in
-    let y = c .before .before .before .before .before .before .before .before .before .before .before .before .pre in
-    let l : c .before .before .before .before .before .before .loop .number < min (a .count) (a .others) = omega (arith, s, c .before .before .before .before .before .loop-test .taken) in
+    let l′ = c .before .before .before .before .before .before in
+    let k = l′ .loop .inv in
+    let s = l′ .before .smaller .ensures in
+    let a = start l′ .args in
+    let y = start l′ .pre in
+    let l : l′ .loop .number < min (a .count) (a .others) = omega (arith, s, c .before .before .before .before .before .loop-test .taken) in
     omega arith
 
 returns : tie.Need-returns Inv-loop μ-loop
 returns c =
-    let k = c .before .before .before .before .before .before .loop .inv in
-    let s = c .before .before .before .before .before .before .before .smaller .ensures in
-    let a = c .before .before .before .before .before .before .before .before .before .before .before .before .args in
-    let y = c .before .before .before .before .before .before .before .before .before .before .before .before .pre in
-    let l : c .before .before .before .before .before .before .loop .number < min (a .count) (a .others) = omega (arith, s, c .before .before .before .before .before .loop-test .taken) in
+    let l′ = c .before .before .before .before .before .before in
+    let k = l′ .loop .inv in
+    let s = l′ .before .smaller .ensures in
+    let a = start l′ .args in
+    let y = start l′ .pre in
+    let l : l′ .loop .number < min (a .count) (a .others) = omega (arith, s, c .before .before .before .before .before .loop-test .taken) in
     apart-size k l (c .before .before .before .before .ahead .ensures) (c .before .before .before .ahead2 .ensures) (c .if1 .taken)
 
 same-requires : tie.Need-same-requires Inv-loop μ-loop
 same-requires c κs =
-    let k = c .before .before .before .before .before .before .loop .inv in
-    let s = c .before .before .before .before .before .before .before .smaller .ensures in
-    let a = c .before .before .before .before .before .before .before .before .before .before .before .before .args in
-    let y = c .before .before .before .before .before .before .before .before .before .before .before .before .pre in
-    let l : c .before .before .before .before .before .before .loop .number < min (a .count) (a .others) = omega (arith, s, c .before .before .before .before .before .loop-test .taken) in
+    let l′ = c .before .before .before .before .before .before in
+    let k = l′ .loop .inv in
+    let s = l′ .before .smaller .ensures in
+    let a = start l′ .args in
+    let y = start l′ .pre in
+    let l : l′ .loop .number < min (a .count) (a .others) = omega (arith, s, c .before .before .before .before .before .loop-test .taken) in
     streamed y (k y) (next y (k y) l) (c .before .before .before .before .ahead .ensures) (c .before .before .before .ahead2 .ensures) (c .if1 .left)
 
 add-result-2 : tie.Need-add-result-2 Inv-loop μ-loop
 add-result-2 c =
-    let k = c .before .before .before .before .before .before .before .before .loop .inv in
-    let s = c .before .before .before .before .before .before .before .before .before .smaller .ensures in
-    let a = c .before .before .before .before .before .before .before .before .before .before .before .before .before .before .args in
-    let y = c .before .before .before .before .before .before .before .before .before .before .before .before .before .before .pre in
-    let l : c .before .before .before .before .before .before .before .before .loop .number < min (a .count) (a .others) = omega (arith, s, c .before .before .before .before .before .before .before .loop-test .taken) in
+    let l′ = c .before .before .before .before .before .before .before .before in
+    let k = l′ .loop .inv in
+    let s = l′ .before .smaller .ensures in
+    let a = start l′ .args in
+    let y = start l′ .pre in
+    let l : l′ .loop .number < min (a .count) (a .others) = omega (arith, s, c .before .before .before .before .before .before .before .loop-test .taken) in
     omega arith
 
 returns-2 : tie.Need-returns-2 Inv-loop μ-loop
 returns-2 c =
-    let k = c .before .before .before .before .before .before .before .before .loop .inv in
-    let s = c .before .before .before .before .before .before .before .before .before .smaller .ensures in
-    let a = c .before .before .before .before .before .before .before .before .before .before .before .before .before .before .args in
-    let y = c .before .before .before .before .before .before .before .before .before .before .before .before .before .before .pre in
-    let l : c .before .before .before .before .before .before .before .before .loop .number < min (a .count) (a .others) = omega (arith, s, c .before .before .before .before .before .before .before .loop-test .taken) in
+    let l′ = c .before .before .before .before .before .before .before .before in
+    let k = l′ .loop .inv in
+    let s = l′ .before .smaller .ensures in
+    let a = start l′ .args in
+    let y = start l′ .pre in
+    let l : l′ .loop .number < min (a .count) (a .others) = omega (arith, s, c .before .before .before .before .before .before .before .loop-test .taken) in
     apart-data k l (c .before .before .before .before .before .before .ahead .ensures) (c .before .before .before .before .before .ahead2 .ensures) (c .before .before .if1 .left) _ (c .before .same .ensures) (not-true _ (c .if2 .taken))
 
 add-number : tie.Need-add-number Inv-loop μ-loop
 add-number c =
-    let k = c .before .before .before .before .before .before .before .before .before .before .loop .inv in
-    let s = c .before .before .before .before .before .before .before .before .before .before .before .smaller .ensures in
-    let a = c .before .before .before .before .before .before .before .before .before .before .before .before .before .before .before .before .args in
-    let y = c .before .before .before .before .before .before .before .before .before .before .before .before .before .before .before .before .pre in
-    let l : c .before .before .before .before .before .before .before .before .before .before .loop .number < min (a .count) (a .others) = omega (arith, s, c .before .before .before .before .before .before .before .before .before .loop-test .taken) in
+    let l′ = c .before .before .before .before .before .before .before .before .before .before in
+    let k = l′ .loop .inv in
+    let s = l′ .before .smaller .ensures in
+    let a = start l′ .args in
+    let y = start l′ .pre in
+    let l : l′ .loop .number < min (a .count) (a .others) = omega (arith, s, c .before .before .before .before .before .before .before .before .before .loop-test .taken) in
     omega arith
 
 loop-less : tie.Need-loop-less Inv-loop μ-loop
@@ -108,37 +118,41 @@ loop-less c =
 
 loop-again : tie.Need-loop-again Inv-loop μ-loop
 loop-again c =
-    let k = c .before .before .before .before .before .before .before .before .before .before .loop .inv in
-    let s = c .before .before .before .before .before .before .before .before .before .before .before .smaller .ensures in
-    let a = c .before .before .before .before .before .before .before .before .before .before .before .before .before .before .before .before .args in
-    let y = c .before .before .before .before .before .before .before .before .before .before .before .before .before .before .before .before .pre in
-    let l : c .before .before .before .before .before .before .before .before .before .before .loop .number < min (a .count) (a .others) = omega (arith, s, c .before .before .before .before .before .before .before .before .before .loop-test .taken) in
+    let l′ = c .before .before .before .before .before .before .before .before .before .before in
+    let k = l′ .loop .inv in
+    let s = l′ .before .smaller .ensures in
+    let a = start l′ .args in
+    let y = start l′ .pre in
+    let l : l′ .loop .number < min (a .count) (a .others) = omega (arith, s, c .before .before .before .before .before .before .before .before .before .loop-test .taken) in
     left-more k l (c .before .before .before .before .before .before .before .before .ahead .ensures) (c .before .before .before .before .before .before .before .ahead2 .ensures) (c .before .before .before .before .if1 .left) _ (c .before .before .before .same .ensures) (not-false _ (c .before .before .if2 .left))
 
 returns-3 : tie.Need-returns-3 Inv-loop μ-loop
 returns-3 c =
-    let k = c .before .before .loop .inv in
-    let s = c .before .before .before .smaller .ensures in
-    let a = c .before .before .before .before .before .before .before .before .args in
-    let l : min (a .count) (a .others) ≤ c .before .before .loop .number = omega (arith, s, c .before .loop-test .left) in
+    let l′ = c .before .before in
+    let k = l′ .loop .inv in
+    let s = l′ .before .smaller .ensures in
+    let a = start l′ .args in
+    let l : min (a .count) (a .others) ≤ l′ .loop .number = omega (arith, s, c .before .loop-test .left) in
     apart-none k l (c .if3 .taken)
 
 add-result-3 : tie.Need-add-result-3 Inv-loop μ-loop
 add-result-3 c =
-    let k = c .before .before .loop .inv in
-    let s = c .before .before .before .smaller .ensures in
-    let a = c .before .before .before .before .before .before .before .before .args in
-    let l : min (a .count) (a .others) ≤ c .before .before .loop .number = omega (arith, s, c .before .loop-test .left) in
-    let w = k (c .before .before .before .before .before .before .before .before .pre) in
+    let l′ = c .before .before in
+    let k = l′ .loop .inv in
+    let s = l′ .before .smaller .ensures in
+    let a = start l′ .args in
+    let l : min (a .count) (a .others) ≤ l′ .loop .number = omega (arith, s, c .before .loop-test .left) in
+    let w = k (start l′ .pre) in
     let o = c .if3 .left in
     omega (arith, w .counts, w .counts′)
 
 returns-4 : tie.Need-returns-4 Inv-loop μ-loop
 returns-4 c =
-    let k = c .before .before .loop .inv in
-    let s = c .before .before .before .smaller .ensures in
-    let a = c .before .before .before .before .before .before .before .before .args in
-    let l : min (a .count) (a .others) ≤ c .before .before .loop .number = omega (arith, s, c .before .loop-test .left) in
+    let l′ = c .before .before in
+    let k = l′ .loop .inv in
+    let s = l′ .before .smaller .ensures in
+    let a = start l′ .args in
+    let l : min (a .count) (a .others) ≤ l′ .loop .number = omega (arith, s, c .before .loop-test .left) in
     apart-lacks k l (c .if3 .left)
 
 pub first-apart-spec : {M : Type 1} → statement M

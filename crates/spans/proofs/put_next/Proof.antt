@@ -6,6 +6,15 @@ use borrow.Author.Needs.{needs}
 use Rattle.spans.proofs.put_next.Statement.{statement}
 use Rattle.spans.proofs.put_next.Tie as tie
 
+abbrev past-put-length-word : tie.After-put-coded-word → tie.After-put-length-word
+past-put-length-word c = c .before .before .before .before .before .before .before
+
+abbrev past-put-offset : tie.After-put-coded-word → tie.After-put-offset
+past-put-offset c = c .before .before .before .before .before .before .before .before .before .before .before
+
+abbrev start : tie.After-put-coded-word → tie.Start
+start c = c .before .before .before .before .before .before .before .before .before .before .before .before .before .before .before .before .before
+
 add-end : tie.Need-add-end
 add-end c = search needs
 
@@ -44,19 +53,21 @@ part-copy-end c = search needs
 
 copy-requires : tie.Need-copy-requires
 copy-requires c κs =
-    let s = c .before .before .before .before .before .before .before .before .before .before .before .before .before .before .before .before .before .before .before .before in
-    copyable (s .pre .0) (c .before .before .before .put-coded-word .last .0) _
-    (omega (arith, s .pre .1 .inside, s .pre .1 .segment, s .pre .1 .whole, c .before .before .before .put-coded-word .kept .0, c .before .before .before .before .before .before .before .before .before .before .put-length-word .kept .0, c .before .before .before .before .before .before .before .before .before .before .before .before .before .before .put-offset .kept .1 .1 .1 .0))
+    let p = c .before .before .before in
+    let s = start p in
+    copyable (s .pre .0) (p .put-coded-word .last .0) _
+    (omega (arith, s .pre .1 .inside, s .pre .1 .segment, s .pre .1 .whole, p .put-coded-word .kept .0, past-put-length-word p .put-length-word .kept .0, past-put-offset p .put-offset .kept .1 .1 .1 .0))
 
 same-length : tie.Need-same-length
 same-length c = search needs
 
 returns : tie.Need-returns
 returns c =
-    let s = c .before .before .before .before .before .before .before .before .before .before .before .before .before .before .before .before .before .before .before .before .before .before .before in
+    let p = c .before .before .before .before .before .before in
+    let s = start p in
     next-put (s .args .first) (s .args .last) (s .args .base) (s .args .tally) (s .args .part) (s .args .out .now) (s .pre .1) _ _ _ _ _
-    (c .before .before .before .before .before .before .before .before .before .before .before .before .before .before .before .before .before .put-offset .ensures) (c .before .before .before .before .before .before .before .before .before .before .before .before .before .put-length-word .ensures)
-    (c .before .before .before .before .before .before .before .before .before .before .before .before .before .put-length-word .kept .0 ∙ c .before .before .before .before .before .before .before .before .before .before .before .before .before .before .before .before .before .put-offset .kept .1 .1 .1 .0) (c .before .before .before .before .before .before .before .before .code .ensures) (c .before .before .before .before .before .before .put-coded-word .ensures)
+    (past-put-offset p .put-offset .ensures) (past-put-length-word p .put-length-word .ensures)
+    (past-put-length-word p .put-length-word .kept .0 ∙ past-put-offset p .put-offset .kept .1 .1 .1 .0) (p .before .before .code .ensures) (p .put-coded-word .ensures)
     (c .before .before .copy .ensures)
 
 pub put-next-spec : {M : Type 1} → statement M
