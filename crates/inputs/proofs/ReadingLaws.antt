@@ -14,7 +14,7 @@ use borrow.Author.Tests.{eq-eqb, ne-eqb}
 use Rattle.io.specs.Counts.{Counts}
 use Rattle.io.proofs.Counting.{counts}
 use Rattle.rules.specs.Answer.{Answer, fine, refuse, refusalOf}
-use Rattle.lines.specs.Scanning.{start, scanFrom, scannedOf}
+use Rattle.lines.specs.Scanning.{noBytes, scanFrom, scannedOf}
 use Rattle.lines.specs.declared.Scanner.{Scanner}
 use Rattle.lines.proofs.DeckLaws.{scan-pieces}
 use Rattle.lines.proofs.LongLaws.{long-refused}
@@ -77,14 +77,14 @@ pub further : (first : Scanner) (now next : Fed) → FedSays first now → FedSa
 further first now next a b = (b .0, b .1, went-on first (now .state) (b .0) (fed-went first now a) (b .2), b .3)
 
 -- the first bytes, and then what more was read: the answer is what the scan of it all comes to
-pub all-judged : (bytes : List ℕ) (none begun : Scanner) (fed : Fed) (answer : Answer ℕ) (r : DeckRead) → none ≡ start → begun ≡ scanFrom none bytes
+pub all-judged : (bytes : List ℕ) (none begun : Scanner) (fed : Fed) (answer : Answer ℕ) (r : DeckRead) → none ≡ noBytes → begun ≡ scanFrom none bytes
     → FedSays begun fed → answer ≡ scannedOf (fed .state) → r ≡ longDeck answer (fed .failed) → Judged bytes r
 all-judged bytes none begun fed answer r n b f a e =
     let w = fed-went begun fed f in
-    let all : fed .state ≡ scanFrom start (bytes ++ w .0)
+    let all : fed .state ≡ scanFrom noBytes (bytes ++ w .0)
     = w .1
     ∙ ap (λ (s : Scanner). scanFrom s (w .0)) (b ∙ ap (λ (s : Scanner). scanFrom s bytes) n)
-    ∙ scan-pieces start bytes (w .0) in
+    ∙ scan-pieces noBytes bytes (w .0) in
     (w .0, fed .failed, e ∙ ap (λ (x : Answer ℕ). longDeck x (fed .failed)) (a ∙ ap scannedOf all))
 
 -- a judged deck lies within a room of 65,536 bytes
@@ -98,7 +98,7 @@ same-counts room e h = subst (λ (d : DeckRead). Counts (d .length) room) (sym e
 
 module _ (room : List ℕ) (read : Filled) (rest : List ℕ) (failed : Bool) where
   -- a room that is full
-  pub deck-long : read .length ≡ 65536 → deckOf room read rest failed ≡ longDeck (scannedOf (scanFrom start (room ++ rest))) failed
+  pub deck-long : read .length ≡ 65536 → deckOf room read rest failed ≡ longDeck (scannedOf (scanFrom noBytes (room ++ rest))) failed
   unfolding deckOf
   deck-long e = rw (eq-eqb (read .length) 65536 e)
 

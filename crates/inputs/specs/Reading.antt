@@ -9,7 +9,7 @@ use lib.IntN.{ℤ, pos}
 use lib.Signed.{ltZ}
 use Rattle.io.specs.Counts.{Counts, clamped}
 use Rattle.rules.specs.Answer.{Answer, fine, refuse, refusalOf, placeOf}
-use Rattle.lines.specs.Scanning.{start, scanFrom, scannedOf}
+use Rattle.lines.specs.Scanning.{noBytes, scanFrom, scannedOf}
 use Rattle.lines.specs.declared.Scanner.{Scanner}
 use Rattle.inputs.specs.declared.Filled.{Filled}
 use Rattle.inputs.specs.declared.Fed.{Fed}
@@ -69,13 +69,13 @@ longDeck answer failed = record { length = lengthOf answer; refusal = refusalOf 
 -- of any deck, where `read` is what filling the room came to, `rest` are the bytes behind a full room, and `failed` says whether they could not be read
 unfoldable pub deckOf : List ℕ → Filled → List ℕ → Bool → DeckRead
 deckOf room read rest failed =
-    cond (eqb (read .length) 65536) (longDeck (scannedOf (scanFrom start (room ++ rest))) failed) (wholeDeck read)
+    cond (eqb (read .length) 65536) (longDeck (scannedOf (scanFrom noBytes (room ++ rest))) failed) (wholeDeck read)
 
 -- ---- promises
 
 -- the answer is that of a deck that begins with these bytes and goes on with some others
 abbrev pub Judged : List ℕ → DeckRead → Type 0
-Judged bytes r = (rest : List ℕ) × (failed : Bool) × (r ≡ longDeck (scannedOf (scanFrom start (bytes ++ rest))) failed)
+Judged bytes r = (rest : List ℕ) × (failed : Bool) × (r ≡ longDeck (scannedOf (scanFrom noBytes (bytes ++ rest))) failed)
 
 -- the answer is that of some reads into the room, and of some bytes behind a full room
 abbrev pub DeckSays : List ℕ → DeckRead → Type 0

@@ -13,12 +13,12 @@ use Rattle.rules.specs.Deck.{lines, cardOf}
 use Rattle.rules.specs.Order.{operandsOf}
 use Rattle.rules.proofs.LineLaws.{Passed, passed-none, passed-byte, passed-end, passed-all, passed-last}
 use Rattle.rules.proofs.CardPlaces.{tidy-long, card-untidy}
-use Rattle.lines.specs.Scanning.{most, kindOf, begunKind, withLine, tallyOf, judgedOf, withByte, stepOf, start, scanFrom, verdictOf, scannedOf, cardCount}
+use Rattle.lines.specs.Scanning.{most, kindOf, begunKind, withLine, seenOf, lineEnded, withByte, stepOf, noBytes, scanFrom, orderOf, scannedOf, cardCount}
 use Rattle.lines.specs.declared.CardKind.{CardKind}
 use Rattle.lines.specs.declared.Scanner.{Scanner}
-use Rattle.lines.specs.declared.Tally.{Tally}
+use Rattle.lines.specs.declared.LinesSeen.{LinesSeen}
 use Rattle.lines.proofs.StepLaws.{begun-long, begun-short, byte-kept, byte-past, step-end, step-byte, scanned-between, scanned-inside}
-use Rattle.lines.proofs.TallyLaws.{noLine, tallied, tallied-more, kinds, deck-tallied}
+use Rattle.lines.proofs.SeenLaws.{noLine, withLines, with-lines-more, kinds, deck-seen}
 
 -- ---- pieces
 
@@ -29,24 +29,24 @@ scan-pieces st (b ∷ x) y = scan-pieces (stepOf st b) x y
 
 -- ---- what a state holds
 
-tally-judged : (st : Scanner) → tallyOf (judgedOf st) ≡ withLine (tallyOf st) (begunKind st)
-unfolding judgedOf
-tally-judged st = refl
+seen-ended : (st : Scanner) → seenOf (lineEnded st) ≡ withLine (seenOf st) (begunKind st)
+unfolding lineEnded
+seen-ended st = refl
 
 -- after the bytes x
 pub record Held (x : List ℕ) (st : Scanner) : Type 0 where
   pub done : List (List ℕ)
   pub line : List ℕ
   pub passed : Passed x done line
-  pub tally : tallyOf st ≡ tallied noLine (kinds done)
+  pub seen : seenOf st ≡ withLines noLine (kinds done)
   pub room : length (st .begun) ≡ 80
   pub long : st .size ≡ min (length line) 81
   pub kept : length line ≤ 80 → take (length line) (st .begun) ≡ line
 
-pub held-start : Held [] start
-unfolding start
-held-start =
-    record { done = []; line = []; passed = passed-none; tally = refl; room = refl; long = refl; kept = λ h. refl }
+pub held-none : Held [] noBytes
+unfolding noBytes
+held-none =
+    record { done = []; line = []; passed = passed-none; seen = refl; room = refl; long = refl; kept = λ h. refl }
 
 -- the begun line is judged as the whole line is
 held-kind : {x : List ℕ} {st : Scanner} (h : Held x st) → begunKind st ≡ kindOf (cardOf (h .line))
@@ -61,24 +61,24 @@ held-kind {x} {st} h = go (leb (length (h .line)) 80) refl
         let m : 80 < length (h .line) = leb-false (length (h .line)) 80 t in
         begun-long st (omega (arith, h .long)) ∙ sym (ap kindOf (card-untidy (h .line) (tidy-long (h .line) m)))
 
-held-tally : {x : List ℕ} {st : Scanner} (h : Held x st) → tallyOf (judgedOf st) ≡ tallied noLine (kinds (h .done ++ (h .line ∷ [])))
-held-tally {x} {st} h =
+held-seen : {x : List ℕ} {st : Scanner} (h : Held x st) → seenOf (lineEnded st) ≡ withLines noLine (kinds (h .done ++ (h .line ∷ [])))
+held-seen {x} {st} h =
     let k : CardKind = kindOf (cardOf (h .line)) in
-    tally-judged st
-    ∙ ap (withLine (tallyOf st)) (held-kind h)
-    ∙ ap (λ (t : Tally). withLine t k) (h .tally)
-    ∙ sym (tallied-more noLine (kinds (h .done)) k)
-    ∙ ap (tallied noLine) (sym (map-append (λ l. kindOf (cardOf l)) (h .done) (h .line ∷ [])))
+    seen-ended st
+    ∙ ap (withLine (seenOf st)) (held-kind h)
+    ∙ ap (λ (t : LinesSeen). withLine t k) (h .seen)
+    ∙ sym (with-lines-more noLine (kinds (h .done)) k)
+    ∙ ap (withLines noLine) (sym (map-append (λ l. kindOf (cardOf l)) (h .done) (h .line ∷ [])))
 
 -- a line ends
-held-end : {x : List ℕ} {st : Scanner} → Held x st → Held (x ++ (0x0A ∷ [])) (judgedOf st)
-unfolding judgedOf
+held-end : {x : List ℕ} {st : Scanner} → Held x st → Held (x ++ (0x0A ∷ [])) (lineEnded st)
+unfolding lineEnded
 held-end {x} {st} h =
     record {
       done = h .done ++ (h .line ∷ []);
       line = [];
       passed = passed-end (h .passed);
-      tally = held-tally h;
+      seen = held-seen h;
       room = h .room;
       long = refl;
       kept = λ m. refl;
@@ -100,7 +100,7 @@ held-byte {x} {st} b n h = go (leb 80 (length (h .line))) refl
           done = h .done;
           line = h .line ++ (b ∷ []);
           passed = passed-byte (h .passed) b n;
-          tally = h .tally;
+          seen = h .seen;
           room = length-set (st .begun) (st .size) b ∙ h .room;
           long = omega (arith, longer);
           kept = λ z. rw (longer, e)
@@ -113,7 +113,7 @@ held-byte {x} {st} b n h = go (leb 80 (length (h .line))) refl
           done = h .done;
           line = h .line ++ (b ∷ []);
           passed = passed-byte (h .passed) b n;
-          tally = h .tally;
+          seen = h .seen;
           room = h .room;
           long = omega (arith, longer);
           kept = λ z. absurd (omega (arith, longer));
@@ -125,7 +125,7 @@ held-step {x} {st} b h = go (eqb b 0x0A) refl
     go : (t : Bool) → eqb b 0x0A ≡ t → Held (x ++ (b ∷ [])) (stepOf st b)
     go true t =
         let e : b ≡ 0x0A = eqb-true b 0x0A t in
-        subst (Held (x ++ (b ∷ []))) (sym (step-end st b e)) (subst (λ (z : ℕ). Held (x ++ (z ∷ [])) (judgedOf st)) (sym e) (held-end h))
+        subst (Held (x ++ (b ∷ []))) (sym (step-end st b e)) (subst (λ (z : ℕ). Held (x ++ (z ∷ [])) (lineEnded st)) (sym e) (held-end h))
     go false t =
         let n : b ≡ 0x0A → ⊥ = eqb-false b 0x0A t in
         subst (Held (x ++ (b ∷ []))) (sym (step-byte st b n)) (held-byte b n h)
@@ -139,25 +139,25 @@ held-piece {x} {st} (b ∷ y) h =
 -- ---- what a scan comes to
 
 -- it is what judging the lines of the deck comes to
-pub held-lines : (x : List ℕ) (st : Scanner) → Held x st → scannedOf st ≡ verdictOf (tallied noLine (kinds (lines x)))
+pub held-lines : (x : List ℕ) (st : Scanner) → Held x st → scannedOf st ≡ orderOf (withLines noLine (kinds (lines x)))
 held-lines x st h = go (h .line) refl
   where
-    go : (line : List ℕ) → h .line ≡ line → scannedOf st ≡ verdictOf (tallied noLine (kinds (lines x)))
+    go : (line : List ℕ) → h .line ≡ line → scannedOf st ≡ orderOf (withLines noLine (kinds (lines x)))
     go [] e =
         scanned-between st (omega (arith, h .long, ap length e))
-        ∙ rw (passed-all (subst (Passed x (h .done)) e (h .passed))) (ap verdictOf (h .tally))
+        ∙ rw (passed-all (subst (Passed x (h .done)) e (h .passed))) (ap orderOf (h .seen))
     go (b ∷ l) e =
         scanned-inside st (λ z. omega (arith, h .long, ap length e))
-        ∙ rw (passed-last (h .passed) (omega (arith, ap length e))) (ap verdictOf (held-tally h))
+        ∙ rw (passed-last (h .passed) (omega (arith, ap length e))) (ap orderOf (held-seen h))
 
 -- a state that holds a deck answers for it
 pub held-deck : (x : List ℕ) (st : Scanner) → Held x st → length x < most → scannedOf st ≡ cardCount (operandsOf x)
-held-deck x st h few = held-lines x st h ∙ deck-tallied x few
+held-deck x st h few = held-lines x st h ∙ deck-seen x few
 
 -- the scan of a deck
-pub scanned-deck : (x : List ℕ) → length x < most → scannedOf (scanFrom start x) ≡ cardCount (operandsOf x)
-scanned-deck x few = held-deck x (scanFrom start x) (held-piece x held-start) few
+pub scanned-deck : (x : List ℕ) → length x < most → scannedOf (scanFrom noBytes x) ≡ cardCount (operandsOf x)
+scanned-deck x few = held-deck x (scanFrom noBytes x) (held-piece x held-none) few
 
 -- in two pieces
-pub scanned-pieces : (x y : List ℕ) → length (x ++ y) < most → scannedOf (scanFrom (scanFrom start x) y) ≡ cardCount (operandsOf (x ++ y))
-scanned-pieces x y few = ap scannedOf (scan-pieces start x y) ∙ scanned-deck (x ++ y) few
+pub scanned-pieces : (x y : List ℕ) → length (x ++ y) < most → scannedOf (scanFrom (scanFrom noBytes x) y) ≡ cardCount (operandsOf (x ++ y))
+scanned-pieces x y few = ap scannedOf (scan-pieces noBytes x y) ∙ scanned-deck (x ++ y) few

@@ -1,6 +1,6 @@
 pub mod MeaningLaws
 pub mod PromiseLaws
 pub mod StepLaws
-pub mod TallyLaws
+pub mod SeenLaws
 pub mod DeckLaws
 pub mod LongLaws

@@ -13,19 +13,19 @@ use Rattle.rules.specs.Answer.{refused}
 use Rattle.rules.specs.Deck.{lines, cardOf}
 use Rattle.rules.proofs.LineLaws.{ended, lines-deck}
 use Rattle.rules.proofs.CardPlaces.{tidy-long, card-untidy}
-use Rattle.lines.specs.Scanning.{counted, firstOf, kindOf, isOther, faulty, misplaced, withLine, start, scanFrom, verdictOf, scannedOf}
+use Rattle.lines.specs.Scanning.{oneMore, firstMarked, kindOf, isOther, faulty, misplaced, withLine, noBytes, scanFrom, orderOf, scannedOf}
 use Rattle.lines.specs.declared.CardKind.{CardKind}
 use Rattle.lines.specs.declared.CardKind.the-variants.{Utility, Select, End, Other}
-use Rattle.lines.specs.declared.Tally.{Tally}
+use Rattle.lines.specs.declared.LinesSeen.{LinesSeen}
 use Rattle.lines.proofs.MeaningLaws.{not-both}
-use Rattle.lines.proofs.StepLaws.{verdict-bad, verdict-fault}
-use Rattle.lines.proofs.TallyLaws.{noLine, tallied, kinds, bad-stays, fault-stays, next-place}
-use Rattle.lines.proofs.DeckLaws.{held-start, held-piece, held-lines}
+use Rattle.lines.proofs.StepLaws.{order-bad, order-fault}
+use Rattle.lines.proofs.SeenLaws.{noLine, withLines, kinds, bad-stays, fault-stays, next-place}
+use Rattle.lines.proofs.DeckLaws.{held-none, held-piece, held-lines}
 
 -- ---- a line that is not marked
 
-first-none : (old : ℕ) (marked : Bool) (place : ℕ) → 1 ≤ place → firstOf old marked place ≡ 0 → marked ≡ false
-unfolding firstOf
+first-none : (old : ℕ) (marked : Bool) (place : ℕ) → 1 ≤ place → firstMarked old marked place ≡ 0 → marked ≡ false
+unfolding firstMarked
 first-none old marked place h e = go (eqb old 0) refl marked e
   where
     go : (t : Bool) → eqb old 0 ≡ t → (m : Bool) → cond (t && m) place old ≡ 0 → m ≡ false
@@ -65,22 +65,22 @@ zero-or n = go (eqb n 0) refl
     go false t = inr (eqb-false n 0 t)
 
 -- what is not marked at the end never was
-bad-never : (t : Tally) (ks : List CardKind) → tallied t ks .bad ≡ 0 → t .bad ≡ 0
+bad-never : (t : LinesSeen) (ks : List CardKind) → withLines t ks .bad ≡ 0 → t .bad ≡ 0
 bad-never t ks e = ⊎-elim (λ z. z) (λ n. absurd (n (sym (bad-stays t ks n) ∙ e))) (zero-or (t .bad))
 
-fault-never : (t : Tally) (ks : List CardKind) → tallied t ks .fault ≡ 0 → t .fault ≡ 0
+fault-never : (t : LinesSeen) (ks : List CardKind) → withLines t ks .fault ≡ 0 → t .fault ≡ 0
 fault-never t ks e = ⊎-elim (λ z. z) (λ n. absurd (n (sym (fault-stays t ks n) ∙ e))) (zero-or (t .fault))
 
-unmarked-short : (t : Tally) (n : ℕ) (ls : List (List ℕ)) → t .lines ≡ n → n ≤ 64 → tallied t (kinds ls) .bad ≡ 0 → tallied t (kinds ls) .fault ≡ 0
+unmarked-short : (t : LinesSeen) (n : ℕ) (ls : List (List ℕ)) → t .lines ≡ n → n ≤ 64 → withLines t (kinds ls) .bad ≡ 0 → withLines t (kinds ls) .fault ≡ 0
     → (n + length ls ≤ 64) × (length (ended ls) ≤ 81 * length ls)
 unmarked-short t n [] e h good right = omega arith
 unmarked-short t n (l ∷ ls) e h good right =
     let k : CardKind = kindOf (cardOf l) in
-    let place : counted (t .lines) ≡ suc n = next-place t n e (omega arith) in
-    let o : isOther k ≡ false = first-none (t .bad) (isOther k) (counted (t .lines)) (omega arith) (bad-never (withLine t k) (kinds ls) good) in
-    let m : misplaced k (counted (t .lines)) (t .ended) ≡ false
-    = first-none (t .fault) (misplaced k (counted (t .lines)) (t .ended)) (counted (t .lines)) (omega arith) (fault-never (withLine t k) (kinds ls) right) in
-    let few : counted (t .lines) ≤ 64 = placed-few k (counted (t .lines)) (t .ended) o m in
+    let place : oneMore (t .lines) ≡ suc n = next-place t n e (omega arith) in
+    let o : isOther k ≡ false = first-none (t .bad) (isOther k) (oneMore (t .lines)) (omega arith) (bad-never (withLine t k) (kinds ls) good) in
+    let m : misplaced k (oneMore (t .lines)) (t .ended) ≡ false
+    = first-none (t .fault) (misplaced k (oneMore (t .lines)) (t .ended)) (oneMore (t .lines)) (omega arith) (fault-never (withLine t k) (kinds ls) right) in
+    let few : oneMore (t .lines) ≤ 64 = placed-few k (oneMore (t .lines)) (t .ended) o m in
     let r = unmarked-short (withLine t k) (suc n) ls place (omega arith) good right in
     omega (arith, r .0, r .1, card-short l o, length-append l (0x0A ∷ ended ls))
 
@@ -91,17 +91,17 @@ deck-ended x = ⊎-elim (λ e. omega (arith, ap length e)) (λ e. omega (arith, 
 
 -- a long deck is refused
 pub long-refused : (x : List ℕ) → 5184 < length x
-    → (p : ℕ) × ((scannedOf (scanFrom start x) ≡ refused 1 p) ⊎ (scannedOf (scanFrom start x) ≡ refused 2 p))
+    → (p : ℕ) × ((scannedOf (scanFrom noBytes x) ≡ refused 1 p) ⊎ (scannedOf (scanFrom noBytes x) ≡ refused 2 p))
 long-refused x h = go (zero-or (t .bad)) (zero-or (t .fault))
   where
-    t : Tally
-    t = tallied noLine (kinds (lines x))
+    t : LinesSeen
+    t = withLines noLine (kinds (lines x))
 
-    is : scannedOf (scanFrom start x) ≡ verdictOf t
-    is = held-lines x (scanFrom start x) (held-piece x held-start)
+    is : scannedOf (scanFrom noBytes x) ≡ orderOf t
+    is = held-lines x (scanFrom noBytes x) (held-piece x held-none)
 
     go : (t .bad ≡ 0) ⊎ (t .bad ≡ 0 → ⊥) → (t .fault ≡ 0) ⊎ (t .fault ≡ 0 → ⊥)
-        → (p : ℕ) × ((scannedOf (scanFrom start x) ≡ refused 1 p) ⊎ (scannedOf (scanFrom start x) ≡ refused 2 p))
-    go (inr n) f = (t .bad, inl (is ∙ verdict-bad t n))
-    go (inl e) (inr n) = (t .fault, inr (is ∙ verdict-fault t e n))
+        → (p : ℕ) × ((scannedOf (scanFrom noBytes x) ≡ refused 1 p) ⊎ (scannedOf (scanFrom noBytes x) ≡ refused 2 p))
+    go (inr n) f = (t .bad, inl (is ∙ order-bad t n))
+    go (inl e) (inr n) = (t .fault, inr (is ∙ order-fault t e n))
     go (inl e) (inl f) = let r = unmarked-short noLine 0 (lines x) refl (omega arith) e f in absurd (omega (arith, r .0, r .1, deck-ended x))

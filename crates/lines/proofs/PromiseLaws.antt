@@ -13,7 +13,7 @@ use Rattle.rules.specs.Deck.{uCard, fsCard}
 use Rattle.rules.specs.Order.{operandsOf}
 use Rattle.rules.proofs.AnswerLaws.{not-fine, fine-same}
 use Rattle.lines.specs.Meaning.{CardSays, LineSays}
-use Rattle.lines.specs.Scanning.{start, scanFrom, scannedOf, cardCount, answerOf}
+use Rattle.lines.specs.Scanning.{noBytes, scanFrom, scannedOf, cardCount, answerOf}
 use Rattle.lines.specs.declared.CardRead.{CardRead}
 use Rattle.lines.specs.declared.CardRead.the-variants.{UCard, FsCard, EndCard, NoCard}
 use Rattle.lines.specs.declared.LineRead.{LineRead}
@@ -103,7 +103,7 @@ answer-once (Ordered c) (Ordered d) e = ap (λ (n : ℕ). Ordered n) (fine-same 
 
 -- ---- the scan
 
-pub begin-only-one : {r q : Scanner} → r ≡ start → q ≡ start → r ≡ q
+pub begin-only-one : {r q : Scanner} → r ≡ noBytes → q ≡ noBytes → r ≡ q
 begin-only-one e f = e ∙ sym f
 
 module _ (st : Scanner) where

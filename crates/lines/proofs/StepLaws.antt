@@ -10,33 +10,33 @@ use lib.Seq.{drop-cons}
 use borrow.Author.Tests.{eq-eqb, ne-eqb, lt-ltb, le-ltb, le-leb, lt-leb}
 use Rattle.rules.specs.Answer.{fine, refused}
 use Rattle.rules.specs.Deck.{cardOf}
-use Rattle.lines.specs.Scanning.{most, counted, firstOf, kindOf, isOther, closed, faulty, misplaced, withLine, tallyOf, begunKind, judgedOf, withByte, stepOf, scanFrom, verdictOf, scannedOf}
+use Rattle.lines.specs.Scanning.{most, oneMore, firstMarked, kindOf, isOther, closed, faulty, misplaced, withLine, seenOf, begunKind, lineEnded, withByte, stepOf, scanFrom, orderOf, scannedOf}
 use Rattle.lines.specs.declared.CardKind.{CardKind}
 use Rattle.lines.specs.declared.CardKind.the-variants.{Other}
-use Rattle.lines.specs.declared.Tally.{Tally}
+use Rattle.lines.specs.declared.LinesSeen.{LinesSeen}
 use Rattle.lines.specs.declared.Scanner.{Scanner}
 
 -- ---- places
 
-pub counted-more : (n : ℕ) → n < most → counted n ≡ n + 1
-unfolding counted
-counted-more n h = rw (lt-ltb n most h)
+pub one-more-below : (n : ℕ) → n < most → oneMore n ≡ n + 1
+unfolding oneMore
+one-more-below n h = rw (lt-ltb n most h)
 
-pub counted-most : (n : ℕ) → most ≤ n → counted n ≡ n
-unfolding counted
-counted-most n h = rw (le-ltb n most h)
+pub one-more-most : (n : ℕ) → most ≤ n → oneMore n ≡ n
+unfolding oneMore
+one-more-most n h = rw (le-ltb n most h)
 
 module _ (old : ℕ) (marked : Bool) (place : ℕ) where
-  pub first-stays : (old ≡ 0 → ⊥) → firstOf old marked place ≡ old
-  unfolding firstOf
+  pub first-stays : (old ≡ 0 → ⊥) → firstMarked old marked place ≡ old
+  unfolding firstMarked
   first-stays n = rw (ne-eqb old 0 n)
 
-  pub first-place : old ≡ 0 → marked ≡ true → firstOf old marked place ≡ place
-  unfolding firstOf
+  pub first-place : old ≡ 0 → marked ≡ true → firstMarked old marked place ≡ place
+  unfolding firstMarked
   first-place e m = rw (eq-eqb old 0 e, m)
 
-  pub first-unmarked : marked ≡ false → firstOf old marked place ≡ old
-  unfolding firstOf
+  pub first-unmarked : marked ≡ false → firstMarked old marked place ≡ old
+  unfolding firstMarked
   first-unmarked m = go (eqb old 0)
     where
       go : (t : Bool) → cond (t && marked) place old ≡ old
@@ -59,9 +59,9 @@ module _ (place : ℕ) (ended : Bool) where
 -- ---- lines
 
 -- a line more, judged in five answers
-pub with-line-is : (t : Tally) (k : CardKind) {place bad fault : ℕ} {other apart ended : Bool} → place ≡ counted (t .lines) → other ≡ isOther k
-    → bad ≡ firstOf (t .bad) other place → apart ≡ misplaced k place (t .ended) → fault ≡ firstOf (t .fault) apart place → ended ≡ closed k (t .ended)
-    → _≡_ {A = Tally} (record { lines = place; bad = bad; fault = fault; ended = ended }) (withLine t k)
+pub with-line-is : (t : LinesSeen) (k : CardKind) {place bad fault : ℕ} {other apart ended : Bool} → place ≡ oneMore (t .lines) → other ≡ isOther k
+    → bad ≡ firstMarked (t .bad) other place → apart ≡ misplaced k place (t .ended) → fault ≡ firstMarked (t .fault) apart place → ended ≡ closed k (t .ended)
+    → _≡_ {A = LinesSeen} (record { lines = place; bad = bad; fault = fault; ended = ended }) (withLine t k)
 with-line-is t k a b c d e f = rw (f, e, d, c, b, a)
 
 module _ (st : Scanner) where
@@ -74,10 +74,10 @@ module _ (st : Scanner) where
   begun-short h = rw (le-leb (st .size) 80 h)
 
   -- the begun line, judged in two answers
-  pub judged-is : {kind : CardKind} {t next : Tally} → kind ≡ begunKind st → t ≡ tallyOf st → next ≡ withLine t kind
-      → _≡_ {A = Scanner} (record { lines = next .lines; begun = st .begun; size = 0; bad = next .bad; fault = next .fault; ended = next .ended }) (judgedOf st)
-  unfolding judgedOf
-  judged-is a b c = rw (c, b, a)
+  pub line-ended-is : {kind : CardKind} {t next : LinesSeen} → kind ≡ begunKind st → t ≡ seenOf st → next ≡ withLine t kind
+      → _≡_ {A = Scanner} (record { lines = next .lines; begun = st .begun; size = 0; bad = next .bad; fault = next .fault; ended = next .ended }) (lineEnded st)
+  unfolding lineEnded
+  line-ended-is a b c = rw (c, b, a)
 
   module _ (b : ℕ) where
     pub byte-kept : st .size < 80
@@ -91,7 +91,7 @@ module _ (st : Scanner) where
     unfolding withByte
     byte-past h = rw (le-ltb (st .size) 80 h)
 
-    pub step-end : b ≡ 0x0A → stepOf st b ≡ judgedOf st
+    pub step-end : b ≡ 0x0A → stepOf st b ≡ lineEnded st
     unfolding stepOf
     step-end e = rw (eq-eqb b 0x0A e)
 
@@ -107,28 +107,28 @@ module _ (st : Scanner) where
   pub scan-end : (s : List ℕ) (i : ℕ) → length s ≤ i → scanFrom st (drop i s) ≡ st
   scan-end s i h = rw (drop-of-length-le s {i = i} h)
 
-  pub scanned-between : st .size ≡ 0 → scannedOf st ≡ verdictOf (tallyOf st)
+  pub scanned-between : st .size ≡ 0 → scannedOf st ≡ orderOf (seenOf st)
   unfolding scannedOf
   scanned-between e = rw (eq-eqb (st .size) 0 e)
 
-  pub scanned-inside : (st .size ≡ 0 → ⊥) → scannedOf st ≡ verdictOf (tallyOf (judgedOf st))
+  pub scanned-inside : (st .size ≡ 0 → ⊥) → scannedOf st ≡ orderOf (seenOf (lineEnded st))
   unfolding scannedOf
   scanned-inside n = rw (ne-eqb (st .size) 0 n)
 
-module _ (t : Tally) where
-  pub verdict-bad : (t .bad ≡ 0 → ⊥) → verdictOf t ≡ refused 1 (t .bad)
-  unfolding verdictOf
-  verdict-bad n = rw (ne-eqb (t .bad) 0 n)
+module _ (t : LinesSeen) where
+  pub order-bad : (t .bad ≡ 0 → ⊥) → orderOf t ≡ refused 1 (t .bad)
+  unfolding orderOf
+  order-bad n = rw (ne-eqb (t .bad) 0 n)
 
   module _ (good : t .bad ≡ 0) where
-    pub verdict-fault : (t .fault ≡ 0 → ⊥) → verdictOf t ≡ refused 2 (t .fault)
-    unfolding verdictOf
-    verdict-fault n = rw (eq-eqb (t .bad) 0 good, ne-eqb (t .fault) 0 n)
+    pub order-fault : (t .fault ≡ 0 → ⊥) → orderOf t ≡ refused 2 (t .fault)
+    unfolding orderOf
+    order-fault n = rw (eq-eqb (t .bad) 0 good, ne-eqb (t .fault) 0 n)
 
-    pub verdict-ordered : t .fault ≡ 0 → t .ended ≡ true → verdictOf t ≡ fine (t .lines)
-    unfolding verdictOf
-    verdict-ordered e f = rw (eq-eqb (t .bad) 0 good, eq-eqb (t .fault) 0 e, f)
+    pub order-cards : t .fault ≡ 0 → t .ended ≡ true → orderOf t ≡ fine (t .lines)
+    unfolding orderOf
+    order-cards e f = rw (eq-eqb (t .bad) 0 good, eq-eqb (t .fault) 0 e, f)
 
-    pub verdict-open : t .fault ≡ 0 → t .ended ≡ false → verdictOf t ≡ refused 2 (counted (t .lines))
-    unfolding verdictOf
-    verdict-open e f = rw (eq-eqb (t .bad) 0 good, eq-eqb (t .fault) 0 e, f)
+    pub order-open : t .fault ≡ 0 → t .ended ≡ false → orderOf t ≡ refused 2 (oneMore (t .lines))
+    unfolding orderOf
+    order-open e f = rw (eq-eqb (t .bad) 0 good, eq-eqb (t .fault) 0 e, f)

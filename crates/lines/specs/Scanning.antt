@@ -10,7 +10,7 @@ use Rattle.rules.specs.Answer.{Answer, fine, refused, _>>=_}
 use Rattle.rules.specs.Deck.{Card, uCard, fsCard, endCard, cardOf}
 use Rattle.rules.specs.Order.{Operands}
 use Rattle.lines.specs.declared.Scanner.{Scanner}
-use Rattle.lines.specs.declared.Tally.{Tally}
+use Rattle.lines.specs.declared.LinesSeen.{LinesSeen}
 use Rattle.lines.specs.declared.CardKind.{CardKind}
 use Rattle.lines.specs.declared.CardKind.the-variants.{Utility, Select, End, Other}
 use Rattle.lines.specs.declared.OrderRead.{OrderRead}
@@ -23,12 +23,12 @@ abbrev pub most : ℕ
 most = 18446744073709551615
 
 -- one more; the highest stays
-unfoldable pub counted : ℕ → ℕ
-counted n = cond (ltb n most) (n + 1) n
+unfoldable pub oneMore : ℕ → ℕ
+oneMore n = cond (ltb n most) (n + 1) n
 
 -- the first place that is marked stays; 0 is none
-unfoldable pub firstOf : ℕ → Bool → ℕ → ℕ
-firstOf old marked place = cond (eqb old 0 && marked) place old
+unfoldable pub firstMarked : ℕ → Bool → ℕ → ℕ
+firstMarked old marked place = cond (eqb old 0 && marked) place old
 
 -- ---- cards
 
@@ -69,23 +69,23 @@ unfoldable pub begunKind : Scanner → CardKind
 begunKind st = cond (leb (st .size) 80) (kindOf (cardOf (take (st .size) (st .begun)))) Other
 
 -- a line more is judged
-abbrev pub withLine : Tally → CardKind → Tally
+abbrev pub withLine : LinesSeen → CardKind → LinesSeen
 withLine t k =
     record {
-      lines = counted (t .lines);
-      bad = firstOf (t .bad) (isOther k) (counted (t .lines));
-      fault = firstOf (t .fault) (misplaced k (counted (t .lines)) (t .ended)) (counted (t .lines));
+      lines = oneMore (t .lines);
+      bad = firstMarked (t .bad) (isOther k) (oneMore (t .lines));
+      fault = firstMarked (t .fault) (misplaced k (oneMore (t .lines)) (t .ended)) (oneMore (t .lines));
       ended = closed k (t .ended);
     }
 
 -- what the lines that have ended come to
-abbrev pub tallyOf : Scanner → Tally
-tallyOf st = record { lines = st .lines; bad = st .bad; fault = st .fault; ended = st .ended }
+abbrev pub seenOf : Scanner → LinesSeen
+seenOf st = record { lines = st .lines; bad = st .bad; fault = st .fault; ended = st .ended }
 
 -- the begun line has ended
-unfoldable pub judgedOf : Scanner → Scanner
-judgedOf st =
-    let t = withLine (tallyOf st) (begunKind st) in
+unfoldable pub lineEnded : Scanner → Scanner
+lineEnded st =
+    let t = withLine (seenOf st) (begunKind st) in
     record { lines = t .lines; begun = st .begun; size = 0; bad = t .bad; fault = t .fault; ended = t .ended }
 
 -- it has a byte more
@@ -103,12 +103,12 @@ withByte st b =
     (record { lines = st .lines; begun = st .begun; size = 81; bad = st .bad; fault = st .fault; ended = st .ended })
 
 unfoldable pub stepOf : Scanner → ℕ → Scanner
-stepOf st b = cond (eqb b 0x0A) (judgedOf st) (withByte st b)
+stepOf st b = cond (eqb b 0x0A) (lineEnded st) (withByte st b)
 
 -- ---- decks
 
-unfoldable pub start : Scanner
-start = record { lines = 0; begun = replicate 80 0; size = 0; bad = 0; fault = 0; ended = false }
+unfoldable pub noBytes : Scanner
+noBytes = record { lines = 0; begun = replicate 80 0; size = 0; bad = 0; fault = 0; ended = false }
 
 -- byte by byte
 abbrev pub scanFrom : Scanner → List ℕ → Scanner
@@ -116,17 +116,17 @@ scanFrom st [] = st
 scanFrom st (b ∷ bs) = scanFrom (stepOf st b) bs
 
 -- the lowest refusal, or how many cards there are
-unfoldable pub verdictOf : Tally → Answer ℕ
-verdictOf t =
+unfoldable pub orderOf : LinesSeen → Answer ℕ
+orderOf t =
     cond (eqb (t .bad) 0)
     (cond (eqb (t .fault) 0)
-    (cond (t .ended) (fine (t .lines)) (refused 2 (counted (t .lines))))
+    (cond (t .ended) (fine (t .lines)) (refused 2 (oneMore (t .lines))))
     (refused 2 (t .fault)))
     (refused 1 (t .bad))
 
 -- a line that is begun where the deck ends is the last
 unfoldable pub scannedOf : Scanner → Answer ℕ
-scannedOf st = verdictOf (tallyOf (cond (eqb (st .size) 0) st (judgedOf st)))
+scannedOf st = orderOf (seenOf (cond (eqb (st .size) 0) st (lineEnded st)))
 
 -- how many cards a deck in order has: one U card, the FS cards and one END card
 abbrev pub cardCount : Answer Operands → Answer ℕ

@@ -7,7 +7,7 @@ ghost use Rattle.rules.specs.Base.{ascii, within, every};
 ghost use Rattle.rules.specs.Deck.{tidy, cardOf};
 ghost use Rattle.rules.specs.Order.{operandsOf};
 ghost use Rattle.lines.specs.Meaning.{BeginsSays, OperandEnds, CardSays, IsCard, inner, PassedSays, LineSays};
-ghost use Rattle.lines.specs.Scanning.{counted, kindOf, begunKind, firstOf, isOther, faulty, misplaced, closed, withLine, tallyOf, judgedOf, withByte, stepOf, start, scanFrom, verdictOf, scannedOf, cardCount, answerOf};
+ghost use Rattle.lines.specs.Scanning.{oneMore, kindOf, begunKind, firstMarked, isOther, faulty, misplaced, closed, withLine, seenOf, lineEnded, withByte, stepOf, noBytes, scanFrom, orderOf, scannedOf, cardCount, answerOf};
 
 // The most bytes of a card.
 const LONGEST: usize = 80;
@@ -244,7 +244,8 @@ pub fn line(deck: &[u8], at: usize) -> LineRead
     let mut end = passed(deck, at);
     while end < deck.len() {
         if deck[end] == LINE_END {
-            return LineRead::Line { end, next: end + 1 };
+            let next = end + 1;
+            return LineRead::Line { end, next };
         }
         end += 1;
     }
@@ -268,7 +269,7 @@ pub struct Scanner {
 }
 
 // What the lines that have ended come to.
-struct Tally {
+struct LinesSeen {
     // How many there are.
     lines: usize,
     // The first that is no card, or 0.
@@ -286,8 +287,8 @@ pub enum OrderRead {
 }
 
 // One more. The highest number stays, so that no deck is too long to be scanned.
-fn count(n: usize) -> usize
-    ensures { λ r. ⌜ r ≡ counted n ⌝ }
+fn one_more(n: usize) -> usize
+    ensures { λ r. ⌜ r ≡ oneMore n ⌝ }
 {
     if n < MOST {
         return n + 1;
@@ -296,8 +297,8 @@ fn count(n: usize) -> usize
 }
 
 // The first place that is marked stays.
-fn first(old: usize, marked: bool, place: usize) -> usize
-    ensures { λ r. ⌜ r ≡ firstOf old marked place ⌝ }
+fn first_marked(old: usize, marked: bool, place: usize) -> usize
+    ensures { λ r. ⌜ r ≡ firstMarked old marked place ⌝ }
 {
     if old != 0 {
         return old;
@@ -358,14 +359,14 @@ fn begun_kind(state: Scanner) -> CardKind
 }
 
 // A line more is judged.
-fn with_line(tally: Tally, kind: CardKind) -> Tally
-    ensures { λ r. ⌜ r ≡ withLine tally kind ⌝ }
+fn with_line(seen: LinesSeen, kind: CardKind) -> LinesSeen
+    ensures { λ r. ⌜ r ≡ withLine seen kind ⌝ }
 {
-    let place = count(tally.lines);
-    let bad = first(tally.bad, is_other(kind), place);
-    let fault = first(tally.fault, is_misplaced(kind, place, tally.ended), place);
-    let ended = closes(kind, tally.ended);
-    Tally {
+    let place = one_more(seen.lines);
+    let bad = first_marked(seen.bad, is_other(kind), place);
+    let fault = first_marked(seen.fault, is_misplaced(kind, place, seen.ended), place);
+    let ended = closes(kind, seen.ended);
+    LinesSeen {
         lines: place,
         bad,
         fault,
@@ -373,10 +374,10 @@ fn with_line(tally: Tally, kind: CardKind) -> Tally
     }
 }
 
-fn tally_of(state: Scanner) -> Tally
-    ensures { λ r. ⌜ r ≡ tallyOf state ⌝ }
+fn seen_of(state: Scanner) -> LinesSeen
+    ensures { λ r. ⌜ r ≡ seenOf state ⌝ }
 {
-    Tally {
+    LinesSeen {
         lines: state.lines,
         bad: state.bad,
         fault: state.fault,
@@ -385,11 +386,11 @@ fn tally_of(state: Scanner) -> Tally
 }
 
 // The begun line has ended and is judged; the next has no bytes yet.
-fn judged(state: Scanner) -> Scanner
-    ensures { λ r. ⌜ r ≡ judgedOf state ⌝ }
+fn line_ended(state: Scanner) -> Scanner
+    ensures { λ r. ⌜ r ≡ lineEnded state ⌝ }
 {
     let kind = begun_kind(state);
-    let next = with_line(tally_of(state), kind);
+    let next = with_line(seen_of(state), kind);
     let begun = state.begun;
     Scanner {
         lines: next.lines,
@@ -420,14 +421,14 @@ fn step(state: Scanner, byte: u8) -> Scanner
     ensures { λ r. ⌜ r ≡ stepOf state byte ⌝ }
 {
     if byte == LINE_END {
-        return judged(state);
+        return line_ended(state);
     }
     with_byte(state, byte)
 }
 
 // A scan of no bytes.
 pub fn begin() -> Scanner
-    ensures { λ r. ⌜ r ≡ start ⌝ }
+    ensures { λ r. ⌜ r ≡ noBytes ⌝ }
 {
     Scanner {
         lines: 0,
@@ -453,29 +454,29 @@ pub fn scan(state: Scanner, piece: &[u8]) -> Scanner
 }
 
 // The lowest refusal: a line that is no card, before a card at fault, before an END card that is missing.
-fn verdict(tally: Tally) -> OrderRead
-    ensures { λ r. ⌜ answerOf r ≡ verdictOf tally ⌝ }
+fn order_of(seen: LinesSeen) -> OrderRead
+    ensures { λ r. ⌜ answerOf r ≡ orderOf seen ⌝ }
 {
-    let bad = tally.bad;
+    let bad = seen.bad;
     if bad != 0 {
         return OrderRead::Refused {
             number: 1,
             place: bad,
         };
     }
-    let fault = tally.fault;
+    let fault = seen.fault;
     if fault != 0 {
         return OrderRead::Refused {
             number: 2,
             place: fault,
         };
     }
-    if tally.ended {
-        return OrderRead::Ordered { cards: tally.lines };
+    if seen.ended {
+        return OrderRead::Ordered { cards: seen.lines };
     }
     OrderRead::Refused {
         number: 2,
-        place: count(tally.lines),
+        place: one_more(seen.lines),
     }
 }
 
@@ -484,16 +485,16 @@ pub fn scanned(state: Scanner) -> OrderRead
     ensures { λ r. ⌜ answerOf r ≡ scannedOf state ⌝ }
 {
     if state.size == 0 {
-        return verdict(tally_of(state));
+        return order_of(seen_of(state));
     }
-    verdict(tally_of(judged(state)))
+    order_of(seen_of(line_ended(state)))
 }
 
 // The order of a whole deck's cards. All of a line is here, so no byte is copied.
 pub fn order(deck: &[u8]) -> OrderRead
     ensures { λ r. ⌜ answerOf r ≡ cardCount (operandsOf (now (deck .entry))) ⌝ }
 {
-    let mut tally = Tally {
+    let mut seen = LinesSeen {
         lines: 0,
         bad: 0,
         fault: 0,
@@ -503,9 +504,9 @@ pub fn order(deck: &[u8]) -> OrderRead
     loop {
         let read = line(deck, at);
         let LineRead::Line { end, next } = read else {
-            return verdict(tally);
+            return order_of(seen);
         };
-        tally = with_line(tally, kind(&deck[at..end]));
+        seen = with_line(seen, kind(&deck[at..end]));
         at = next;
     }
 }

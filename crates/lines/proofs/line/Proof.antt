@@ -27,8 +27,8 @@ loop-holds c = c .passed .ensures
 shared-slice-read-if2 : tie.Need-shared-slice-read-if2 Inv-loop μ-loop
 shared-slice-read-if2 c = search needs
 
-add-t10 : tie.Need-add-t10 Inv-loop μ-loop
-add-t10 c = search needs
+add-next : tie.Need-add-next Inv-loop μ-loop
+add-next c = search needs
 
 returns-2 : tie.Need-returns-2 Inv-loop μ-loop
 returns-2 c =
@@ -64,7 +64,7 @@ line-spec =
     passed-requires
     loop-holds
     shared-slice-read-if2
-    add-t10
+    add-next
     returns-2
     add-end
     loop-less

@@ -10,17 +10,17 @@ use borrow.Author.Needs.{needs}
 use Rattle.rules.specs.Deck.{cardOf}
 use Rattle.rules.proofs.LineLaws.{slice-part}
 use Rattle.lines.specs.Meaning.{LineSays}
-use Rattle.lines.specs.Scanning.{kindOf, withLine, verdictOf}
+use Rattle.lines.specs.Scanning.{kindOf, withLine, orderOf}
 use Rattle.lines.specs.declared.LineRead.the-variants.{Line}
-use Rattle.lines.proofs.TallyLaws.{Left, left-line, left-none, deck-tallied}
+use Rattle.lines.proofs.SeenLaws.{Left, left-line, left-none, deck-seen}
 use Rattle.lines.proofs.order.Statement.{statement}
 use Rattle.lines.proofs.order.Tie as tie
 
 abbrev Inv-loop : tie.InvT-loop
-Inv-loop deck tally₀ at₀ tally at = Left deck at tally
+Inv-loop deck seen₀ at₀ seen at = Left deck at seen
 
 abbrev μ-loop : tie.MeasureT-loop
-μ-loop deck tally₀ at₀ tally at = length deck - at
+μ-loop deck seen₀ at₀ seen at = length deck - at
 
 loop-holds : tie.Need-loop-holds Inv-loop μ-loop
 loop-holds c = refl
@@ -40,15 +40,15 @@ is-line c =
 enum-told : tie.Need-enum-told Inv-loop μ-loop
 enum-told c = search needs
 
-verdict-requires : tie.Need-verdict-requires Inv-loop μ-loop
-verdict-requires c κs = search needs
+order-of-requires : tie.Need-order-of-requires Inv-loop μ-loop
+order-of-requires c κs = search needs
 
 returns : tie.Need-returns Inv-loop μ-loop
 returns c =
     let d = c .before .before .before .before .before .before .args .deck in
     let l = c .before .before .before .before .loop in
     let n = subst (LineSays (now d) (l .at)) (c .before .enum-told .given .1) (c .before .before .before .line .ensures) in
-    c .verdict .ensures ∙ ap verdictOf (sym (left-none (now d) (l .at) (l .tally) n (l .inv))) ∙ deck-tallied (now d) (omega arith)
+    c .order-of .ensures ∙ ap orderOf (sym (left-none (now d) (l .at) (l .seen) n (l .inv))) ∙ deck-seen (now d) (omega arith)
 
 sub-kind : tie.Need-sub-kind Inv-loop μ-loop
 sub-kind c = is-line (c .before) .1
@@ -77,9 +77,9 @@ loop-again c =
     subst (Left (now d) (r .read .given .0 .1 .0))
     (sym
     (c .with-line .ensures
-    ∙ ap (withLine (l .tally))
+    ∙ ap (withLine (l .seen))
     (c .before .kind .ensures ∙ ap (λ (x : List ℕ). kindOf (cardOf x)) (sym (slice-part (l .at) (r .read .given .0 .0) (now d) (k .1))))))
-    (left-line (now d) (l .at) (r .read .given .0 .0) (r .read .given .0 .1 .0) (l .tally) k (l .inv))
+    (left-line (now d) (l .at) (r .read .given .0 .0) (r .read .given .0 .1 .0) (l .seen) k (l .inv))
 
 pub order-spec : {M : Type 1} → statement M
 order-spec =
@@ -91,7 +91,7 @@ order-spec =
     line-requires
     enum-known-read
     enum-told
-    verdict-requires
+    order-of-requires
     returns
     sub-kind
     part-kind-start

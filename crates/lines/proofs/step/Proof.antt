@@ -5,11 +5,11 @@ use Rattle.lines.proofs.StepLaws.{step-end, step-byte}
 use Rattle.lines.proofs.step.Statement.{statement}
 use Rattle.lines.proofs.step.Tie as tie
 
-judged-requires : tie.Need-judged-requires
-judged-requires c κs = search needs
+line-ended-requires : tie.Need-line-ended-requires
+line-ended-requires c κs = search needs
 
 returns : tie.Need-returns
-returns c = let a = c .before .before .args in c .judged .ensures ∙ sym (step-end (a .state) (a .byte) (c .before .if1 .taken))
+returns c = let a = c .before .before .args in c .line-ended .ensures ∙ sym (step-end (a .state) (a .byte) (c .before .if1 .taken))
 
 with-byte-requires : tie.Need-with-byte-requires
 with-byte-requires c κs = search needs
@@ -18,4 +18,4 @@ returns-2 : tie.Need-returns-2
 returns-2 c = let a = c .before .before .args in c .with-byte .ensures ∙ sym (step-byte (a .state) (a .byte) (c .before .if1 .left))
 
 pub step-spec : {M : Type 1} → statement M
-step-spec = tie.close (tie.spec judged-requires returns with-byte-requires returns-2)
+step-spec = tie.close (tie.spec line-ended-requires returns with-byte-requires returns-2)

@@ -4,20 +4,20 @@ use Rattle.lines.proofs.StepLaws.{with-line-is}
 use Rattle.lines.proofs.with_line.Statement.{statement}
 use Rattle.lines.proofs.with_line.Tie as tie
 
-count-requires : tie.Need-count-requires
-count-requires c κs = search needs
+one-more-requires : tie.Need-one-more-requires
+one-more-requires c κs = search needs
 
 is-other-requires : tie.Need-is-other-requires
 is-other-requires c κs = search needs
 
-first-requires : tie.Need-first-requires
-first-requires c κs = search needs
+first-marked-requires : tie.Need-first-marked-requires
+first-marked-requires c κs = search needs
 
 is-misplaced-requires : tie.Need-is-misplaced-requires
 is-misplaced-requires c κs = search needs
 
-first-requires-2 : tie.Need-first-requires-2
-first-requires-2 c κs = search needs
+first-marked-requires-2 : tie.Need-first-marked-requires-2
+first-marked-requires-2 c κs = search needs
 
 closes-requires : tie.Need-closes-requires
 closes-requires c κs = search needs
@@ -25,22 +25,22 @@ closes-requires c κs = search needs
 returns : tie.Need-returns
 returns c =
     let a = c .before .before .before .before .before .before .args in
-    with-line-is (a .tally) (a .kind)
-    (c .before .before .before .before .before .count .ensures)
+    with-line-is (a .seen) (a .kind)
+    (c .before .before .before .before .before .one-more .ensures)
     (c .before .before .before .before .is-other .ensures)
-    (c .before .before .before .first .ensures)
+    (c .before .before .before .first-marked .ensures)
     (c .before .before .is-misplaced .ensures)
-    (c .before .first2 .ensures)
+    (c .before .first-marked2 .ensures)
     (c .closes .ensures)
 
 pub with-line-spec : {M : Type 1} → statement M
 with-line-spec =
     tie.close
     (tie.spec
-    count-requires
+    one-more-requires
     is-other-requires
-    first-requires
+    first-marked-requires
     is-misplaced-requires
-    first-requires-2
+    first-marked-requires-2
     closes-requires
     returns)
