@@ -26,7 +26,7 @@ use Rattle.rules.proofs.ColumnSteps.{grammatical-at}
 use Rattle.rules.proofs.WordedLaws.{fs-worded}
 use Rattle.rules.proofs.WordColumns.{plainRead, list-plain}
 use Rattle.lines.specs.Meaning.{IsCard}
-use Rattle.lines.specs.Scanning.{cardCount}
+use Rattle.lines.specs.Ordering.{cardCount}
 use Rattle.keys.specs.Keys.{keyOf}
 use Rattle.cards.specs.declared.CardAt.{CardAt}
 use Rattle.cards.specs.declared.CardAt.the-variants.{UAt, FsAt, NoOperand}

@@ -12,7 +12,7 @@ use Rattle.terms.specs.declared.Size.the-variants.{One}
 use Rattle.terms.specs.declared.Asked.{Asked}
 use Rattle.terms.specs.Meaning.{laidFields, fieldCards, Means}
 use Rattle.rows.specs.Kept.{rowOf}
-use Rattle.lines.specs.Scanning.{cardCount}
+use Rattle.lines.specs.Ordering.{cardCount}
 use Rattle.cards.specs.declared.DeckRead.{DeckRead}
 
 unfoldable pub nothingAsked : Asked

@@ -14,10 +14,10 @@ use borrow.Author.Tests.{eq-eqb, ne-eqb}
 use Rattle.io.specs.Counts.{Counts}
 use Rattle.io.proofs.Counting.{counts}
 use Rattle.rules.specs.Answer.{Answer, fine, refuse, refusalOf}
-use Rattle.lines.specs.Scanning.{noBytes, scanFrom, scannedOf}
-use Rattle.lines.specs.declared.Scanner.{Scanner}
-use Rattle.lines.proofs.DeckLaws.{scan-pieces}
-use Rattle.lines.proofs.LongLaws.{long-refused}
+use Rattle.scans.specs.Scanning.{noBytes, scanFrom, scannedOf}
+use Rattle.scans.specs.declared.Scanner.{Scanner}
+use Rattle.scans.proofs.DeckLaws.{scan-pieces}
+use Rattle.scans.proofs.LongLaws.{long-refused}
 use Rattle.inputs.specs.Reading.{countedAs, ReadSays, filledFrom, FillSays, Went, FedSays, wholeDeck, lengthOf, longDeck, deckOf, Judged}
 use Rattle.inputs.specs.declared.Filled.{Filled}
 use Rattle.inputs.specs.declared.Fed.{Fed}

@@ -9,8 +9,8 @@ use lib.IntN.{ℤ, pos}
 use lib.Signed.{ltZ}
 use Rattle.io.specs.Counts.{Counts, clamped}
 use Rattle.rules.specs.Answer.{Answer, fine, refuse, refusalOf, placeOf}
-use Rattle.lines.specs.Scanning.{noBytes, scanFrom, scannedOf}
-use Rattle.lines.specs.declared.Scanner.{Scanner}
+use Rattle.scans.specs.Scanning.{noBytes, scanFrom, scannedOf}
+use Rattle.scans.specs.declared.Scanner.{Scanner}
 use Rattle.inputs.specs.declared.Filled.{Filled}
 use Rattle.inputs.specs.declared.Fed.{Fed}
 use Rattle.inputs.specs.declared.DeckRead.{DeckRead}

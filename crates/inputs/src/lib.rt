@@ -2,10 +2,10 @@
 ghost use Rattle.io.specs.Counts.{Counts};
 ghost use mathlib.Core.Path.{_≡_};
 ghost use lib.ListN.{length};
-ghost use Rattle.lines.specs.Scanning.{answerOf};
+ghost use Rattle.lines.specs.Ordering.{answerOf};
 ghost use Rattle.inputs.specs.Reading.{countedAs, ReadSays, FillSays, fedOf, FedSays, wholeDeck, longDeck, Judged, DeckSays};
 use lines::OrderRead;
-use lines::Scanner;
+use scans::Scanner;
 
 // How many bytes were read. Where a read failed, errno says why.
 pub struct Filled {
@@ -79,7 +79,7 @@ fn feed(fd: i32, state: Scanner) -> Fed
     let mut room = io::large_buffer();
     let read = fill(fd, &mut room);
     let n = read.length;
-    fed_with(lines::scan(state, &room[..n]), read)
+    fed_with(scans::scan(state, &room[..n]), read)
 }
 
 // A proved loop has to end, and nothing says that the input does: it counts its turns down, from a number that no run uses up.
@@ -149,9 +149,9 @@ fn longer(fd: i32, room: &[u8; 65536]) -> DeckRead
     ensures { λ r. ⌜ Counts (r .length) (now (room .entry)) ⌝ }
     ensures { λ r. ⌜ Judged (now (room .entry)) r ⌝ }
 {
-    let fed = feed_all(fd, lines::scan(lines::begin(), room));
+    let fed = feed_all(fd, scans::scan(scans::begin(), room));
     let state = fed.state;
-    judged(lines::scanned(state), fed.failed)
+    judged(scans::scanned(state), fed.failed)
 }
 
 // A deck of any length.

@@ -1,6 +1,4 @@
 pub mod MeaningLaws
 pub mod PromiseLaws
-pub mod StepLaws
+pub mod SeenSteps
 pub mod SeenLaws
-pub mod DeckLaws
-pub mod LongLaws

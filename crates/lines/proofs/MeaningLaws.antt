@@ -24,7 +24,7 @@ use Rattle.rules.proofs.CardLaws.{operand-of, card-exactly}
 use Rattle.rules.proofs.LineLaws.{next-line, last-line, no-line}
 use Rattle.rules.proofs.CardPlaces.{after-other, after-short, after-end, operand-slice, operand-blank, operand-end, card-untidy, card-U, card-UTT, card-FS, card-END, card-END-blank, card-END-other, card-none}
 use Rattle.lines.specs.Meaning.{BeginsSays, OperandEnds, CardSays, IsCard, inner, PassedSays, LineSays}
-use Rattle.lines.specs.Scanning.{kindOf, isOther}
+use Rattle.lines.specs.Ordering.{kindOf, isOther}
 use Rattle.lines.specs.declared.CardRead.the-variants.{UCard, FsCard, EndCard}
 use Rattle.lines.specs.declared.CardKind.the-variants.{Utility, Select, End, Other}
 use Rattle.lines.specs.declared.LineRead.the-variants.{Line, NoLine}

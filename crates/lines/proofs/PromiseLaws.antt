@@ -9,16 +9,17 @@ use lib.ListN.{length, getD, take}
 use lib.Seq.{slice, getD-take, length-take-le, length-slice}
 use Rattle.rules.specs.Base.{ascii}
 use Rattle.rules.specs.Answer.{refusalOf, placeOf}
-use Rattle.rules.specs.Deck.{uCard, fsCard}
+use Rattle.rules.specs.Deck.{uCard, fsCard, cardOf}
 use Rattle.rules.specs.Order.{operandsOf}
 use Rattle.rules.proofs.AnswerLaws.{not-fine, fine-same}
 use Rattle.lines.specs.Meaning.{CardSays, LineSays}
-use Rattle.lines.specs.Scanning.{noBytes, scanFrom, scannedOf, cardCount, answerOf}
+use Rattle.lines.specs.Ordering.{kindOf, withLine, orderOf, cardCount, answerOf}
 use Rattle.lines.specs.declared.CardRead.{CardRead}
 use Rattle.lines.specs.declared.CardRead.the-variants.{UCard, FsCard, EndCard, NoCard}
 use Rattle.lines.specs.declared.LineRead.{LineRead}
 use Rattle.lines.specs.declared.LineRead.the-variants.{Line, NoLine}
-use Rattle.lines.specs.declared.Scanner.{Scanner}
+use Rattle.lines.specs.declared.CardKind.{CardKind}
+use Rattle.lines.specs.declared.LinesSeen.{LinesSeen}
 use Rattle.lines.specs.declared.OrderRead.{OrderRead}
 use Rattle.lines.specs.declared.OrderRead.the-variants.{Refused, Ordered}
 
@@ -76,6 +77,11 @@ module _ (l : List ℕ) where
   card-only-one NoCard EndCard x y = absurd (never (cc))
   card-only-one NoCard NoCard x y = refl
 
+-- ---- kind
+
+pub kind-only-one : (l : List ℕ) {r q : CardKind} → r ≡ kindOf (cardOf l) → q ≡ kindOf (cardOf l) → r ≡ q
+kind-only-one l e f = e ∙ sym f
+
 -- ---- line
 
 module _ (deck : List ℕ) (at : ℕ) where
@@ -101,17 +107,12 @@ answer-once (Refused n p) (Ordered c) e = absurd (not-fine _ c e)
 answer-once (Ordered c) (Refused m q) e = absurd (not-fine _ c (sym e))
 answer-once (Ordered c) (Ordered d) e = ap (λ (n : ℕ). Ordered n) (fine-same c d e)
 
--- ---- the scan
+module _ (seen : LinesSeen) where
+  pub with-line-only-one : (kind : CardKind) {r q : LinesSeen} → r ≡ withLine seen kind → q ≡ withLine seen kind → r ≡ q
+  with-line-only-one kind e f = e ∙ sym f
 
-pub begin-only-one : {r q : Scanner} → r ≡ noBytes → q ≡ noBytes → r ≡ q
-begin-only-one e f = e ∙ sym f
-
-module _ (st : Scanner) where
-  pub scan-only-one : (piece : List ℕ) {r q : Scanner} → r ≡ scanFrom st piece → q ≡ scanFrom st piece → r ≡ q
-  scan-only-one piece e f = e ∙ sym f
-
-  pub scanned-only-one : (r q : OrderRead) → answerOf r ≡ scannedOf st → answerOf q ≡ scannedOf st → r ≡ q
-  scanned-only-one r q e f = answer-once r q (e ∙ sym f)
+  pub order-of-only-one : (r q : OrderRead) → answerOf r ≡ orderOf seen → answerOf q ≡ orderOf seen → r ≡ q
+  order-of-only-one r q e f = answer-once r q (e ∙ sym f)
 
 pub order-only-one : (deck : List ℕ) (r q : OrderRead) → answerOf r ≡ cardCount (operandsOf deck) → answerOf q ≡ cardCount (operandsOf deck) → r ≡ q
 order-only-one deck r q e f = answer-once r q (e ∙ sym f)

@@ -17,12 +17,12 @@ use Rattle.rules.proofs.AnswerLaws.{not-fine}
 use Rattle.rules.proofs.LineLaws.{lines-most}
 use Rattle.rules.proofs.ScanLaws.{cards-each, made-refused}
 use Rattle.lines.specs.Meaning.{LineSays}
-use Rattle.lines.specs.Scanning.{most, oneMore, kindOf, isOther, closed, misplaced, withLine, orderOf, cardCount}
+use Rattle.lines.specs.Ordering.{most, oneMore, kindOf, isOther, closed, misplaced, withLine, orderOf, cardCount}
 use Rattle.lines.specs.declared.CardKind.{CardKind}
 use Rattle.lines.specs.declared.CardKind.the-variants.{Utility, Select, End, Other}
 use Rattle.lines.specs.declared.LinesSeen.{LinesSeen}
 use Rattle.lines.specs.declared.LineRead.the-variants.{Line, NoLine}
-use Rattle.lines.proofs.StepLaws.{one-more-below, first-stays, first-place, first-unmarked, faulty-first, faulty-ended, faulty-past, order-bad, order-fault, order-cards, order-open}
+use Rattle.lines.proofs.SeenSteps.{one-more-below, first-stays, first-place, first-unmarked, faulty-first, faulty-ended, faulty-past, order-bad, order-fault, order-cards, order-open}
 
 -- no line has been judged
 abbrev pub noLine : LinesSeen

@@ -1,2 +1,2 @@
 pub mod Meaning
-pub mod Scanning
+pub mod Ordering

@@ -7,7 +7,7 @@ ghost use Rattle.rules.specs.Base.{ascii, within, every};
 ghost use Rattle.rules.specs.Deck.{tidy, cardOf};
 ghost use Rattle.rules.specs.Order.{operandsOf};
 ghost use Rattle.lines.specs.Meaning.{BeginsSays, OperandEnds, CardSays, IsCard, inner, PassedSays, LineSays};
-ghost use Rattle.lines.specs.Scanning.{oneMore, kindOf, begunKind, firstMarked, isOther, faulty, misplaced, closed, withLine, seenOf, lineEnded, withByte, stepOf, noBytes, scanFrom, orderOf, scannedOf, cardCount, answerOf};
+ghost use Rattle.lines.specs.Ordering.{oneMore, kindOf, firstMarked, isOther, faulty, misplaced, closed, withLine, orderOf, cardCount, answerOf};
 
 // The most bytes of a card.
 const LONGEST: usize = 80;
@@ -102,7 +102,7 @@ pub enum CardRead {
 }
 
 // Which card a line is.
-enum CardKind {
+pub enum CardKind {
     Utility,
     Select,
     End,
@@ -156,7 +156,7 @@ fn tidy_kind(line: &[u8]) -> CardKind
 }
 
 // Where an operand ends is not looked for: the order of the cards does not ask it.
-fn kind(line: &[u8]) -> CardKind
+pub fn kind(line: &[u8]) -> CardKind
     ensures { λ r. ⌜ r ≡ kindOf (cardOf (now (line .entry))) ⌝ }
 {
     if is_tidy(line) {
@@ -252,15 +252,11 @@ pub fn line(deck: &[u8], at: usize) -> LineRead
     LineRead::Line { end, next: end }
 }
 
-// How far a scan has come: what it must know of the bytes before to go on with the next. A deck can so be scanned piece by piece.
-pub struct Scanner {
-    // How many lines have ended.
+// What the lines that have ended come to.
+pub struct LinesSeen {
+    // How many there are.
     pub lines: usize,
-    // The bytes of the line that is begun.
-    pub begun: [u8; 80],
-    // How many there are, or 81 for more than a card has.
-    pub size: usize,
-    // The first line that is no card, or 0.
+    // The first that is no card, or 0.
     pub bad: usize,
     // The first card at fault, or 0.
     pub fault: usize,
@@ -268,25 +264,13 @@ pub struct Scanner {
     pub ended: bool,
 }
 
-// What the lines that have ended come to.
-struct LinesSeen {
-    // How many there are.
-    lines: usize,
-    // The first that is no card, or 0.
-    bad: usize,
-    // The first card at fault, or 0.
-    fault: usize,
-    // Whether an END card has stood.
-    ended: bool,
-}
-
-// What a scan comes to: a refusal, or cards in order.
+// What the lines of a deck come to: a refusal, or cards in order.
 pub enum OrderRead {
     Refused { number: usize, place: usize },
     Ordered { cards: usize },
 }
 
-// One more. The highest number stays, so that no deck is too long to be scanned.
+// One more. The highest number stays, so that no deck is too long to be judged.
 fn one_more(n: usize) -> usize
     ensures { λ r. ⌜ r ≡ oneMore n ⌝ }
 {
@@ -346,20 +330,8 @@ fn is_misplaced(kind: CardKind, place: usize, ended: bool) -> bool
     }
 }
 
-// Which card the begun line is. One of more than 80 bytes is none.
-fn begun_kind(state: Scanner) -> CardKind
-    ensures { λ r. ⌜ r ≡ begunKind state ⌝ }
-{
-    let size = state.size;
-    if LONGEST < size {
-        return CardKind::Other;
-    }
-    let begun = state.begun;
-    kind(&begun[..size])
-}
-
 // A line more is judged.
-fn with_line(seen: LinesSeen, kind: CardKind) -> LinesSeen
+pub fn with_line(seen: LinesSeen, kind: CardKind) -> LinesSeen
     ensures { λ r. ⌜ r ≡ withLine seen kind ⌝ }
 {
     let place = one_more(seen.lines);
@@ -374,87 +346,8 @@ fn with_line(seen: LinesSeen, kind: CardKind) -> LinesSeen
     }
 }
 
-fn seen_of(state: Scanner) -> LinesSeen
-    ensures { λ r. ⌜ r ≡ seenOf state ⌝ }
-{
-    LinesSeen {
-        lines: state.lines,
-        bad: state.bad,
-        fault: state.fault,
-        ended: state.ended,
-    }
-}
-
-// The begun line has ended and is judged; the next has no bytes yet.
-fn line_ended(state: Scanner) -> Scanner
-    ensures { λ r. ⌜ r ≡ lineEnded state ⌝ }
-{
-    let kind = begun_kind(state);
-    let next = with_line(seen_of(state), kind);
-    let begun = state.begun;
-    Scanner {
-        lines: next.lines,
-        begun,
-        size: 0,
-        bad: next.bad,
-        fault: next.fault,
-        ended: next.ended,
-    }
-}
-
-// The begun line has a byte more. No byte past the 80th is kept, since the line is no card.
-fn with_byte(state: Scanner, byte: u8) -> Scanner
-    ensures { λ r. ⌜ r ≡ withByte state byte ⌝ }
-{
-    let size = state.size;
-    let mut next = state;
-    if size < LONGEST {
-        next.begun[size] = byte;
-        next.size = size + 1;
-        return next;
-    }
-    next.size = 81;
-    next
-}
-
-fn step(state: Scanner, byte: u8) -> Scanner
-    ensures { λ r. ⌜ r ≡ stepOf state byte ⌝ }
-{
-    if byte == LINE_END {
-        return line_ended(state);
-    }
-    with_byte(state, byte)
-}
-
-// A scan of no bytes.
-pub fn begin() -> Scanner
-    ensures { λ r. ⌜ r ≡ noBytes ⌝ }
-{
-    Scanner {
-        lines: 0,
-        begun: [0u8; 80],
-        size: 0,
-        bad: 0,
-        fault: 0,
-        ended: false,
-    }
-}
-
-// The scan goes on over the next piece of a deck.
-pub fn scan(state: Scanner, piece: &[u8]) -> Scanner
-    ensures { λ r. ⌜ r ≡ scanFrom state (now (piece .entry)) ⌝ }
-{
-    let mut current = state;
-    let mut i = 0;
-    while i < piece.len() {
-        current = step(current, piece[i]);
-        i += 1;
-    }
-    current
-}
-
 // The lowest refusal: a line that is no card, before a card at fault, before an END card that is missing.
-fn order_of(seen: LinesSeen) -> OrderRead
+pub fn order_of(seen: LinesSeen) -> OrderRead
     ensures { λ r. ⌜ answerOf r ≡ orderOf seen ⌝ }
 {
     let bad = seen.bad;
@@ -478,16 +371,6 @@ fn order_of(seen: LinesSeen) -> OrderRead
         number: 2,
         place: one_more(seen.lines),
     }
-}
-
-// What the scan comes to, where the deck ends here. A line that is begun is the last.
-pub fn scanned(state: Scanner) -> OrderRead
-    ensures { λ r. ⌜ answerOf r ≡ scannedOf state ⌝ }
-{
-    if state.size == 0 {
-        return order_of(seen_of(state));
-    }
-    order_of(seen_of(line_ended(state)))
 }
 
 // The order of a whole deck's cards. All of a line is here, so no byte is copied.

@@ -6,7 +6,7 @@ use denote.Ref.{now}
 use lib.ListN.{length}
 use borrow.Author.Needs.{needs}
 use Rattle.rows.proofs.RowLaws.{length-row}
-use Rattle.lines.specs.Scanning.{answerOf}
+use Rattle.lines.specs.Ordering.{answerOf}
 use Rattle.cards.specs.declared.DeckRead.{DeckRead}
 use Rattle.cards.specs.Promise.{DeckReads}
 use Rattle.cards.proofs.OrderedLaws.{order-refused, order-many, in-order}

@@ -1,7 +1,7 @@
 -- What the scan came to decides the case, and each case answers what the definition says of it.
 use mathlib.Core.Path.{ap, sym}
 use borrow.Author.Needs.{needs}
-use Rattle.lines.specs.Scanning.{answerOf}
+use Rattle.lines.specs.Ordering.{answerOf}
 use Rattle.lines.specs.declared.OrderRead.{OrderRead}
 use Rattle.inputs.specs.Reading.{longDeck}
 use Rattle.inputs.proofs.judged.Statement.{statement}

@@ -1,6 +1,6 @@
 -- The scan of the room goes on over what is read after it; and the room has 65,536 bytes.
 use denote.Ref.{now}
-use Rattle.lines.specs.Scanning.{answerOf}
+use Rattle.lines.specs.Ordering.{answerOf}
 use Rattle.inputs.proofs.ReadingLaws.{all-judged, long-counts, same-counts}
 use borrow.Author.Needs.{needs}
 use Rattle.inputs.proofs.longer.Statement.{statement}

@@ -2,7 +2,7 @@
 use mathlib.Core.Path.{_≡_, sym, ap, _∙_}
 use borrow.Author.Needs.{needs}
 use Rattle.rules.specs.Deck.{cardOf}
-use Rattle.lines.specs.Scanning.{kindOf, isOther}
+use Rattle.lines.specs.Ordering.{kindOf, isOther}
 use Rattle.lines.proofs.MeaningLaws.{other-none, known-card}
 use Rattle.lines.proofs.card.Statement.{statement}
 use Rattle.lines.proofs.card.Tie as tie

@@ -1,6 +1,6 @@
 -- `lines::first_marked` meets its contract: each way through its tests gives the place of the definition.
 use mathlib.Core.Path.{sym}
-use Rattle.lines.proofs.StepLaws.{first-stays, first-place, first-unmarked}
+use Rattle.lines.proofs.SeenSteps.{first-stays, first-place, first-unmarked}
 use Rattle.lines.proofs.first_marked.Statement.{statement}
 use Rattle.lines.proofs.first_marked.Tie as tie
 

@@ -1,6 +1,6 @@
 -- `lines::is_faulty` meets its contract: each way through its tests gives what the definition's tests give.
 use mathlib.Core.Path.{sym}
-use Rattle.lines.proofs.StepLaws.{faulty-first, faulty-ended, faulty-past}
+use Rattle.lines.proofs.SeenSteps.{faulty-first, faulty-ended, faulty-past}
 use Rattle.lines.proofs.is_faulty.Statement.{statement}
 use Rattle.lines.proofs.is_faulty.Tie as tie
 

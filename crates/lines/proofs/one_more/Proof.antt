@@ -1,7 +1,7 @@
 -- `lines::one_more` meets its contract, below the highest number and at it.
 use mathlib.Core.Path.{sym}
 use borrow.Author.Needs.{needs}
-use Rattle.lines.proofs.StepLaws.{one-more-below, one-more-most}
+use Rattle.lines.proofs.SeenSteps.{one-more-below, one-more-most}
 use Rattle.lines.proofs.one_more.Statement.{statement}
 use Rattle.lines.proofs.one_more.Tie as tie
 

@@ -10,7 +10,7 @@ use borrow.Author.Needs.{needs}
 use Rattle.rules.specs.Deck.{cardOf}
 use Rattle.rules.proofs.LineLaws.{slice-part}
 use Rattle.lines.specs.Meaning.{LineSays}
-use Rattle.lines.specs.Scanning.{kindOf, withLine, orderOf}
+use Rattle.lines.specs.Ordering.{kindOf, withLine, orderOf}
 use Rattle.lines.specs.declared.LineRead.the-variants.{Line}
 use Rattle.lines.proofs.SeenLaws.{Left, left-line, left-none, deck-seen}
 use Rattle.lines.proofs.order.Statement.{statement}

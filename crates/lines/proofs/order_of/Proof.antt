@@ -3,7 +3,7 @@ use mathlib.Core.Path.{sym, ap, _∙_}
 use Prim.Native.Nat.{ℕ}
 use borrow.Author.Needs.{needs}
 use Rattle.rules.specs.Answer.{refused}
-use Rattle.lines.proofs.StepLaws.{order-bad, order-fault, order-cards, order-open}
+use Rattle.lines.proofs.SeenSteps.{order-bad, order-fault, order-cards, order-open}
 use Rattle.lines.proofs.order_of.Statement.{statement}
 use Rattle.lines.proofs.order_of.Tie as tie
 

@@ -1,6 +1,6 @@
 -- `lines::with_line` meets its contract: its answer is made of the answers of the functions that it calls, as the definition is.
 use borrow.Author.Needs.{needs}
-use Rattle.lines.proofs.StepLaws.{with-line-is}
+use Rattle.lines.proofs.SeenSteps.{with-line-is}
 use Rattle.lines.proofs.with_line.Statement.{statement}
 use Rattle.lines.proofs.with_line.Tie as tie
 

@@ -1,9 +1,9 @@
--- `lines::step` meets its contract: hex 0A ends the line, and another byte goes to it.
+-- `scans::step` meets its contract: hex 0A ends the line, and another byte goes to it.
 use mathlib.Core.Path.{sym, _∙_}
 use borrow.Author.Needs.{needs}
-use Rattle.lines.proofs.StepLaws.{step-end, step-byte}
-use Rattle.lines.proofs.step.Statement.{statement}
-use Rattle.lines.proofs.step.Tie as tie
+use Rattle.scans.proofs.StepLaws.{step-end, step-byte}
+use Rattle.scans.proofs.step.Statement.{statement}
+use Rattle.scans.proofs.step.Tie as tie
 
 line-ended-requires : tie.Need-line-ended-requires
 line-ended-requires c κs = search needs

@@ -13,12 +13,13 @@ use Rattle.rules.specs.Deck.{lines, cardOf}
 use Rattle.rules.specs.Order.{operandsOf}
 use Rattle.rules.proofs.LineLaws.{Passed, passed-none, passed-byte, passed-end, passed-all, passed-last}
 use Rattle.rules.proofs.CardPlaces.{tidy-long, card-untidy}
-use Rattle.lines.specs.Scanning.{most, kindOf, begunKind, withLine, seenOf, lineEnded, withByte, stepOf, noBytes, scanFrom, orderOf, scannedOf, cardCount}
+use Rattle.lines.specs.Ordering.{most, kindOf, withLine, orderOf, cardCount}
 use Rattle.lines.specs.declared.CardKind.{CardKind}
-use Rattle.lines.specs.declared.Scanner.{Scanner}
 use Rattle.lines.specs.declared.LinesSeen.{LinesSeen}
-use Rattle.lines.proofs.StepLaws.{begun-long, begun-short, byte-kept, byte-past, step-end, step-byte, scanned-between, scanned-inside}
 use Rattle.lines.proofs.SeenLaws.{noLine, withLines, with-lines-more, kinds, deck-seen}
+use Rattle.scans.specs.Scanning.{begunKind, seenOf, lineEnded, withByte, stepOf, noBytes, scanFrom, scannedOf}
+use Rattle.scans.specs.declared.Scanner.{Scanner}
+use Rattle.scans.proofs.StepLaws.{begun-long, begun-short, byte-kept, byte-past, step-end, step-byte, scanned-between, scanned-inside}
 
 -- ---- pieces
 

@@ -1,8 +1,8 @@
--- `lines::with_byte` meets its contract: a byte up to the 80th is kept, and none past it.
+-- `scans::with_byte` meets its contract: a byte up to the 80th is kept, and none past it.
 use borrow.Author.Needs.{needs}
-use Rattle.lines.proofs.StepLaws.{byte-kept, byte-past}
-use Rattle.lines.proofs.with_byte.Statement.{statement}
-use Rattle.lines.proofs.with_byte.Tie as tie
+use Rattle.scans.proofs.StepLaws.{byte-kept, byte-past}
+use Rattle.scans.proofs.with_byte.Statement.{statement}
+use Rattle.scans.proofs.with_byte.Tie as tie
 
 element-write-next : tie.Need-element-write-next
 element-write-next c = search needs

@@ -1,8 +1,8 @@
--- `lines::line_ended` meets its contract: its answer is made of the answers of the functions that it calls, as the definition is.
+-- `scans::line_ended` meets its contract: its answer is made of the answers of the functions that it calls, as the definition is.
 use borrow.Author.Needs.{needs}
-use Rattle.lines.proofs.StepLaws.{line-ended-is}
-use Rattle.lines.proofs.line_ended.Statement.{statement}
-use Rattle.lines.proofs.line_ended.Tie as tie
+use Rattle.scans.proofs.StepLaws.{line-ended-is}
+use Rattle.scans.proofs.line_ended.Statement.{statement}
+use Rattle.scans.proofs.line_ended.Tie as tie
 
 begun-kind-requires : tie.Need-begun-kind-requires
 begun-kind-requires c κs = search needs

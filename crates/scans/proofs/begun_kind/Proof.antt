@@ -1,12 +1,12 @@
--- `lines::begun_kind` meets its contract: a line of 80 bytes or fewer is read, a longer one is no card.
+-- `scans::begun_kind` meets its contract: a line of 80 bytes or fewer is read, a longer one is no card.
 use mathlib.Core.Path.{_≡_, sym, _∙_}
 use native.Mathlib.Omega.{arith}
 use borrow.Author.Needs.{needs}
 use lib.ListN.{length, length-map}
 use lib.Seq.{length-take-le}
-use Rattle.lines.proofs.StepLaws.{begun-long, begun-short}
-use Rattle.lines.proofs.begun_kind.Statement.{statement}
-use Rattle.lines.proofs.begun_kind.Tie as tie
+use Rattle.scans.proofs.StepLaws.{begun-long, begun-short}
+use Rattle.scans.proofs.begun_kind.Statement.{statement}
+use Rattle.scans.proofs.begun_kind.Tie as tie
 
 -- a state has room for 80 bytes
 eighty : (c : tie.Start) → length (c .args .state .begun) ≡ 80

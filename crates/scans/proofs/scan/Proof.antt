@@ -1,14 +1,14 @@
--- `lines::scan` meets its contract. The loop's invariant: what is left of the piece is scanned from `current` as all of it is from the state that was
+-- `scans::scan` meets its contract. The loop's invariant: what is left of the piece is scanned from `current` as all of it is from the state that was
 -- given. The measure is what is left of the piece.
 use mathlib.Core.Path.{_≡_, refl, sym, ap, _∙_}
 use Prim.Native.Nat.{_+_, _-_}
 use borrow.Author.Needs.{needs}
 use lib.ListN.{length, drop}
-use Rattle.lines.specs.Scanning.{scanFrom}
-use Rattle.lines.specs.declared.Scanner.{Scanner}
-use Rattle.lines.proofs.StepLaws.{scan-next, scan-end}
-use Rattle.lines.proofs.scan.Statement.{statement}
-use Rattle.lines.proofs.scan.Tie as tie
+use Rattle.scans.specs.Scanning.{scanFrom}
+use Rattle.scans.specs.declared.Scanner.{Scanner}
+use Rattle.scans.proofs.StepLaws.{scan-next, scan-end}
+use Rattle.scans.proofs.scan.Statement.{statement}
+use Rattle.scans.proofs.scan.Tie as tie
 
 abbrev Inv-loop : tie.InvT-loop
 Inv-loop piece current₀ i₀ current i = scanFrom current₀ piece ≡ scanFrom current (drop i piece)

@@ -1,10 +1,11 @@
--- `lines::scanned` meets its contract: a line that is begun is ended, and then the order is answered.
+-- `scans::scanned` meets its contract: a line that is begun is ended, and then the order is answered.
 use mathlib.Core.Path.{sym, ap, _∙_}
 use borrow.Author.Needs.{needs}
-use Rattle.lines.specs.Scanning.{seenOf, orderOf}
-use Rattle.lines.proofs.StepLaws.{scanned-between, scanned-inside}
-use Rattle.lines.proofs.scanned.Statement.{statement}
-use Rattle.lines.proofs.scanned.Tie as tie
+use Rattle.lines.specs.Ordering.{orderOf}
+use Rattle.scans.specs.Scanning.{seenOf}
+use Rattle.scans.proofs.StepLaws.{scanned-between, scanned-inside}
+use Rattle.scans.proofs.scanned.Statement.{statement}
+use Rattle.scans.proofs.scanned.Tie as tie
 
 seen-of-requires : tie.Need-seen-of-requires
 seen-of-requires c κs = search needs

@@ -13,14 +13,15 @@ use Rattle.rules.specs.Answer.{refused}
 use Rattle.rules.specs.Deck.{lines, cardOf}
 use Rattle.rules.proofs.LineLaws.{ended, lines-deck}
 use Rattle.rules.proofs.CardPlaces.{tidy-long, card-untidy}
-use Rattle.lines.specs.Scanning.{oneMore, firstMarked, kindOf, isOther, faulty, misplaced, withLine, noBytes, scanFrom, orderOf, scannedOf}
+use Rattle.lines.specs.Ordering.{oneMore, firstMarked, kindOf, isOther, faulty, misplaced, withLine, orderOf}
 use Rattle.lines.specs.declared.CardKind.{CardKind}
 use Rattle.lines.specs.declared.CardKind.the-variants.{Utility, Select, End, Other}
 use Rattle.lines.specs.declared.LinesSeen.{LinesSeen}
 use Rattle.lines.proofs.MeaningLaws.{not-both}
-use Rattle.lines.proofs.StepLaws.{order-bad, order-fault}
+use Rattle.lines.proofs.SeenSteps.{order-bad, order-fault}
 use Rattle.lines.proofs.SeenLaws.{noLine, withLines, kinds, bad-stays, fault-stays, next-place}
-use Rattle.lines.proofs.DeckLaws.{held-none, held-piece, held-lines}
+use Rattle.scans.specs.Scanning.{noBytes, scanFrom, scannedOf}
+use Rattle.scans.proofs.DeckLaws.{held-none, held-piece, held-lines}
 
 -- ---- a line that is not marked
 

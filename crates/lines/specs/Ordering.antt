@@ -1,15 +1,13 @@
--- A scan of a deck, byte by byte: what it knows of the lines that have ended and of the line that is begun. What it comes to is a refusal 1 or 2 of
+-- What the lines of a deck come to, one after another: which of them is marked, as no card or as a card at fault at its place. It is a refusal 1 or 2 of
 -- document 01, "The deck", or the number of the cards.
 use mathlib.Core.Bool.{Bool, true, false, cond, _&&_}
-use mathlib.Core.List.{List, [], _∷_}
 use mathlib.Core.Option.{Option, none, some}
 use Prim.Native.Nat.{ℕ, _+_}
-use lib.Dec.{ltb, leb, eqb}
-use lib.ListN.{length, take, set, replicate}
+use lib.Dec.{ltb, eqb}
+use lib.ListN.{length}
 use Rattle.rules.specs.Answer.{Answer, fine, refused, _>>=_}
-use Rattle.rules.specs.Deck.{Card, uCard, fsCard, endCard, cardOf}
+use Rattle.rules.specs.Deck.{Card, uCard, fsCard, endCard}
 use Rattle.rules.specs.Order.{Operands}
-use Rattle.lines.specs.declared.Scanner.{Scanner}
 use Rattle.lines.specs.declared.LinesSeen.{LinesSeen}
 use Rattle.lines.specs.declared.CardKind.{CardKind}
 use Rattle.lines.specs.declared.CardKind.the-variants.{Utility, Select, End, Other}
@@ -64,69 +62,26 @@ misplaced Other place ended = false
 
 -- ---- lines
 
--- the begun line, of 80 bytes or fewer
-unfoldable pub begunKind : Scanner → CardKind
-begunKind st = cond (leb (st .size) 80) (kindOf (cardOf (take (st .size) (st .begun)))) Other
-
 -- a line more is judged
 abbrev pub withLine : LinesSeen → CardKind → LinesSeen
-withLine t k =
+withLine seen kind =
     record {
-      lines = oneMore (t .lines);
-      bad = firstMarked (t .bad) (isOther k) (oneMore (t .lines));
-      fault = firstMarked (t .fault) (misplaced k (oneMore (t .lines)) (t .ended)) (oneMore (t .lines));
-      ended = closed k (t .ended);
+      lines = oneMore (seen .lines);
+      bad = firstMarked (seen .bad) (isOther kind) (oneMore (seen .lines));
+      fault = firstMarked (seen .fault) (misplaced kind (oneMore (seen .lines)) (seen .ended)) (oneMore (seen .lines));
+      ended = closed kind (seen .ended);
     }
-
--- what the lines that have ended come to
-abbrev pub seenOf : Scanner → LinesSeen
-seenOf st = record { lines = st .lines; bad = st .bad; fault = st .fault; ended = st .ended }
-
--- the begun line has ended
-unfoldable pub lineEnded : Scanner → Scanner
-lineEnded st =
-    let t = withLine (seenOf st) (begunKind st) in
-    record { lines = t .lines; begun = st .begun; size = 0; bad = t .bad; fault = t .fault; ended = t .ended }
-
--- it has a byte more
-unfoldable pub withByte : Scanner → ℕ → Scanner
-withByte st b =
-    cond (ltb (st .size) 80)
-    (record {
-      lines = st .lines;
-      begun = set (st .begun) (st .size) b;
-      size = st .size + 1;
-      bad = st .bad;
-      fault = st .fault;
-      ended = st .ended;
-    })
-    (record { lines = st .lines; begun = st .begun; size = 81; bad = st .bad; fault = st .fault; ended = st .ended })
-
-unfoldable pub stepOf : Scanner → ℕ → Scanner
-stepOf st b = cond (eqb b 0x0A) (lineEnded st) (withByte st b)
 
 -- ---- decks
 
-unfoldable pub noBytes : Scanner
-noBytes = record { lines = 0; begun = replicate 80 0; size = 0; bad = 0; fault = 0; ended = false }
-
--- byte by byte
-abbrev pub scanFrom : Scanner → List ℕ → Scanner
-scanFrom st [] = st
-scanFrom st (b ∷ bs) = scanFrom (stepOf st b) bs
-
 -- the lowest refusal, or how many cards there are
 unfoldable pub orderOf : LinesSeen → Answer ℕ
-orderOf t =
-    cond (eqb (t .bad) 0)
-    (cond (eqb (t .fault) 0)
-    (cond (t .ended) (fine (t .lines)) (refused 2 (oneMore (t .lines))))
-    (refused 2 (t .fault)))
-    (refused 1 (t .bad))
-
--- a line that is begun where the deck ends is the last
-unfoldable pub scannedOf : Scanner → Answer ℕ
-scannedOf st = orderOf (seenOf (cond (eqb (st .size) 0) st (lineEnded st)))
+orderOf seen =
+    cond (eqb (seen .bad) 0)
+    (cond (eqb (seen .fault) 0)
+    (cond (seen .ended) (fine (seen .lines)) (refused 2 (oneMore (seen .lines))))
+    (refused 2 (seen .fault)))
+    (refused 1 (seen .bad))
 
 -- how many cards a deck in order has: one U card, the FS cards and one END card
 abbrev pub cardCount : Answer Operands → Answer ℕ

@@ -1,0 +1,4 @@
+pub mod StepLaws
+pub mod DeckLaws
+pub mod LongLaws
+pub mod PromiseLaws
