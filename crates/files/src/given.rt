@@ -2,8 +2,8 @@
 ghost use mathlib.Core.Path.{_≡_};
 ghost use lib.ListN.{length, replicate};
 ghost use Rattle.io.specs.Counts.{Counts};
-use inputs::DeckRead;
-use inputs::Filled;
+use inputs::BytesRead;
+use inputs::DeckBytes;
 
 // Puts the name that an argument gives into the room and answers its length, or 0 where it is no name.
 pub fn name(argument: usize, room: &mut [u8]) -> usize
@@ -28,12 +28,12 @@ fn open(path: &[u8]) -> i32 {
 }
 
 // The deck in a file.
-pub fn deck(path: &[u8], room: &mut [u8; 65536]) -> DeckRead
+pub fn deck(path: &[u8], room: &mut [u8; 65536]) -> DeckBytes
     ensures { λ r. ⌜ Counts (r .length) (now (room .exit)) ⌝ }
 {
     let fd = open(path);
     if fd < 0 {
-        return DeckRead {
+        return DeckBytes {
             length: 0,
             refusal: 0,
             place: 0,
@@ -57,12 +57,12 @@ pub fn reel_room() -> [u8; 65537]
 }
 
 // The first bytes of a file, as many as the room takes.
-pub fn reel(path: &[u8], room: &mut [u8]) -> Filled
+pub fn reel(path: &[u8], room: &mut [u8]) -> BytesRead
     ensures { λ r. ⌜ Counts (r .length) (now (room .exit)) ⌝ }
 {
     let fd = open(path);
     if fd < 0 {
-        return Filled {
+        return BytesRead {
             length: 0,
             failed: true,
         };

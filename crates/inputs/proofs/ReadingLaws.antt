@@ -18,10 +18,10 @@ use Rattle.scans.specs.Scanning.{noBytes, scanFrom, scannedOf}
 use Rattle.scans.specs.declared.Scanner.{Scanner}
 use Rattle.scans.proofs.DeckLaws.{scan-pieces}
 use Rattle.scans.proofs.LongLaws.{long-refused}
-use Rattle.inputs.specs.Reading.{countedAs, ReadSays, filledFrom, FillSays, Went, FedSays, wholeDeck, lengthOf, longDeck, deckOf, Judged}
-use Rattle.inputs.specs.declared.Filled.{Filled}
+use Rattle.inputs.specs.Reading.{readAs, ReadSays, filledFrom, FillSays, Went, FedSays, wholeDeck, bytesUsed, longDeck, deckOf, LongDeckSays}
+use Rattle.inputs.specs.declared.BytesRead.{BytesRead}
 use Rattle.inputs.specs.declared.Fed.{Fed}
-use Rattle.inputs.specs.declared.DeckRead.{DeckRead}
+use Rattle.inputs.specs.declared.DeckBytes.{DeckBytes}
 
 -- ---- filling a room
 
@@ -37,15 +37,15 @@ pub left-behind : (room : List ℕ) (at size : ℕ) → length room ≡ size →
 left-behind room at size e = length-take-le (length room - at) (drop at room) (omega (arith, length-drop at room)) ∙ ap (λ (n : ℕ). n - at) e
 
 module _ (room at : ℕ) (filled : FilledTo room at) where
-  module _ (left : ℕ) (behind : left ≡ room - at) (read : Filled) (says : ReadSays left read) where
+  module _ (left : ℕ) (behind : left ≡ room - at) (read : BytesRead) (says : ReadSays left read) where
     abbrev got : ℤ
     got = says .0
 
-    is : read ≡ countedAs got (room - at)
-    is = says .1 ∙ ap (countedAs got) behind
+    is : read ≡ readAs got (room - at)
+    is = says .1 ∙ ap (readAs got) behind
 
     -- what follows, by whether the read brought something
-    abbrev next : List ℤ → Filled → Filled
+    abbrev next : List ℤ → BytesRead → BytesRead
     next more x = cond (eqb (x .length) 0) (record { length = at; failed = x .failed }) (filledFrom room (at + x .length) more)
 
     went : (more : List ℤ) → filledFrom room 0 (filled .0 ++ (got ∷ more)) ≡ next more read
@@ -77,9 +77,9 @@ pub further : (first : Scanner) (now next : Fed) → FedSays first now → FedSa
 further first now next a b = (b .0, b .1, went-on first (now .state) (b .0) (fed-went first now a) (b .2), b .3)
 
 -- the first bytes, and then what more was read: the answer is what the scan of it all comes to
-pub all-judged : (bytes : List ℕ) (none begun : Scanner) (fed : Fed) (answer : Answer ℕ) (r : DeckRead) → none ≡ noBytes → begun ≡ scanFrom none bytes
-    → FedSays begun fed → answer ≡ scannedOf (fed .state) → r ≡ longDeck answer (fed .failed) → Judged bytes r
-all-judged bytes none begun fed answer r n b f a e =
+pub all-scanned : (bytes : List ℕ) (none begun : Scanner) (fed : Fed) (answer : Answer ℕ) (r : DeckBytes) → none ≡ noBytes → begun ≡ scanFrom none bytes
+    → FedSays begun fed → answer ≡ scannedOf (fed .state) → r ≡ longDeck answer (fed .failed) → LongDeckSays bytes r
+all-scanned bytes none begun fed answer r n b f a e =
     let w = fed-went begun fed f in
     let all : fed .state ≡ scanFrom noBytes (bytes ++ w .0)
     = w .1
@@ -87,16 +87,16 @@ all-judged bytes none begun fed answer r n b f a e =
     ∙ scan-pieces noBytes bytes (w .0) in
     (w .0, fed .failed, e ∙ ap (λ (x : Answer ℕ). longDeck x (fed .failed)) (a ∙ ap scannedOf all))
 
--- a judged deck lies within a room of 65,536 bytes
-pub long-counts : (room : List ℕ) (answer : Answer ℕ) → 65536 ≤ length room → Counts (lengthOf answer) room
+-- a long deck lies within a room of 65,536 bytes
+pub long-counts : (room : List ℕ) (answer : Answer ℕ) → 65536 ≤ length room → Counts (bytesUsed answer) room
 long-counts room (refuse r) h = counts 0 room zero-le
 long-counts room (fine cards) h = counts 65536 room h
 
 -- so does whatever answers the same
-pub same-counts : (room : List ℕ) {r q : DeckRead} → r ≡ q → Counts (q .length) room → Counts (r .length) room
-same-counts room e h = subst (λ (d : DeckRead). Counts (d .length) room) (sym e) h
+pub same-counts : (room : List ℕ) {r q : DeckBytes} → r ≡ q → Counts (q .length) room → Counts (r .length) room
+same-counts room e h = subst (λ (d : DeckBytes). Counts (d .length) room) (sym e) h
 
-module _ (room : List ℕ) (read : Filled) (rest : List ℕ) (failed : Bool) where
+module _ (room : List ℕ) (read : BytesRead) (rest : List ℕ) (failed : Bool) where
   -- a room that is full
   pub deck-long : read .length ≡ 65536 → deckOf room read rest failed ≡ longDeck (scannedOf (scanFrom noBytes (room ++ rest))) failed
   unfolding deckOf
@@ -107,10 +107,10 @@ module _ (room : List ℕ) (read : Filled) (rest : List ℕ) (failed : Bool) whe
   unfolding deckOf
   deck-whole n = rw (ne-eqb (read .length) 65536 n)
 
--- so what is judged is never taken as right, and none of its bytes is used
-pub judged-refused : (bytes : List ℕ) (r : DeckRead) → 5184 < length bytes → Judged bytes r → (r .length ≡ 0) × ((r .refusal ≡ 1) ⊎ (r .refusal ≡ 2))
-judged-refused bytes r h j =
+-- so a long deck is never taken as right, and none of its bytes is used
+pub long-deck-refused : (bytes : List ℕ) (r : DeckBytes) → 5184 < length bytes → LongDeckSays bytes r → (r .length ≡ 0) × ((r .refusal ≡ 1) ⊎ (r .refusal ≡ 2))
+long-deck-refused bytes r h j =
     let l = long-refused (bytes ++ j .0) (omega (arith, length-append bytes (j .0))) in
-    let n = ap (λ (d : DeckRead). d .length) (j .2) in
-    let s = ap (λ (d : DeckRead). d .refusal) (j .2) in
-    ⊎-elim (λ e. (n ∙ ap lengthOf e, inl (s ∙ ap refusalOf e))) (λ e. (n ∙ ap lengthOf e, inr (s ∙ ap refusalOf e))) (l .1)
+    let n = ap (λ (d : DeckBytes). d .length) (j .2) in
+    let s = ap (λ (d : DeckBytes). d .refusal) (j .2) in
+    ⊎-elim (λ e. (n ∙ ap bytesUsed e, inl (s ∙ ap refusalOf e))) (λ e. (n ∙ ap bytesUsed e, inr (s ∙ ap refusalOf e))) (l .1)

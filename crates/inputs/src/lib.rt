@@ -3,38 +3,38 @@ ghost use Rattle.io.specs.Counts.{Counts};
 ghost use mathlib.Core.Path.{_≡_};
 ghost use lib.ListN.{length};
 ghost use Rattle.lines.specs.Ordering.{answerOf};
-ghost use Rattle.inputs.specs.Reading.{countedAs, ReadSays, FillSays, fedOf, FedSays, wholeDeck, longDeck, Judged, DeckSays};
+ghost use Rattle.inputs.specs.Reading.{readAs, ReadSays, FillSays, fedOf, FedSays, wholeDeck, longDeck, LongDeckSays, DeckBytesSays};
 use lines::OrderRead;
 use scans::Scanner;
 
 // How many bytes were read. Where a read failed, errno says why.
-pub struct Filled {
+pub struct BytesRead {
     pub length: usize,
     pub failed: bool,
 }
 
 // What a read into the room came to, by what it answered.
-fn counted(got: isize, room: &[u8]) -> Filled
+fn read_as(got: isize, room: &[u8]) -> BytesRead
     ensures { λ r. ⌜ Counts (r .length) (now (room .entry)) ⌝ }
-    ensures { λ r. ⌜ r ≡ countedAs got (length (now (room .entry))) ⌝ }
+    ensures { λ r. ⌜ r ≡ readAs got (length (now (room .entry))) ⌝ }
 {
-    Filled {
+    BytesRead {
         length: io::count(got, room),
         failed: got < 0,
     }
 }
 
 // One read.
-fn some(fd: i32, room: &mut [u8]) -> Filled
+fn some(fd: i32, room: &mut [u8]) -> BytesRead
     ensures { λ r. ⌜ Counts (r .length) (now (room .exit)) ⌝ }
     ensures { λ r. ⌜ ReadSays (length (now (room .entry))) r ⌝ }
 {
     let got = libc::read(fd, room);
-    counted(got, room)
+    read_as(got, room)
 }
 
 // Reads until the room is full, the file ends or a read fails.
-pub fn fill(fd: i32, room: &mut [u8]) -> Filled
+pub fn fill(fd: i32, room: &mut [u8]) -> BytesRead
     ensures { λ r. ⌜ Counts (r .length) (now (room .exit)) ⌝ }
     ensures { λ r. ⌜ FillSays (length (now (room .entry))) r ⌝ }
 {
@@ -42,14 +42,14 @@ pub fn fill(fd: i32, room: &mut [u8]) -> Filled
     while at < room.len() {
         let read = some(fd, &mut room[at..]);
         if read.length == 0 {
-            return Filled {
+            return BytesRead {
                 length: at,
                 failed: read.failed,
             };
         }
         at += read.length;
     }
-    Filled {
+    BytesRead {
         length: at,
         failed: false,
     }
@@ -63,7 +63,7 @@ struct Fed {
 }
 
 // What is known once a scan was fed what was read. A read that left room found the end, or failed.
-fn fed_with(state: Scanner, read: Filled) -> Fed
+fn fed_with(state: Scanner, read: BytesRead) -> Fed
     ensures { λ r. ⌜ r ≡ fedOf state read ⌝ }
 {
     Fed {
@@ -104,7 +104,7 @@ fn feed_all(fd: i32, state: Scanner) -> Fed
 }
 
 // A deck of `length` bytes stands at the start of the room; or it is longer, and its refusal is known; or a read failed, and errno says why.
-pub struct DeckRead {
+pub struct DeckBytes {
     pub length: usize,
     pub refusal: usize,
     pub place: usize,
@@ -112,10 +112,10 @@ pub struct DeckRead {
 }
 
 // A deck that left room is here as a whole, and nothing is said against it yet.
-fn whole(read: Filled) -> DeckRead
+fn whole(read: BytesRead) -> DeckBytes
     ensures { λ r. ⌜ r ≡ wholeDeck read ⌝ }
 {
-    DeckRead {
+    DeckBytes {
         length: read.length,
         refusal: 0,
         place: 0,
@@ -124,18 +124,18 @@ fn whole(read: Filled) -> DeckRead
 }
 
 // A deck that filled the room, by what the scan of it comes to. A right deck has at most 5,184 bytes, so a longer one is refused by 1 or 2; that
-// its cards are in order does not arise (`judged-refused`).
-fn judged(read: OrderRead, failed: bool) -> DeckRead
+// its cards are in order does not arise (`long-deck-refused`).
+fn long_deck(read: OrderRead, failed: bool) -> DeckBytes
     ensures { λ r. ⌜ r ≡ longDeck (answerOf read) failed ⌝ }
 {
     match read {
-        OrderRead::Refused { number, place } => DeckRead {
+        OrderRead::Refused { number, place } => DeckBytes {
             length: 0,
             refusal: number,
             place,
             failed,
         },
-        OrderRead::Ordered { cards: _ } => DeckRead {
+        OrderRead::Ordered { cards: _ } => DeckBytes {
             length: 65536,
             refusal: 0,
             place: 0,
@@ -145,19 +145,19 @@ fn judged(read: OrderRead, failed: bool) -> DeckRead
 }
 
 // The deck whose first 65,536 bytes are in the room. The scanner finds its refusal whatever its length.
-fn longer(fd: i32, room: &[u8; 65536]) -> DeckRead
+fn longer(fd: i32, room: &[u8; 65536]) -> DeckBytes
     ensures { λ r. ⌜ Counts (r .length) (now (room .entry)) ⌝ }
-    ensures { λ r. ⌜ Judged (now (room .entry)) r ⌝ }
+    ensures { λ r. ⌜ LongDeckSays (now (room .entry)) r ⌝ }
 {
     let fed = feed_all(fd, scans::scan(scans::begin(), room));
     let state = fed.state;
-    judged(scans::scanned(state), fed.failed)
+    long_deck(scans::scanned(state), fed.failed)
 }
 
 // A deck of any length.
-pub fn deck(fd: i32, room: &mut [u8; 65536]) -> DeckRead
+pub fn deck(fd: i32, room: &mut [u8; 65536]) -> DeckBytes
     ensures { λ r. ⌜ Counts (r .length) (now (room .exit)) ⌝ }
-    ensures { λ r. ⌜ DeckSays (now (room .exit)) r ⌝ }
+    ensures { λ r. ⌜ DeckBytesSays (now (room .exit)) r ⌝ }
 {
     let read = fill(fd, room);
     if read.length == 65536 {

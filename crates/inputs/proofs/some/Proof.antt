@@ -3,15 +3,15 @@ use mathlib.Core.Path.{ap, _∙_}
 use mir.Syntax.{w64}
 use mir.Val.{toZ, ofZ}
 use borrow.Author.Needs.{needs}
-use Rattle.inputs.specs.Reading.{countedAs}
+use Rattle.inputs.specs.Reading.{readAs}
 use Rattle.inputs.proofs.some.Statement.{statement}
 use Rattle.inputs.proofs.some.Tie as tie
 
 read-requires : tie.Need-read-requires
 read-requires c κs = search needs
 
-counted-requires : tie.Need-counted-requires
-counted-requires c κs = search needs
+read-as-requires : tie.Need-read-as-requires
+read-as-requires c κs = search needs
 
 same-length : tie.Need-same-length
 same-length c = search needs
@@ -19,7 +19,7 @@ same-length c = search needs
 returns : tie.Need-returns
 returns c =
     let got = toZ w64 (ofZ w64 (c .before .before .before .before .read .result)) in
-    (c .counted .ensures .0, (got, c .counted .ensures .1 ∙ ap (countedAs got) (search needs)))
+    (c .read-as .ensures .0, (got, c .read-as .ensures .1 ∙ ap (readAs got) (search needs)))
 
 pub some-spec : {M : Type 1} → statement M
-some-spec = tie.close (tie.spec read-requires counted-requires same-length returns)
+some-spec = tie.close (tie.spec read-requires read-as-requires same-length returns)

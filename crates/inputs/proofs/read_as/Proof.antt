@@ -7,8 +7,8 @@ use lib.Signed.{ltZ}
 use mir.Facts.{toZ-ofZ}
 use borrow.Author.Needs.{needs}
 use Rattle.io.specs.Counts.{clamped}
-use Rattle.inputs.proofs.counted.Statement.{statement}
-use Rattle.inputs.proofs.counted.Tie as tie
+use Rattle.inputs.proofs.read_as.Statement.{statement}
+use Rattle.inputs.proofs.read_as.Tie as tie
 
 count-requires : tie.Need-count-requires
 count-requires c κs = search needs
@@ -20,5 +20,5 @@ returns c =
     let n = c .count .ensures .1 ∙ ap (λ (z : ℤ). clamped z (length (now (s .args .room)))) held in
     (c .count .ensures .0, λ i. record { length = n i; failed = ltZ (held i) (pos 0) })
 
-pub counted-spec : {M : Type 1} → statement M
-counted-spec = tie.close (tie.spec count-requires returns)
+pub read-as-spec : {M : Type 1} → statement M
+read-as-spec = tie.close (tie.spec count-requires returns)
