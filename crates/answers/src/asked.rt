@@ -45,7 +45,7 @@ fn tell_kind(kind: Kind) {
 
 // What A says: key and data are told apart again.
 fn tell_input(input: Size, key: usize) {
-    let n = combinations::record_length(input);
+    let n = terms::record_length(input);
     if key == 0 || n < key {
         tell_size(b" A=", input);
         return;

@@ -15,9 +15,9 @@ pub(crate) fn form_of(asked: Asked) -> Form {
     let input = asked.input;
     Form {
         format,
-        n: combinations::record_length(input),
-        m: combinations::block_length(input),
-        selects: combinations::selects(mode),
+        n: terms::record_length(input),
+        m: terms::block_length(input),
+        selects: terms::selects(mode),
     }
 }
 

@@ -25,9 +25,6 @@ use Rattle.rules.proofs.AnswerLaws.{fine-then, then-fine, fine-unless, each-fin
 use Rattle.rules.specs.Rows.{Within, SizeWithin, InputWithin, UtilityWithin, KindWithin, FieldWithin}
 use Rattle.terms.specs.Meaning.{modeOf, formatOf, sizeOf, fieldOf, laid, laidFields, noField, utilityOf, firstCard, keyCard, Means}
 use Rattle.terms.proofs.Laid.{inside-laid, laid-through, laid-within}
-use Rattle.terms.specs.declared.Mode.{Mode as DeclaredMode}
-use Rattle.terms.specs.declared.Format.{Format as DeclaredFormat}
-use Rattle.terms.specs.declared.Size.{Size as DeclaredSize}
 use Rattle.terms.specs.declared.Asked.{Asked}
 use Rattle.rows.specs.Flat.{flatOf, fieldAt}
 use Rattle.rows.specs.Kept.{fieldFor}
@@ -441,22 +438,3 @@ answer-once (Outside field) (Outside field′) e = ap Outside (ap placeOf e)
 
 pub only-one : (x : Asked) (fs : List RuleField) (r q : Combined) → answerOf r ≡ combinedOf x fs → answerOf q ≡ combinedOf x fs → r ≡ q
 only-one x fs r q e f = answer-once r q (e ∙ sym f)
-
--- and of what is asked of a mode, a format or a size
-pub selects-only-one : (m : DeclaredMode) (r s : Bool) → r ≡ selects (modeOf m) → s ≡ selects (modeOf m) → r ≡ s
-selects-only-one m r s e q = e ∙ sym q
-
-pub tc-only-one : (m : DeclaredMode) (r s : Bool) → r ≡ isTC (modeOf m) → s ≡ isTC (modeOf m) → r ≡ s
-tc-only-one m r s e q = e ∙ sym q
-
-pub fv-only-one : (f : DeclaredFormat) (r s : Bool) → r ≡ isFV (formatOf f) → s ≡ isFV (formatOf f) → r ≡ s
-fv-only-one f r s e q = e ∙ sym q
-
-pub fs-only-one : (f : DeclaredFormat) (r s : Bool) → r ≡ isFS (formatOf f) → s ≡ isFS (formatOf f) → r ≡ s
-fs-only-one f r s e q = e ∙ sym q
-
-pub record-length-only-one : (z : DeclaredSize) (r s : ℕ) → r ≡ recordLength (sizeOf z) → s ≡ recordLength (sizeOf z) → r ≡ s
-record-length-only-one z r s e q = e ∙ sym q
-
-pub block-length-only-one : (z : DeclaredSize) (r s : ℕ) → r ≡ blockLength (sizeOf z) → s ≡ blockLength (sizeOf z) → r ≡ s
-block-length-only-one z r s e q = e ∙ sym q

@@ -8,81 +8,13 @@ ghost use mathlib.Core.Path.{_≡_};
 ghost use mathlib.Core.Bool.{true, _&&_, _||_};
 ghost use Prim.Native.Nat.{_+_, _≤_};
 ghost use lib.Dec.{leb, eqb};
-ghost use Rattle.rules.specs.Plan.{isTC, selects as ruleSelects, isFF, isFV, isFU, isFS, numbers as ruleNumbers, wanted as ruleWanted, recordLength, blockLength, inside};
+ghost use Rattle.rules.specs.Plan.{selects as ruleSelects, numbers as ruleNumbers, wanted as ruleWanted, inside};
 ghost use Rattle.terms.specs.Meaning.{modeOf, formatOf, sizeOf, fieldOf};
 ghost use Rattle.rows.specs.Kept.{fieldsIn};
 ghost use Rattle.combinations.specs.Lines.{copyLines, countLine, lengthsEqual, fixedLines, FormatFair, formatLines, copyEqual, cardLine, allLines, keyLine, lowerOf};
 ghost use Rattle.combinations.specs.Promise.{firstOutside, answerOf, rightLines, cvFault, keyFault, combinedOf, FieldFair, FieldsFair, AskedFair};
 
-// ---- what the letters say
-
-pub fn is_tc(mode: Mode) -> bool
-    ensures { λ r. ⌜ r ≡ isTC (modeOf mode) ⌝ }
-{
-    match mode {
-        Mode::TC => true,
-        Mode::TF => false,
-        Mode::TR => false,
-        Mode::TRF => false,
-    }
-}
-
-fn is_ff(format: Format) -> bool
-    ensures { λ r. ⌜ r ≡ isFF (formatOf format) ⌝ }
-{
-    match format {
-        Format::FF => true,
-        Format::FV => false,
-        Format::FU => false,
-        Format::FS => false,
-    }
-}
-
-fn is_fu(format: Format) -> bool
-    ensures { λ r. ⌜ r ≡ isFU (formatOf format) ⌝ }
-{
-    match format {
-        Format::FF => false,
-        Format::FV => false,
-        Format::FU => true,
-        Format::FS => false,
-    }
-}
-
-pub fn is_fv(format: Format) -> bool
-    ensures { λ r. ⌜ r ≡ isFV (formatOf format) ⌝ }
-{
-    match format {
-        Format::FF => false,
-        Format::FV => true,
-        Format::FU => false,
-        Format::FS => false,
-    }
-}
-
-// Spanned records (document 02, order 6).
-pub fn is_fs(format: Format) -> bool
-    ensures { λ r. ⌜ r ≡ isFS (formatOf format) ⌝ }
-{
-    match format {
-        Format::FF => false,
-        Format::FV => false,
-        Format::FU => false,
-        Format::FS => true,
-    }
-}
-
-// TF or TRF.
-pub fn selects(mode: Mode) -> bool
-    ensures { λ r. ⌜ r ≡ ruleSelects (modeOf mode) ⌝ }
-{
-    match mode {
-        Mode::TC => false,
-        Mode::TF => true,
-        Mode::TR => false,
-        Mode::TRF => true,
-    }
-}
+// ---- how many numbers
 
 // How many numbers stand in A or B, and how many should.
 fn numbers(size: Size) -> usize
@@ -101,32 +33,12 @@ fn wanted(mode: Mode, format: Format) -> usize
         Format::FF => 2,
         Format::FU => 1,
         Format::FV => {
-            if selects(mode) {
+            if terms::selects(mode) {
                 return 2;
             }
             1
         }
         Format::FS => 1,
-    }
-}
-
-// n, or 0 where one number stands.
-pub fn record_length(size: Size) -> usize
-    ensures { λ r. ⌜ r ≡ recordLength (sizeOf size) ⌝ }
-{
-    match size {
-        Size::Two { n, m: _ } => n,
-        Size::One { g: _ } => 0,
-    }
-}
-
-// m, or the single number.
-pub fn block_length(size: Size) -> usize
-    ensures { λ r. ⌜ r ≡ blockLength (sizeOf size) ⌝ }
-{
-    match size {
-        Size::Two { n: _, m } => m,
-        Size::One { g } => g,
     }
 }
 
@@ -136,10 +48,10 @@ pub fn block_length(size: Size) -> usize
 fn copies(mode: Mode, format: Format, first: usize) -> bool
     ensures { λ r. ⌜ r ≡ copyLines (modeOf mode) (formatOf format) first ⌝ }
 {
-    if is_tc(mode) {
+    if terms::is_tc(mode) {
         return first == 1;
     }
-    !is_fu(format)
+    !terms::is_fu(format)
 }
 
 // FF: two numbers each. FU and FS: one. FV: two with TF or TRF, else one.
@@ -157,8 +69,8 @@ fn counts(mode: Mode, format: Format, a: Size, b: Size) -> bool
 fn equal(a: Size, b: Size) -> bool
     ensures { λ r. ⌜ r ≡ lengthsEqual (sizeOf a) (sizeOf b) ⌝ }
 {
-    if record_length(a) == record_length(b) {
-        return block_length(a) == block_length(b);
+    if terms::record_length(a) == terms::record_length(b) {
+        return terms::block_length(a) == terms::block_length(b);
     }
     false
 }
@@ -199,20 +111,20 @@ fn by_format(mode: Mode, format: Format, a: Size, b: Size) -> bool
     requires { ⌜ countLine (modeOf mode) (formatOf format) (sizeOf a) (sizeOf b) ≡ true ⌝ }
     ensures { λ r. ⌜ r ≡ formatLines (modeOf mode) (formatOf format) (sizeOf a) (sizeOf b) ⌝ }
 {
-    let n = record_length(a);
-    let m = block_length(a);
-    let n2 = record_length(b);
-    let m2 = block_length(b);
+    let n = terms::record_length(a);
+    let m = terms::block_length(a);
+    let n2 = terms::record_length(b);
+    let m2 = terms::block_length(b);
     match format {
         Format::FF => return fixed(mode, n, m, n2, m2),
         Format::FU => return true,
         Format::FV => {
-            if selects(mode) {
+            if terms::selects(mode) {
                 return roomy(n, m, n2, m2);
             }
             return true;
         }
-        Format::FS => return !selects(mode),
+        Format::FS => return !terms::selects(mode),
     }
 }
 
@@ -220,7 +132,7 @@ fn by_format(mode: Mode, format: Format, a: Size, b: Size) -> bool
 fn copied(mode: Mode, a: Size, b: Size) -> bool
     ensures { λ r. ⌜ r ≡ copyEqual (modeOf mode) (sizeOf a) (sizeOf b) ⌝ }
 {
-    if is_tc(mode) {
+    if terms::is_tc(mode) {
         return equal(a, b);
     }
     true
@@ -230,7 +142,7 @@ fn copied(mode: Mode, a: Size, b: Size) -> bool
 fn carded(mode: Mode, fs: usize) -> bool
     ensures { λ r. ⌜ r ≡ cardLine (modeOf mode) fs ⌝ }
 {
-    if selects(mode) {
+    if terms::selects(mode) {
         return fs != 0;
     }
     true
@@ -263,10 +175,10 @@ fn keys_allowed(mode: Mode, format: Format, key: usize) -> bool
     if key == 0 {
         return true;
     }
-    if !selects(mode) {
+    if !terms::selects(mode) {
         return false;
     }
-    is_ff(format)
+    terms::is_ff(format)
 }
 
 // All that the U card is asked.
@@ -288,7 +200,7 @@ fn right(asked: Asked) -> bool
 fn cards_allowed(mode: Mode, fs: usize) -> bool
     ensures { λ r. ⌜ r ≡ (ruleSelects (modeOf mode) || eqb fs 0) ⌝ }
 {
-    if selects(mode) {
+    if terms::selects(mode) {
         return true;
     }
     fs == 0
@@ -298,7 +210,7 @@ fn cards_allowed(mode: Mode, fs: usize) -> bool
 fn cv_fault(format: Format, cv: usize) -> usize
     ensures { λ r. ⌜ r ≡ cvFault (formatOf format) cv ⌝ }
 {
-    if is_fv(format) {
+    if terms::is_fv(format) {
         return 0;
     }
     cv
@@ -389,7 +301,11 @@ pub fn combine(asked: Asked, fields: &[u16]) -> Combined
     }
     let input = asked.input;
     let output = asked.output;
-    let field = first_outside(fields, record_length(input), record_length(output));
+    let field = first_outside(
+        fields,
+        terms::record_length(input),
+        terms::record_length(output),
+    );
     if field != 0 {
         return Combined::Outside { field };
     }

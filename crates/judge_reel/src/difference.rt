@@ -127,7 +127,7 @@ pub(crate) fn explain(deck: &[u8], asked: Asked, fields: &[u16], ours: &[u8], th
 {
     say(b"differs");
     let mode = asked.mode;
-    if combinations::selects(mode) {
+    if terms::selects(mode) {
         say_selected(deck, asked, fields, ours, theirs);
     } else {
         say_byte(deck, asked, fields, ours, theirs);

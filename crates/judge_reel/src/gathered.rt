@@ -37,7 +37,7 @@ fn piece_at(form: Form, b: &[u8], at: usize) -> PieceRead
     ensures { λ r. ⌜ further at (length (now (b .entry))) r ⌝ }
 {
     let format = form.format;
-    if combinations::is_fs(format) {
+    if terms::is_fs(format) {
         return pieces::segment(b, Cursor { at });
     }
     pieces::piece(form, b, Cursor { at })

@@ -24,7 +24,7 @@ fn tail_kept(format: Format, cv: usize, n: usize, m: usize) -> bool
     requires { ⌜ n ≤ 4096 ⌝ }
     ensures { λ r. ⌜ r ≡ tailOf (formatOf format) cv n m ⌝ }
 {
-    if !combinations::is_fv(format) {
+    if !terms::is_fv(format) {
         return true;
     }
     if cv != 0 {
@@ -51,13 +51,13 @@ fn by_halves(asked: Asked, fields: &[u16]) -> Verdict
     ensures { λ r. ⌜ Judges asked (now (fields .entry)) r ⌝ }
 {
     let mode = asked.mode;
-    if !combinations::selects(mode) {
+    if !terms::selects(mode) {
         return Verdict::Keeping;
     }
     let input = asked.input;
     let output = asked.output;
-    let n = combinations::record_length(input);
-    let weighed = keeping::weigh(fields, n, combinations::record_length(output));
+    let n = terms::record_length(input);
+    let weighed = keeping::weigh(fields, n, terms::record_length(output));
     let format = asked.format;
     match weighed {
         Weighed::Barren { half } => Verdict::Refused {
@@ -65,7 +65,7 @@ fn by_halves(asked: Asked, fields: &[u16]) -> Verdict
             place: half,
         },
         Weighed::Lost { half } => Verdict::Losing { half },
-        Weighed::Kept => by_tail(format, asked.cv, n, combinations::block_length(input)),
+        Weighed::Kept => by_tail(format, asked.cv, n, terms::block_length(input)),
     }
 }
 

@@ -101,7 +101,7 @@ pub fn loss(plan: Planned) {
     if plan.keeping == 0 {
         let asked = plan.asked;
         let input = asked.input;
-        lost(combinations::record_length(input), asked.key, plan.lost);
+        lost(terms::record_length(input), asked.key, plan.lost);
         say(b"'./bhexodana twins DECK' shows two such records\n");
     }
 }

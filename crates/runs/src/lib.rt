@@ -51,10 +51,10 @@ pub fn task_of(asked: Asked) -> Task
     Task {
         mode,
         format,
-        n: combinations::record_length(input),
-        m: combinations::block_length(input),
-        width: combinations::record_length(output),
-        limit: combinations::block_length(output),
+        n: terms::record_length(input),
+        m: terms::block_length(input),
+        width: terms::record_length(output),
+        limit: terms::block_length(output),
         cost: cost(format),
         first: asked.first,
         carries: carries(asked.cv),
@@ -98,13 +98,13 @@ pub fn run_plan(asked: Asked, fields: &[u16], s: &[u8], out: &mut [u8]) -> Ran
     ensures output { λ _. ⌜ now (out .exit) ≡ outputAfter (now (out .entry)) (conversion (length (now (out .entry))) (planIn zoneF asked (fieldsIn (now (fields .entry)))) (now (s .entry))) ⌝ }
 {
     let format = asked.format;
-    if combinations::is_fs(format) {
+    if terms::is_fs(format) {
         let mode = asked.mode;
         let input = asked.input;
         let output = asked.output;
-        let copies = combinations::is_tc(mode);
-        let g = combinations::block_length(input);
-        let m = combinations::block_length(output);
+        let copies = terms::is_tc(mode);
+        let g = terms::block_length(input);
+        let m = terms::block_length(output);
         return spans::run_spanned(copies, g, m, asked.first, s, out);
     }
     let task = task_of(asked);

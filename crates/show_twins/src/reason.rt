@@ -57,7 +57,7 @@ fn covered(deck: &[u8], key: usize, fields: &[u16], lost: usize) {
 fn tail(asked: Asked) {
     let input = asked.input;
     say(b"the tail, all data past the first ");
-    number(combinations::record_length(input));
+    number(terms::record_length(input));
     say(b" bytes, is dropped: CV is not given");
 }
 

@@ -16,7 +16,7 @@ pub fn form_of(task: Task) -> Form
         format,
         n: task.n,
         m: task.m,
-        selects: combinations::selects(mode),
+        selects: terms::selects(mode),
     }
 }
 
@@ -30,7 +30,7 @@ pub fn form_under(task: Task) -> Form
         format,
         n: task.width,
         m: task.limit,
-        selects: combinations::selects(mode),
+        selects: terms::selects(mode),
     }
 }
 

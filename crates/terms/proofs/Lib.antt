@@ -1,3 +1,4 @@
 pub mod PlanOf
 pub mod Entries
 pub mod Laid
+pub mod CaseLaws

@@ -1,4 +1,7 @@
-// What cards name, as types that every floor above shares. No function.
+// What cards name, as types that every floor above shares, and what their cases say: each floor asks it by the same function.
+ghost use mathlib.Core.Path.{_≡_};
+ghost use Rattle.rules.specs.Plan.{isTC, selects as ruleSelects, isFF, isFV, isFU, isFS, recordLength, blockLength};
+ghost use Rattle.terms.specs.Meaning.{modeOf, formatOf, sizeOf};
 
 // T: copy, field select, reblock, both.
 pub enum Mode {
@@ -91,4 +94,94 @@ pub struct Entry {
     pub input: u16,
     pub output: u16,
     pub t: u16,
+}
+
+// ---- what the cases say
+
+pub fn is_tc(mode: Mode) -> bool
+    ensures { λ r. ⌜ r ≡ isTC (modeOf mode) ⌝ }
+{
+    match mode {
+        Mode::TC => true,
+        Mode::TF => false,
+        Mode::TR => false,
+        Mode::TRF => false,
+    }
+}
+
+pub fn is_ff(format: Format) -> bool
+    ensures { λ r. ⌜ r ≡ isFF (formatOf format) ⌝ }
+{
+    match format {
+        Format::FF => true,
+        Format::FV => false,
+        Format::FU => false,
+        Format::FS => false,
+    }
+}
+
+pub fn is_fu(format: Format) -> bool
+    ensures { λ r. ⌜ r ≡ isFU (formatOf format) ⌝ }
+{
+    match format {
+        Format::FF => false,
+        Format::FV => false,
+        Format::FU => true,
+        Format::FS => false,
+    }
+}
+
+pub fn is_fv(format: Format) -> bool
+    ensures { λ r. ⌜ r ≡ isFV (formatOf format) ⌝ }
+{
+    match format {
+        Format::FF => false,
+        Format::FV => true,
+        Format::FU => false,
+        Format::FS => false,
+    }
+}
+
+// Spanned records (document 02, order 6).
+pub fn is_fs(format: Format) -> bool
+    ensures { λ r. ⌜ r ≡ isFS (formatOf format) ⌝ }
+{
+    match format {
+        Format::FF => false,
+        Format::FV => false,
+        Format::FU => false,
+        Format::FS => true,
+    }
+}
+
+// TF or TRF.
+pub fn selects(mode: Mode) -> bool
+    ensures { λ r. ⌜ r ≡ ruleSelects (modeOf mode) ⌝ }
+{
+    match mode {
+        Mode::TC => false,
+        Mode::TF => true,
+        Mode::TR => false,
+        Mode::TRF => true,
+    }
+}
+
+// n, or 0 where one number stands.
+pub fn record_length(size: Size) -> usize
+    ensures { λ r. ⌜ r ≡ recordLength (sizeOf size) ⌝ }
+{
+    match size {
+        Size::Two { n, m: _ } => n,
+        Size::One { g: _ } => 0,
+    }
+}
+
+// m, or the single number.
+pub fn block_length(size: Size) -> usize
+    ensures { λ r. ⌜ r ≡ blockLength (sizeOf size) ⌝ }
+{
+    match size {
+        Size::Two { n: _, m } => m,
+        Size::One { g } => g,
+    }
 }

@@ -155,7 +155,7 @@ fn why(asked: Asked, fields: &[u16], lost: usize) -> usize
     ensures { λ r. ⌜ r ≡ reasonFor (planIn zoneF asked (fieldsIn (now (fields .entry)))) ⌝ }
 {
     let input = asked.input;
-    if lost == 2 * combinations::record_length(input) {
+    if lost == 2 * terms::record_length(input) {
         return 4;
     }
     reason(fields, lost)
@@ -168,7 +168,7 @@ fn show(asked: Asked, fields: &[u16], lost: usize, out: &mut [u8]) -> Twins
     ensures { λ r. ⌜ ShownInto (planIn zoneF asked (fieldsIn (now (fields .entry)))) (now (out .entry)) r (now (out .exit)) ⌝ }
 {
     let input = asked.input;
-    let n = combinations::record_length(input);
+    let n = terms::record_length(input);
     let length = needed(n, lost);
     if out.len() < length {
         return refused(15, length, 0);

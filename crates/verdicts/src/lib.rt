@@ -128,11 +128,11 @@ fn judge_plan(asked: Asked, fields: &[u16], ours: &[u8], theirs: &[u8]) -> Judge
     ensures { λ r. ⌜ r ≡ judgedOf (judgeAnswer (judgement (planIn zoneF asked (fieldsIn (now (fields .entry)))) (now (ours .entry)) (now (theirs .entry)))) ⌝ }
 {
     let format = asked.format;
-    if combinations::is_fs(format) {
+    if terms::is_fs(format) {
         let input = asked.input;
         let output = asked.output;
-        let g = combinations::block_length(input);
-        let m = combinations::block_length(output);
+        let g = terms::block_length(input);
+        let m = terms::block_length(output);
         return in_spans(g, m, asked.first, ours, theirs);
     }
     let task = runs::task_of(asked);

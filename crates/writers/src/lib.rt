@@ -21,7 +21,7 @@ fn put_data(task: Task, fields: &[u16], covered: bool, record: &[u8], out: &mut 
     ensures { λ _. ⌜ DataPut task (now (fields .entry)) (now («record» .entry)) (now (out .entry)) (now (out .exit)) ⌝ }
 {
     let mode = task.mode;
-    if combinations::selects(mode) {
+    if terms::selects(mode) {
         records::put_record(
             fields,
             task.n,
