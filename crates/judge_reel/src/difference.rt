@@ -109,7 +109,7 @@ fn say_over(
 fn say_selected(deck: &[u8], asked: Asked, fields: &[u16], ours: &[u8], theirs: &[u8])
     requires { ⌜ PlanFair asked (now fields) ⌝ }
 {
-    let task = runs::task_of(asked);
+    let task = tasks::task_of(asked);
     let mut copy = gathered::record_room();
     let m = files::put(&mut copy, 0, theirs);
     if ours.len() < task.n {

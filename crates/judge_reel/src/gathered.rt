@@ -22,14 +22,12 @@ pub(crate) struct Gathered {
     pub(crate) length: usize,
 }
 
-// Where the pieces of a block begin.
+// Where the pieces of a block begin: in FS too behind a word of 4 bytes.
 fn first_place(format: Format) -> usize {
-    match format {
-        Format::FF => 0,
-        Format::FV => 4,
-        Format::FU => 0,
-        Format::FS => 4,
+    if terms::is_fs(format) {
+        return 4;
     }
+    terms::cost(format)
 }
 
 // What stands at a place of a block: a record, in FS a segment.

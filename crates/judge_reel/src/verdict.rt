@@ -22,7 +22,7 @@ fn say_many(count: usize, name: &[u8]) {
 // Says that theirs is true, and what the plan loses: where it loses, other inputs may have the same conversion.
 pub(crate) fn yes(plan: Planned, theirs: &[u8]) {
     let asked = plan.asked;
-    let task = runs::task_of(asked);
+    let task = tasks::task_of(asked);
     let mut nothing = gathered::record_room();
     let found = gathered::gather(tasks::form_under(task), theirs, 0, &mut nothing);
     say(b"theirs is a true conversion of ours, of ");
@@ -87,7 +87,7 @@ fn say_counts(ours: usize, theirs: usize) {
 fn say_pair(deck: &[u8], asked: Asked, fields: &[u16], ours: &[u8], theirs: &[u8])
     requires { ⌜ PlanFair asked (now fields) × (length (now ours) ≤ 65536) ⌝ }
 {
-    let n = tasks::output_length(runs::task_of(asked), ours.len());
+    let n = tasks::output_length(tasks::task_of(asked), ours.len());
     if n == theirs.len() {
         difference::explain(deck, asked, fields, ours, theirs);
         return;
@@ -109,7 +109,7 @@ pub(crate) fn no(
 )
     requires { ⌜ PlanFair asked (now fields) ⌝ }
 {
-    let task = runs::task_of(asked);
+    let task = tasks::task_of(asked);
     let before = passed(asked.first);
     let place = in_input(before, apart);
     let mut room = gathered::record_room();

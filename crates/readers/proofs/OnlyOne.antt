@@ -8,14 +8,10 @@ use native.Mathlib.Omega.{arith}
 use lib.ListN.{length, take, drop, length-drop}
 use Rattle.rules.specs.Reader.{Reader, number}
 use Rattle.rules.specs.Halves.{Kind as RuleKind, copy, pack, unpack, inputSize, outputSize, Field as RuleField}
-use Rattle.rules.specs.Grammar.{Mode as RuleMode, tc, tf, tr, trf, Format as RuleFormat, ff, fv, fu, fsp, Size as RuleSize, two, one, Input as RuleInput, plain, keyed, Parameter as RuleParameter, modeIs, formatIs, inputIs, outputIs, rewindIn, rewindOut, firstIs, Part as RulePart, inData, inKey, CardField, field, cv, parameter, item}
+use Rattle.rules.specs.Grammar.{Size as RuleSize, two, one, Input as RuleInput, plain, keyed, Parameter as RuleParameter, modeIs, formatIs, inputIs, outputIs, rewindIn, rewindOut, firstIs, Part as RulePart, inData, inKey, CardField, field, cv, parameter, item}
 use Rattle.rules.specs.Words.{numberColumns}
 use Rattle.rules.proofs.ReaderLaws.{not-read, read-value, read-left}
-use Rattle.terms.specs.Meaning.{modeOf, formatOf, sizeOf, inputOf, kindOf, fieldOf, partOf, cardField}
-use Rattle.terms.specs.declared.Mode.{Mode}
-use Rattle.terms.specs.declared.Mode.the-variants.{TC, TF, TR, TRF}
-use Rattle.terms.specs.declared.Format.{Format}
-use Rattle.terms.specs.declared.Format.the-variants.{FF, FV, FU, FS}
+use Rattle.terms.specs.Meaning.{sizeOf, inputOf, kindOf, fieldOf, partOf, cardField}
 use Rattle.terms.specs.declared.Size.{Size}
 use Rattle.terms.specs.declared.Size.the-variants.{Two, One}
 use Rattle.terms.specs.declared.Input.{Input}
@@ -25,6 +21,7 @@ use Rattle.terms.specs.declared.Part.the-variants.{Data, Key}
 use Rattle.terms.specs.declared.Kind.{Kind}
 use Rattle.terms.specs.declared.Kind.the-variants.{Copy, Pack, Unpack}
 use Rattle.terms.specs.declared.Field.{Field}
+use Rattle.terms.proofs.BackLaws.{modeBack, mode-back, formatBack, format-back}
 use Rattle.readers.specs.Meaning.{Reads, Stops, NumberSays, secondIn, placesIn, parameterOf, ParameterSays, OneSize, ItemSays}
 use Rattle.readers.specs.declared.NumberRead.{NumberRead}
 use Rattle.readers.specs.declared.NumberRead.the-variants.{IsNumber, NoNumber}
@@ -65,30 +62,6 @@ number-only-one s (NoNumber n) (IsNumber w m) r q = absurd (not-both number s w 
 number-only-one s (NoNumber n) (NoNumber m) r q = ap NoNumber (one-stop number s n m r q)
 
 -- ---- a parameter
-
-abbrev modeBack : RuleMode → Mode
-modeBack tc = TC
-modeBack tf = TF
-modeBack tr = TR
-modeBack trf = TRF
-
-mode-back : (m : Mode) → modeBack (modeOf m) ≡ m
-mode-back TC = refl
-mode-back TF = refl
-mode-back TR = refl
-mode-back TRF = refl
-
-abbrev formatBack : RuleFormat → Format
-formatBack ff = FF
-formatBack fv = FV
-formatBack fu = FU
-formatBack fsp = FS
-
-format-back : (f : Format) → formatBack (formatOf f) ≡ f
-format-back FF = refl
-format-back FV = refl
-format-back FU = refl
-format-back FS = refl
 
 abbrev sizeBack : RuleSize → Size
 sizeBack (two n m) = Two n m

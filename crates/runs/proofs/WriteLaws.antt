@@ -2,14 +2,14 @@
 -- finished run, and since no refusal has the number 0.
 use mathlib.Core.Path.{_≡_, refl, ap, sym, _∙_, subst}
 use mathlib.Core.Bool.{Bool, true, false}
-use mathlib.Core.List.{List, []}
+use mathlib.Core.List.{List}
 use Prim.Native.Nat.{ℕ, _≤_, _<_}
 use native.Mathlib.Omega.{arith}
 use lib.ListN.{length}
 use Rattle.rules.specs.Answer.{Answer, fine, refuse}
 use Rattle.rules.specs.Places.{All, Byte}
-use Rattle.rules.specs.Grammar.{Mode as RuleMode, tc, tf, tr, trf, Format as RuleFormat, ff, fv, fu, fsp}
-use Rattle.rules.specs.Halves.{Field as RuleField, over}
+use Rattle.rules.specs.Grammar.{tc}
+use Rattle.rules.specs.Halves.{over}
 use Rattle.rules.specs.Reel.{reelOf}
 use Rattle.rules.specs.Plan.{Plan, isTC, isFS, blockLength}
 use Rattle.rules.specs.Run.{Ran as RuleRan, ranOf, convert, spannedRun, conversion, outputBlocks}
@@ -18,17 +18,11 @@ use Rattle.rules.proofs.Bounds.{reel-most}
 use Rattle.rules.proofs.BlocksOutcome.{reads-give}
 use Rattle.rules.proofs.CopyLaws.{copy-reel}
 use Rattle.rules.proofs.RunParts.{Finished, finished}
-use Rattle.rules.proofs.SpannedOut.{low-B, most-A, most-B}
 use Rattle.rules.proofs.RunColumns.{Refuses, refuses-convert}
 use Rattle.terms.specs.declared.Asked.{Asked}
 use Rattle.terms.specs.declared.Task.{Task}
-use Rattle.terms.specs.declared.Mode.{Mode}
-use Rattle.terms.specs.declared.Mode.the-variants.{TC, TF, TR, TRF}
-use Rattle.terms.specs.declared.Format.{Format}
-use Rattle.terms.specs.declared.Format.the-variants.{FF, FV, FU, FS}
-use Rattle.terms.specs.Meaning.{modeOf, formatOf, sizeOf, planIn, TaskIs}
+use Rattle.terms.specs.Meaning.{modeOf, formatOf, sizeOf, planIn}
 use Rattle.rows.specs.Kept.{fieldsIn}
-use Rattle.rows.specs.Fair.{PlanFair}
 use Rattle.fixed.specs.Promise.{blocksIn, Lent}
 use Rattle.writers.specs.Promise.{ReelPut}
 use Rattle.outcomes.specs.declared.Ran.{Ran}
@@ -127,14 +121,6 @@ module _ {task : Task} {fields s : List ℕ} (old : List ℕ) {r : Ran} (h : Che
             k .is p (w .0) (w .1) ∙ ap (outputAfter old) (sym (w .1 .finishes));
       }
 
--- ---- the plan of a struct and a row
-
--- the row is lent as it is: it is just the numbers of the plan's fields
-pub given-plan : {asked : Asked} {row : List ℕ} → PlanFair asked row → isFS (formatOf (asked .format)) ≡ false → (task : Task) → ((fs : List RuleField) → TaskIs task (planIn zoneF asked fs))
-    → Given task row (planIn zoneF asked (fieldsIn row))
-unfolding planIn
-given-plan {asked} {row} ok plain task is = record { is = is (fieldsIn row); accepted = ok .accepted; plain = plain; flat = ok .flat; zone = refl }
-
 -- ---- block by block, or in FS
 
 module _ (asked : Asked) (row : List ℕ) where
@@ -151,63 +137,9 @@ module _ (asked : Asked) (row : List ℕ) where
   unfolding conversion planIn
   by-spans e c g m is-c is-g is-m room s = rw (is-c, is-g, is-m, e) refl
 
-  -- the numbers of A, B and R
-  pub spans-fair : PlanFair asked row → isFS (formatOf (asked .format)) ≡ true
-      → (9 ≤ blockLength (sizeOf (asked .output))) × (blockLength (sizeOf (asked .output)) < 65536) × (blockLength (sizeOf (asked .input)) < 65536) × (1 ≤ asked .first) × (asked .first ≤ 65536)
-  unfolding planIn
-  spans-fair ok e =
-      let w = ok .accepted in
-      (low-B q w e, omega (arith, most-B q w e), omega (arith, most-A q w e), w .first .0, w .first .1)
-
 -- ---- one outcome
 
 pub only-one : (p : Plan) (s old : List ℕ) (x y : Ran) (new new′ : List ℕ)
     → (x ≡ ranStruct (runAnswer (conversion (length old) p s))) × (new ≡ outputAfter old (conversion (length old) p s))
     → (y ≡ ranStruct (runAnswer (conversion (length old) p s))) × (new′ ≡ outputAfter old (conversion (length old) p s)) → (x ≡ y) × (new ≡ new′)
 only-one p s old x y new new′ h k = (h .0 ∙ sym (k .0), h .1 ∙ sym (k .1))
-
--- the numbers of a plan are those of one task
-mode-back : RuleMode → Mode
-mode-back tc = TC
-mode-back tf = TF
-mode-back tr = TR
-mode-back trf = TRF
-
-format-back : RuleFormat → Format
-format-back ff = FF
-format-back fv = FV
-format-back fu = FU
-format-back fsp = FS
-
-mode-same : (m : Mode) → mode-back (modeOf m) ≡ m
-unfolding mode-back
-mode-same TC = refl
-mode-same TF = refl
-mode-same TR = refl
-mode-same TRF = refl
-
-format-same : (f : Format) → format-back (formatOf f) ≡ f
-unfolding format-back
-format-same FF = refl
-format-same FV = refl
-format-same FU = refl
-format-same FS = refl
-
-pub task-only-one : (asked : Asked) (x y : Task) → ((fs : List RuleField) → TaskIs x (planIn zoneF asked fs)) → ((fs : List RuleField) → TaskIs y (planIn zoneF asked fs)) → x ≡ y
-task-only-one asked x y a b =
-    let u = a [] in
-    let v = b [] in
-    let mode : x .mode ≡ y .mode = sym (mode-same (x .mode)) ∙ ap mode-back (u .mode ∙ sym (v .mode)) ∙ mode-same (y .mode) in
-    let format : x .format ≡ y .format = sym (format-same (x .format)) ∙ ap format-back (u .format ∙ sym (v .format)) ∙ format-same (y .format) in
-    λ i.
-    record {
-      mode = mode i;
-      format = format i;
-      n = (u .n ∙ sym (v .n)) i;
-      m = (u .m ∙ sym (v .m)) i;
-      width = (u .width ∙ sym (v .width)) i;
-      limit = (u .limit ∙ sym (v .limit)) i;
-      cost = (u .costs ∙ sym (v .costs)) i;
-      first = (u .first ∙ sym (v .first)) i;
-      carries = (u .carries ∙ sym (v .carries)) i;
-    }

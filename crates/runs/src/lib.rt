@@ -1,15 +1,10 @@
 // The run of an accepted plan over a reel, into a lent output: nothing is written before everything is checked. Document 01, "Blocks and records" and
 // "Refusal numbers".
 ghost use mathlib.Core.Path.{_≡_};
-ghost use mathlib.Core.Bool.{not};
-ghost use mathlib.Core.List.{List};
-ghost use lib.Dec.{eqb};
 ghost use lib.ListN.{length};
-ghost use Rattle.rules.specs.Halves.{Field as RuleField};
-ghost use Rattle.rules.specs.Output.{cost as costOf};
 ghost use Rattle.rules.specs.Run.{conversion};
 ghost use Rattle.rules.specs.Lent.{zoneF, runAnswer, outputAfter};
-ghost use Rattle.terms.specs.Meaning.{formatOf, planIn, TaskIs};
+ghost use Rattle.terms.specs.Meaning.{planIn};
 ghost use Rattle.rows.specs.Kept.{fieldsIn};
 ghost use Rattle.rows.specs.Fair.{PlanFair};
 ghost use Rattle.outcomes.specs.Promise.{ranStruct};
@@ -17,49 +12,8 @@ ghost use Rattle.checks.specs.Promise.{GivenPlan};
 ghost use Rattle.runs.specs.Promise.{Finishing, Written, RanInto};
 use outcomes::Ran;
 use terms::Asked;
-use terms::Format;
 use terms::Mode;
 use terms::Task;
-
-// What a block, and each of its records, takes besides the data.
-fn cost(format: Format) -> usize
-    ensures { λ r. ⌜ r ≡ costOf (formatOf format) ⌝ }
-{
-    match format {
-        Format::FF => 0,
-        Format::FV => 4,
-        Format::FU => 0,
-        Format::FS => 0,
-    }
-}
-
-// Whether a card says CV.
-fn carries(cv: usize) -> bool
-    ensures { λ r. ⌜ r ≡ not (eqb cv 0) ⌝ }
-{
-    cv != 0
-}
-
-// The numbers that a run needs of the plan.
-pub fn task_of(asked: Asked) -> Task
-    ensures { λ r. ⌜ ((fs : List RuleField) → TaskIs r (planIn zoneF asked fs)) ⌝ }
-{
-    let mode = asked.mode;
-    let format = asked.format;
-    let input = asked.input;
-    let output = asked.output;
-    Task {
-        mode,
-        format,
-        n: terms::record_length(input),
-        m: terms::block_length(input),
-        width: terms::record_length(output),
-        limit: terms::block_length(output),
-        cost: cost(format),
-        first: asked.first,
-        carries: carries(asked.cv),
-    }
-}
 
 // Writes the output reel of a run that finishes. The output of TC is its input.
 fn write(task: Task, fields: &[u16], s: &[u8], blocks: usize, out: &mut [u8])
@@ -107,6 +61,6 @@ pub fn run_plan(asked: Asked, fields: &[u16], s: &[u8], out: &mut [u8]) -> Ran
         let m = terms::block_length(output);
         return spans::run_spanned(copies, g, m, asked.first, s, out);
     }
-    let task = task_of(asked);
+    let task = tasks::task_of(asked);
     run(task, fields, s, out)
 }

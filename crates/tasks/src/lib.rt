@@ -1,10 +1,45 @@
-// What the numbers of a plan say of a run: what is asked of input blocks, and how long the output of a record is. Document 01, "Blocks and records".
+// The numbers of a plan, and what they say of a run: what is asked of input blocks, and how long the output of a record is. Document 01, "Blocks and records".
 ghost use mathlib.Core.Path.{_≡_};
+ghost use mathlib.Core.Bool.{not};
+ghost use mathlib.Core.List.{List};
 ghost use Prim.Native.Nat.{_≤_};
+ghost use lib.Dec.{eqb};
+ghost use Rattle.rules.specs.Halves.{Field as RuleField};
+ghost use Rattle.rules.specs.Lent.{zoneF};
+ghost use Rattle.terms.specs.Meaning.{planIn, TaskIs};
 ghost use Rattle.tasks.specs.Promise.{formOf, formUnder, tailOf, lengthOf};
 use pieces::Form;
+use terms::Asked;
 use terms::Mode;
 use terms::Task;
+
+// Whether a card says CV.
+fn carries(cv: usize) -> bool
+    ensures { λ r. ⌜ r ≡ not (eqb cv 0) ⌝ }
+{
+    cv != 0
+}
+
+// The numbers that a run needs of the plan.
+pub fn task_of(asked: Asked) -> Task
+    ensures { λ r. ⌜ ((fs : List RuleField) → TaskIs r (planIn zoneF asked fs)) ⌝ }
+{
+    let mode = asked.mode;
+    let format = asked.format;
+    let input = asked.input;
+    let output = asked.output;
+    Task {
+        mode,
+        format,
+        n: terms::record_length(input),
+        m: terms::block_length(input),
+        width: terms::record_length(output),
+        limit: terms::block_length(output),
+        cost: terms::cost(format),
+        first: asked.first,
+        carries: carries(asked.cv),
+    }
+}
 
 // What the plan asks of input blocks.
 pub fn form_of(task: Task) -> Form

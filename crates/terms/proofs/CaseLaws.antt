@@ -3,6 +3,7 @@ use mathlib.Core.Path.{_≡_, sym, _∙_}
 use mathlib.Core.Bool.{Bool}
 use Prim.Native.Nat.{ℕ}
 use Rattle.rules.specs.Plan.{isTC, selects, isFF, isFV, isFU, isFS, recordLength, blockLength}
+use Rattle.rules.specs.Output.{cost}
 use Rattle.terms.specs.Meaning.{modeOf, formatOf, sizeOf}
 use Rattle.terms.specs.declared.Mode.{Mode}
 use Rattle.terms.specs.declared.Format.{Format}
@@ -31,3 +32,6 @@ record-length-only-one z r s e q = e ∙ sym q
 
 pub block-length-only-one : (z : Size) (r s : ℕ) → r ≡ blockLength (sizeOf z) → s ≡ blockLength (sizeOf z) → r ≡ s
 block-length-only-one z r s e q = e ∙ sym q
+
+pub cost-only-one : (f : Format) (r s : ℕ) → r ≡ cost (formatOf f) → s ≡ cost (formatOf f) → r ≡ s
+cost-only-one f r s e q = e ∙ sym q

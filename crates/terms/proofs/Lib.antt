@@ -2,3 +2,4 @@ pub mod PlanOf
 pub mod Entries
 pub mod Laid
 pub mod CaseLaws
+pub mod BackLaws

@@ -1,6 +1,7 @@
 // What cards name, as types that every floor above shares, and what their cases say: each floor asks it by the same function.
 ghost use mathlib.Core.Path.{_≡_};
 ghost use Rattle.rules.specs.Plan.{isTC, selects as ruleSelects, isFF, isFV, isFU, isFS, recordLength, blockLength};
+ghost use Rattle.rules.specs.Output.{cost as costOf};
 ghost use Rattle.terms.specs.Meaning.{modeOf, formatOf, sizeOf};
 
 // T: copy, field select, reblock, both.
@@ -183,5 +184,17 @@ pub fn block_length(size: Size) -> usize
     match size {
         Size::Two { n: _, m } => m,
         Size::One { g } => g,
+    }
+}
+
+// What a block, and each of its records, takes besides the data: in FV a word of 4 bytes, which stands before them.
+pub fn cost(format: Format) -> usize
+    ensures { λ r. ⌜ r ≡ costOf (formatOf format) ⌝ }
+{
+    match format {
+        Format::FF => 0,
+        Format::FV => 4,
+        Format::FU => 0,
+        Format::FS => 0,
     }
 }

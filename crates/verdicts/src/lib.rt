@@ -135,7 +135,7 @@ fn judge_plan(asked: Asked, fields: &[u16], ours: &[u8], theirs: &[u8]) -> Judge
         let m = terms::block_length(output);
         return in_spans(g, m, asked.first, ours, theirs);
     }
-    let task = runs::task_of(asked);
+    let task = tasks::task_of(asked);
     in_blocks(task, fields, ours, theirs)
 }
 

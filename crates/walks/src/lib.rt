@@ -31,18 +31,6 @@ pub enum RecordRead {
     End,
 }
 
-// What stands before data, of a block or a record: in FV a word of 4 bytes.
-fn first_place(format: Format) -> usize
-    ensures { λ r. ⌜ r ≡ cost (formatOf format) ⌝ }
-{
-    match format {
-        Format::FF => 0,
-        Format::FV => 4,
-        Format::FU => 0,
-        Format::FS => 0,
-    }
-}
-
 // Before the first record of the block that starts at a place, or behind the last block.
 fn block_start(form: Form, s: &[u8], word: usize, from: usize) -> Walk
     requires { ⌜ Starting form (now s) word from ⌝ }
@@ -58,7 +46,7 @@ fn block_start(form: Form, s: &[u8], word: usize, from: usize) -> Walk
         };
     }
     let format = form.format;
-    let at = from + first_place(format);
+    let at = from + terms::cost(format);
     Walk {
         word,
         at,
@@ -127,7 +115,7 @@ pub fn record(form: Form, s: &[u8], w: Walk) -> RecordRead
         return RecordRead::End;
     }
     let format = form.format;
-    let start = at + first_place(format);
+    let start = at + terms::cost(format);
     let end = record_end(form, s, at, w.end);
     let length = end - start;
     RecordRead::Record {

@@ -9,7 +9,8 @@ use Rattle.outcomes.specs.Promise.{ranStruct}
 use borrow.Author.Needs.{needs}
 use denote.Ref.{now}
 use lib.ListN.{length}
-use Rattle.runs.proofs.WriteLaws.{given-plan, by-blocks, by-spans, spans-fair}
+use Rattle.checks.proofs.GivenLaws.{given-plan, spans-fair}
+use Rattle.runs.proofs.WriteLaws.{by-blocks, by-spans}
 use Rattle.runs.proofs.run_plan.Statement.{statement}
 use Rattle.runs.proofs.run_plan.Tie as tie
 

@@ -5,7 +5,7 @@ use denote.Ref.{now}
 use Rattle.rules.specs.Lent.{zoneF}
 use Rattle.terms.specs.Meaning.{planIn}
 use Rattle.rows.specs.Kept.{fieldsIn}
-use Rattle.runs.proofs.WriteLaws.{given-plan, spans-fair}
+use Rattle.checks.proofs.GivenLaws.{given-plan, spans-fair}
 use Rattle.verdicts.proofs.DeckLaws.{spanning}
 use Rattle.verdicts.proofs.judge_plan.Statement.{statement}
 use Rattle.verdicts.proofs.judge_plan.Tie as tie

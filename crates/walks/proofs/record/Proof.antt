@@ -19,17 +19,17 @@ returns c =
     let st = c .before .before in
     told (st .args .form) (now (st .args .s)) (st .args .w) _ (st .pre) (record-none (st .args .form) (now (st .args .s)) (st .args .w) (c .if1 .taken))
 
-first-place-requires : tie.Need-first-place-requires
-first-place-requires c κs = search needs
+cost-requires : tie.Need-cost-requires
+cost-requires c κs = search needs
 
 add-start : tie.Need-add-start
-add-start c = let h = here (c .before) in omega (arith, h .starts, h .ends, c .first-place .ensures)
+add-start c = let h = here (c .before) in omega (arith, h .starts, h .ends, c .cost .ensures)
 
 record-end-requires : tie.Need-record-end-requires
 record-end-requires c κs = let h = here (c .before) in (omega (arith, h .starts, h .ends), h .ends)
 
 sub-length : tie.Need-sub-length
-sub-length c = let h = here (c .before .before) in omega (arith, h .starts, c .before .first-place .ensures, c .record-end .ensures)
+sub-length c = let h = here (c .before .before) in omega (arith, h .starts, c .before .cost .ensures, c .record-end .ensures)
 
 behind-requires : tie.Need-behind-requires
 behind-requires c κs =
@@ -41,8 +41,8 @@ returns-2 : tie.Need-returns-2
 returns-2 c =
     let st = c .before .before .before .before .before in
     told (st .args .form) (now (st .args .s)) (st .args .w) _ (st .pre)
-    (record-found (st .args .form) (now (st .args .s)) (st .args .w) _ _ _ (c .before .before .before .if1 .left) (c .before .before .first-place .ensures) (c .before .record-end .ensures)
+    (record-found (st .args .form) (now (st .args .s)) (st .args .w) _ _ _ (c .before .before .before .if1 .left) (c .before .before .cost .ensures) (c .before .record-end .ensures)
     (c .behind .ensures))
 
 pub record-spec : {M : Type 1} → statement M
-record-spec = tie.close (tie.spec returns first-place-requires add-start record-end-requires sub-length behind-requires returns-2)
+record-spec = tie.close (tie.spec returns cost-requires add-start record-end-requires sub-length behind-requires returns-2)

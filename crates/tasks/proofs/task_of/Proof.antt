@@ -2,8 +2,8 @@
 use mathlib.Core.Path.{refl}
 use Rattle.terms.specs.Meaning.{planIn}
 use borrow.Author.Needs.{needs}
-use Rattle.runs.proofs.task_of.Statement.{statement}
-use Rattle.runs.proofs.task_of.Tie as tie
+use Rattle.tasks.proofs.task_of.Statement.{statement}
+use Rattle.tasks.proofs.task_of.Tie as tie
 
 record-length-requires : tie.Need-record-length-requires
 record-length-requires c κs = search needs
