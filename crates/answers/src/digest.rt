@@ -4,18 +4,12 @@ ghost use Prim.Native.Nat.{_<_};
 // A digest stays below this prime, 2^31 - 1.
 const PRIME: usize = 2147483647;
 
-fn wide(number: u16) -> usize
-    ensures { λ r. ⌜ r < 65536 ⌝ }
-{
-    number as usize
-}
-
 // The digest of one number more.
 pub(crate) fn with(digest: usize, number: u16) -> usize
     requires { ⌜ digest < 2147483647 ⌝ }
     ensures { λ r. ⌜ r < 2147483647 ⌝ }
 {
-    (257 * digest + wide(number) + 1) % PRIME
+    (257 * digest + rows::wide(number) + 1) % PRIME
 }
 
 // The digest of one byte more.

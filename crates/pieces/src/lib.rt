@@ -12,22 +12,15 @@ ghost use Rattle.rules.specs.ReelPlaces.{wordAt};
 ghost use Rattle.pieces.specs.Pieces.{lengthOf, variableStart, startOf, fixedPiece, wordedIn, pieceOf};
 use terms::Format;
 
-// A byte as a number.
-fn wide(x: u8) -> usize
-    ensures { λ r. ⌜ (r ≡ x) × (r < 256) ⌝ }
-{
-    x as usize
-}
-
 // The big-endian 32-bit number at a place.
 pub fn word(s: &[u8], at: usize) -> usize
     requires { ⌜ at + 4 ≤ length (now s) ⌝ }
     ensures { λ r. ⌜ (r ≡ wordAt (now (s .entry)) at) × (r < 0x100000000) ⌝ }
 {
-    let a = wide(s[at]);
-    let b = wide(s[at + 1]);
-    let c = wide(s[at + 2]);
-    let d = wide(s[at + 3]);
+    let a = terms::wide(s[at]);
+    let b = terms::wide(s[at + 1]);
+    let c = terms::wide(s[at + 2]);
+    let d = terms::wide(s[at + 3]);
     a * 0x1000000 + b * 0x10000 + c * 0x100 + d
 }
 
@@ -79,7 +72,7 @@ fn length_word(b: &[u8], at: usize, low: usize, top: u8) -> LengthRead
     if left < 4 {
         return LengthRead::NoLength;
     }
-    let length = 256 * wide(b[at]) + wide(b[at + 1]);
+    let length = 256 * terms::wide(b[at]) + terms::wide(b[at + 1]);
     if length < low {
         return LengthRead::NoLength;
     }
@@ -186,7 +179,7 @@ fn variable_piece(b: &[u8], at: usize, top: u8) -> PieceRead
         LengthRead::Length { length } => {
             let place = at + 4;
             let size = length - 4;
-            let third = wide(b[at + 2]);
+            let third = terms::wide(b[at + 2]);
             let behind = at + length;
             PieceRead::Piece {
                 place,

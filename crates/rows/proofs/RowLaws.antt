@@ -160,3 +160,6 @@ field-only-one row i e g = e ∙ sym g
 
 pub clear-only-one : {x y : List ℕ} → x ≡ rowOf [] → y ≡ rowOf [] → x ≡ y
 clear-only-one e g = e ∙ sym g
+
+pub wide-only-one : (number : ℕ) {x y : ℕ} → (x ≡ number) × (x < 65536) → (y ≡ number) × (y < 65536) → x ≡ y
+wide-only-one number e g = e .0 ∙ sym (g .0)

@@ -1,7 +1,7 @@
 // The fields of a plan as a row of numbers, five to a field: 64 fields are 320 numbers of 16 bits, a quarter of what 64 fields take as structs.
 ghost use mathlib.Core.Path.{_≡_};
 ghost use mathlib.Core.List.{[], _∷_};
-ghost use Prim.Native.Nat.{_+_, _*_, _≤_};
+ghost use Prim.Native.Nat.{_+_, _*_, _≤_, _<_};
 ghost use lib.ListN.{length};
 ghost use Rattle.rules.specs.Halves.{outputSize, over};
 ghost use Rattle.rules.specs.Lent.{kindNumber};
@@ -50,10 +50,10 @@ pub fn put_numbers(row: &mut [u16; 320], at: usize, f: Field)
 }
 
 // A number of the row.
-fn wide(x: u16) -> usize
-    ensures { λ r. ⌜ r ≡ x ⌝ }
+pub fn wide(number: u16) -> usize
+    ensures { λ r. ⌜ (r ≡ number) × (r < 65536) ⌝ }
 {
-    x as usize
+    number as usize
 }
 
 // The kind that a number names.

@@ -1,7 +1,7 @@
--- What is asked of a mode, a format or a size has one answer: it is what the rules say of the case that it means.
+-- What is asked of a mode, a format, a size or a byte has one answer: it is what the rules say of the case that it means, or the byte.
 use mathlib.Core.Path.{_≡_, sym, _∙_}
 use mathlib.Core.Bool.{Bool}
-use Prim.Native.Nat.{ℕ}
+use Prim.Native.Nat.{ℕ, _<_}
 use Rattle.rules.specs.Plan.{isTC, selects, isFF, isFV, isFU, isFS, recordLength, blockLength}
 use Rattle.rules.specs.Output.{cost}
 use Rattle.terms.specs.Meaning.{modeOf, formatOf, sizeOf}
@@ -35,3 +35,6 @@ block-length-only-one z r s e q = e ∙ sym q
 
 pub cost-only-one : (f : Format) (r s : ℕ) → r ≡ cost (formatOf f) → s ≡ cost (formatOf f) → r ≡ s
 cost-only-one f r s e q = e ∙ sym q
+
+pub wide-only-one : (byte r s : ℕ) → (r ≡ byte) × (r < 256) → (s ≡ byte) × (s < 256) → r ≡ s
+wide-only-one byte r s e q = e .0 ∙ sym (q .0)

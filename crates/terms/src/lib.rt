@@ -1,5 +1,6 @@
 // What cards name, as types that every floor above shares, and what their cases say: each floor asks it by the same function.
 ghost use mathlib.Core.Path.{_≡_};
+ghost use Prim.Native.Nat.{_<_};
 ghost use Rattle.rules.specs.Plan.{isTC, selects as ruleSelects, isFF, isFV, isFU, isFS, recordLength, blockLength};
 ghost use Rattle.rules.specs.Output.{cost as costOf};
 ghost use Rattle.terms.specs.Meaning.{modeOf, formatOf, sizeOf};
@@ -197,4 +198,13 @@ pub fn cost(format: Format) -> usize
         Format::FU => 0,
         Format::FS => 0,
     }
+}
+
+// ---- numbers
+
+// A byte as a number.
+pub fn wide(byte: u8) -> usize
+    ensures { λ r. ⌜ (r ≡ byte) × (r < 256) ⌝ }
+{
+    byte as usize
 }

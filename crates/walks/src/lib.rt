@@ -83,13 +83,6 @@ fn behind(form: Form, s: &[u8], w: Walk, at: usize) -> Walk
     block_start(form, s, word + 4, at)
 }
 
-// A byte as a number.
-fn wide(x: u8) -> usize
-    ensures { λ r. ⌜ (r ≡ x) × (r < 256) ⌝ }
-{
-    x as usize
-}
-
 // Where the record at a place ends, in a block that ends at a place: in FV its word says so, which counts its own 4 bytes.
 fn record_end(form: Form, s: &[u8], at: usize, end: usize) -> usize
     requires { ⌜ at + cost (formatOf (form .format)) ≤ length (now s) ⌝ }
@@ -99,7 +92,7 @@ fn record_end(form: Form, s: &[u8], at: usize, end: usize) -> usize
     let format = form.format;
     match format {
         Format::FF => at + form.n,
-        Format::FV => at + (256 * wide(s[at]) + wide(s[at + 1])),
+        Format::FV => at + (256 * terms::wide(s[at]) + terms::wide(s[at + 1])),
         Format::FU => end,
         Format::FS => end,
     }

@@ -71,7 +71,7 @@ returns c =
     let d = e .before .before in
     let b = d .before .before in
     let a = b .before .before in
-    rw (a .kind-at .ensures, b .wide .ensures, d .wide2 .ensures, e .wide3 .ensures, c .wide4 .ensures)
+    rw (a .kind-at .ensures, b .wide .ensures .0, d .wide2 .ensures .0, e .wide3 .ensures .0, c .wide4 .ensures .0)
 
 pub field-at-spec : {M : Type 1} → statement M
 field-at-spec =
