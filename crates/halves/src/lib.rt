@@ -6,9 +6,7 @@ ghost use Rattle.rules.specs.Base.{within};
 ghost use Rattle.rules.specs.Halves.{halves, packBytes, unpackBytes};
 ghost use Rattle.rules.specs.Lent.{zoneF};
 ghost use Rattle.halves.specs.Promise.{bothAllowed, packedInto, unpackedFrom, unpackedInto};
-
-// F, which stands before each unpacked digit.
-const ZONE: u8 = 15;
+use terms::ZONE;
 
 // Whether a field that packs or unpacks may have this size.
 fn allowed(size: usize) -> bool

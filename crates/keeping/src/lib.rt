@@ -22,13 +22,13 @@ use terms::Kind;
 // value, marks begin as zeros, and what two marks both permit is their or.
 
 // All but 0 to 9.
-const DIGIT: u8 = 6;
+const DIGIT_MARK: u8 = 6;
 
 // All but A to F.
-const SIGN: u8 = 1;
+const SIGN_MARK: u8 = 1;
 
 // All but F.
-const ZONE: u8 = 3;
+const ZONE_MARK: u8 = 3;
 
 // So many output halves are looked at before an input half is looked for again.
 const BLOCK: usize = 64;
@@ -64,14 +64,20 @@ fn mark_of(f: Field, j: usize) -> u8
         Kind::Copy => 0,
         Kind::Pack => {
             if j % 2 == 1 {
-                DIGIT
+                DIGIT_MARK
             } else if j == 2 * f.input - 2 {
-                SIGN
+                SIGN_MARK
             } else {
-                ZONE
+                ZONE_MARK
             }
         }
-        Kind::Unpack => { if j == 2 * f.input - 1 { SIGN } else { DIGIT } }
+        Kind::Unpack => {
+            if j == 2 * f.input - 1 {
+                SIGN_MARK
+            } else {
+                DIGIT_MARK
+            }
+        }
     }
 }
 

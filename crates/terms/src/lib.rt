@@ -86,6 +86,9 @@ pub struct Task {
     pub carries: bool,
 }
 
+// F, the zone: what stands before each digit that is not packed.
+pub const ZONE: u8 = 15;
+
 // A field as it stands in a lent table: 0, 1 or 2 for copy, pack or unpack, 0 or 1 for one that reads data or the key, and its numbers, r as on the card and
 // for a copy its size in both places.
 #[repr(C)]

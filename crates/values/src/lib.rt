@@ -11,9 +11,7 @@ ghost use Rattle.rules.specs.Lent.{zoneF};
 ghost use Rattle.terms.specs.Meaning.{kindOf};
 ghost use Rattle.rows.specs.Flat.{kindAt, Readable};
 ghost use Rattle.values.specs.Promise.{Permits, Asks};
-
-// F, which stands before each digit that is packed.
-const ZONE: u8 = 15;
+use terms::ZONE;
 
 // The digit 0 with F before it.
 const ZERO: u8 = 16 * ZONE;
