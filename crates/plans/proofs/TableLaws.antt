@@ -12,10 +12,9 @@ use Rattle.rules.specs.Grammar.{inData, inKey, CardField}
 use Rattle.rules.specs.Halves.{Field as RuleField}
 use Rattle.rules.specs.Lent.{kindNumber, partNumber, entryOf}
 use Rattle.terms.specs.Meaning.{kindOf, fieldOf, OneSize, noField, entryFor, noEntry}
-use Rattle.terms.specs.declared.Kind.{Kind}
-use Rattle.terms.specs.declared.Kind.the-variants.{Copy, Pack, Unpack}
 use Rattle.terms.specs.declared.Field.{Field}
 use Rattle.terms.specs.declared.Entry.{Entry}
+use Rattle.terms.proofs.FieldLaws.{kind-number}
 use Rattle.rows.specs.Flat.{fieldAt}
 use Rattle.rows.specs.Kept.{fieldsIn}
 use Rattle.rows.proofs.RowLaws.{many-in, field-in}
@@ -23,12 +22,6 @@ use Rattle.combinations.proofs.OutsideLaws.{input-size, output-size}
 use Rattle.plans.specs.Promise.{partAt, placeAt, onCard, tableOf}
 
 -- ---- one entry
-
--- the number of a kind does not depend on sizes
-kind-number : (k : Kind) (input output : ℕ) → kindNumber (kindOf k 0 0) ≡ kindNumber (kindOf k input output)
-kind-number Copy input output = refl
-kind-number Pack input output = refl
-kind-number Unpack input output = refl
 
 pub entry-is : (f : Field) (key k p r : ℕ) → k ≡ kindNumber (kindOf (f .kind) 0 0) → p ≡ partAt key (f .r) → r ≡ placeAt key (f .r) → OneSize f
     → _≡_ {A = Entry} (record { kind = k; part = p; r = r; input = f .input; output = f .output; t = f .t }) (entryFor (entryOf (onCard key (fieldOf f))))

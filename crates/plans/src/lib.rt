@@ -3,13 +3,12 @@ use judges::Verdict;
 use terms::Asked;
 use terms::Entry;
 use terms::Field;
-use terms::Kind;
 ghost use mathlib.Core.Path.{_≡_};
 ghost use mathlib.Core.List.{List, [], map};
 ghost use Prim.Native.Nat.{ℕ, _*_, _≤_};
 ghost use lib.ListN.{length, take};
-ghost use Rattle.rules.specs.Lent.{kindNumber, entryOf, planInto};
-ghost use Rattle.terms.specs.Meaning.{kindOf, fieldOf, entryFor};
+ghost use Rattle.rules.specs.Lent.{entryOf, planInto};
+ghost use Rattle.terms.specs.Meaning.{fieldOf, entryFor};
 ghost use Rattle.rows.specs.Kept.{fieldsIn, rowOf};
 ghost use Rattle.combinations.specs.Promise.{FieldFair, FieldsFair};
 ghost use Rattle.judges.specs.Promise.{Asks};
@@ -92,17 +91,6 @@ pub fn plan_deck(deck: &[u8], row: &mut [u16; 320]) -> Planned
 
 // ---- entries
 
-// Copy, pack, unpack.
-fn kind_number(kind: Kind) -> u8
-    ensures { λ r. ⌜ r ≡ kindNumber (kindOf kind 0 0) ⌝ }
-{
-    match kind {
-        Kind::Copy => 0,
-        Kind::Pack => 1,
-        Kind::Unpack => 2,
-    }
-}
-
 // The part that a field of a plan reads, behind a key of so many bytes: what begins in the key is taken from it.
 fn part_number(r: usize, key: usize) -> u8
     ensures { λ x. ⌜ x ≡ partAt key r ⌝ }
@@ -129,7 +117,7 @@ fn entry(f: Field, key: usize) -> Entry
 {
     let kind = f.kind;
     Entry {
-        kind: kind_number(kind),
+        kind: terms::kind_number(kind),
         part: part_number(f.r, key),
         r: card_place(f.r, key) as u16,
         input: f.input as u16,

@@ -4,24 +4,11 @@ ghost use mathlib.Core.List.{[], _∷_};
 ghost use Prim.Native.Nat.{_+_, _*_, _≤_, _<_};
 ghost use lib.ListN.{length};
 ghost use Rattle.rules.specs.Halves.{outputSize, over};
-ghost use Rattle.rules.specs.Lent.{kindNumber};
 ghost use Rattle.terms.specs.Meaning.{fieldOf};
 ghost use Rattle.rows.specs.Flat.{flatOf, kindAt, fieldAt, Short};
 ghost use Rattle.rows.specs.Kept.{rowOf};
 use terms::Field;
 use terms::Kind;
-
-// The number of a field's kind: 0 copy, 1 pack, 2 unpack.
-fn kind_number(f: Field) -> u16
-    ensures { λ r. ⌜ r ≡ kindNumber (fieldOf f .kind) ⌝ }
-{
-    let kind = f.kind;
-    match kind {
-        Kind::Copy => 0,
-        Kind::Pack => 1,
-        Kind::Unpack => 2,
-    }
-}
 
 // How many bytes a field writes: a copy has one size.
 fn output_size(f: Field) -> usize
@@ -42,7 +29,8 @@ pub fn put_numbers(row: &mut [u16; 320], at: usize, f: Field)
     requires { ⌜ Short (fieldOf f) ⌝ }
     ensures { λ _. ⌜ now (row .exit) ≡ over at (flatOf (fieldOf f ∷ [])) (now (row .entry)) ⌝ }
 {
-    row[at] = kind_number(f);
+    let kind = f.kind;
+    row[at] = terms::kind_number(kind) as u16;
     row[at + 1] = f.r as u16;
     row[at + 2] = f.input as u16;
     row[at + 3] = output_size(f) as u16;

@@ -1,13 +1,15 @@
--- What is asked of a mode, a format, a size or a byte has one answer: it is what the rules say of the case that it means, or the byte.
+-- What is asked of a mode, a format, a size, a kind or a byte has one answer: it is what the rules say of the case that it means, or the byte.
 use mathlib.Core.Path.{_≡_, sym, _∙_}
 use mathlib.Core.Bool.{Bool}
 use Prim.Native.Nat.{ℕ, _<_}
 use Rattle.rules.specs.Plan.{isTC, selects, isFF, isFV, isFU, isFS, recordLength, blockLength}
 use Rattle.rules.specs.Output.{cost}
-use Rattle.terms.specs.Meaning.{modeOf, formatOf, sizeOf}
+use Rattle.rules.specs.Lent.{kindNumber}
+use Rattle.terms.specs.Meaning.{modeOf, formatOf, sizeOf, kindOf}
 use Rattle.terms.specs.declared.Mode.{Mode}
 use Rattle.terms.specs.declared.Format.{Format}
 use Rattle.terms.specs.declared.Size.{Size}
+use Rattle.terms.specs.declared.Kind.{Kind}
 
 pub selects-only-one : (m : Mode) (r s : Bool) → r ≡ selects (modeOf m) → s ≡ selects (modeOf m) → r ≡ s
 selects-only-one m r s e q = e ∙ sym q
@@ -35,6 +37,9 @@ block-length-only-one z r s e q = e ∙ sym q
 
 pub cost-only-one : (f : Format) (r s : ℕ) → r ≡ cost (formatOf f) → s ≡ cost (formatOf f) → r ≡ s
 cost-only-one f r s e q = e ∙ sym q
+
+pub kind-only-one : (k : Kind) (r s : ℕ) → r ≡ kindNumber (kindOf k 0 0) → s ≡ kindNumber (kindOf k 0 0) → r ≡ s
+kind-only-one k r s e q = e ∙ sym q
 
 pub wide-only-one : (byte r s : ℕ) → (r ≡ byte) × (r < 256) → (s ≡ byte) × (s < 256) → r ≡ s
 wide-only-one byte r s e q = e .0 ∙ sym (q .0)

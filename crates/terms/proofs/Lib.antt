@@ -3,3 +3,4 @@ pub mod Entries
 pub mod Laid
 pub mod CaseLaws
 pub mod BackLaws
+pub mod FieldLaws

@@ -3,7 +3,8 @@ ghost use mathlib.Core.Path.{_≡_};
 ghost use Prim.Native.Nat.{_<_};
 ghost use Rattle.rules.specs.Plan.{isTC, selects as ruleSelects, isFF, isFV, isFU, isFS, recordLength, blockLength};
 ghost use Rattle.rules.specs.Output.{cost as costOf};
-ghost use Rattle.terms.specs.Meaning.{modeOf, formatOf, sizeOf};
+ghost use Rattle.rules.specs.Lent.{kindNumber};
+ghost use Rattle.terms.specs.Meaning.{modeOf, formatOf, sizeOf, kindOf};
 
 // T: copy, field select, reblock, both.
 pub enum Mode {
@@ -200,6 +201,17 @@ pub fn cost(format: Format) -> usize
         Format::FV => 4,
         Format::FU => 0,
         Format::FS => 0,
+    }
+}
+
+// The number of what a field does: 0 copy, 1 pack, 2 unpack.
+pub fn kind_number(kind: Kind) -> u8
+    ensures { λ r. ⌜ r ≡ kindNumber (kindOf kind 0 0) ⌝ }
+{
+    match kind {
+        Kind::Copy => 0,
+        Kind::Pack => 1,
+        Kind::Unpack => 2,
     }
 }
 
