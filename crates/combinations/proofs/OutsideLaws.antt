@@ -8,7 +8,7 @@ use native.Mathlib.Omega.{arith}
 use lib.ListN.{length, drop}
 use Rattle.rules.specs.Halves.{inputSize, outputSize}
 use Rattle.rules.specs.Plan.{inside}
-use Rattle.terms.specs.Meaning.{kindOf, fieldOf}
+use Rattle.terms.specs.Meaning.{kindOf, fieldOf, OneSize}
 use Rattle.terms.specs.declared.Kind.{Kind}
 use Rattle.terms.specs.declared.Kind.the-variants.{Copy, Pack, Unpack}
 use Rattle.rows.specs.Flat.{fieldAt}
@@ -22,8 +22,8 @@ input-size Copy input output = refl
 input-size Pack input output = refl
 input-size Unpack input output = refl
 
-pub output-size : (k : Kind) (input output : ℕ) → (k ≡ Copy → input ≡ output) → outputSize (kindOf k input output) ≡ output
-output-size Copy input output e = e refl
+pub output-size : (k : Kind) (input output : ℕ) → OneSize k input output → outputSize (kindOf k input output) ≡ output
+output-size Copy input output e = sym e
 output-size Pack input output e = refl
 output-size Unpack input output e = refl
 

@@ -61,7 +61,7 @@ pub record FieldFair (f : Field) : Type 0 where
   pub output-high : f .output ≤ 4096
   pub t-low : 1 ≤ f .t
   pub t-high : f .t ≤ 4096
-  pub one-size : OneSize f
+  pub one-size : OneSize (f .kind) (f .input) (f .output)
 
 -- each field of a row
 abbrev pub FieldsFair : List ℕ → Type 0

@@ -63,7 +63,7 @@ module _ (n m : ℕ) where
         t-high = omega (arith, w .output, output-is f (fair .one-size), fair .t-low);
         input-low = fair .input-low;
         output-low = fair .output-low;
-        copies = fair .one-size;
+        one-size = fair .one-size;
       }
 
 pub fair-sound : (x : Asked) (row : List ℕ) → AskedFair x row → length row ≤ 320 → combinedOf x (fieldsIn row) ≡ fine tt

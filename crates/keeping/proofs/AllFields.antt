@@ -72,7 +72,7 @@ module _ (row : List ℕ) where
       writes = ap writesFrom same
 
       wide : outputSize (getD (fieldsIn row) k (fieldOf noField) .kind) ≡ f .output
-      wide = ap (λ (x : RuleField). outputSize (x .kind)) same ∙ output-is f (subst (FairField n m) (sym read) (fair .each k l) .copies)
+      wide = ap (λ (x : RuleField). outputSize (x .kind)) same ∙ output-is f (subst (FairField n m) (sym read) (fair .each k l) .one-size)
 
       room : readsFrom (fieldOf f) + readsMany (fieldOf f) ≤ 2 * n
       room =

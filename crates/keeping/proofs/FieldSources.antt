@@ -8,6 +8,7 @@ use Rattle.rules.specs.Lent.{zoneF}
 use Rattle.rules.proofs.SourceSteps.{copy-source, pack-last-high-source, pack-last-low-source, pack-digit-source, pack-fill-source, unpack-last-high-source, unpack-last-low-source, unpack-zone-source, unpack-digit-source, unpack-fill-source}
 use Rattle.terms.specs.Meaning.{fieldOf}
 use Rattle.terms.specs.declared.Field.{Field}
+use Rattle.terms.proofs.FieldLaws.{copy-size}
 use Rattle.terms.specs.declared.Kind.the-variants.{Copy, Pack, Unpack}
 use Rattle.keeping.specs.Marks.{numbered, nowhere, Gives}
 use Rattle.keeping.specs.Promise.{FairField}
@@ -29,7 +30,7 @@ module _ (n m : ℕ) (f : Field) (ok : FairField n m f) (j right i : ℕ) (p : j
   pub copy-gives : f .kind ≡ Copy → i ≡ 2 * f .r - 1 + j → Gives f j i
   unfolding Gives fieldOf
   copy-gives q e many room =
-      numbers i (omega (arith, ok .r-low, ok .input-low)) (copy-source zoneF (fieldOf f) many room nowhere (f .input) (kind-of f Copy q) j (i - 1) (omega (arith, ok .r-low)) (omega (arith, ok .copies q)))
+      numbers i (omega (arith, ok .r-low, ok .input-low)) (copy-source zoneF (fieldOf f) many room nowhere (f .input) (kind-of f Copy q) j (i - 1) (omega (arith, ok .r-low)) (omega (arith, copy-size (f .kind) (f .input) (f .output) q (ok .one-size))))
 
   module _ (q : f .kind ≡ Pack) where
     pub pack-low-gives : right ≡ 0 → i ≡ 2 * (f .r + f .input) - 1 - 2 → Gives f j i

@@ -1,10 +1,10 @@
 -- A field of the code, as a field of the rules: its sizes, and that it lies inside its records. By cases on what the field does.
-use mathlib.Core.Path.{_≡_, refl, ap}
+use mathlib.Core.Path.{_≡_, refl, ap, sym}
 use Prim.Native.Nat.{ℕ, _≤_}
 use native.Mathlib.Omega.{arith}
 use Rattle.rules.specs.Halves.{inputSize, outputSize}
 use Rattle.rules.specs.RecordParts.{Fits}
-use Rattle.terms.specs.Meaning.{kindOf, fieldOf}
+use Rattle.terms.specs.Meaning.{kindOf, fieldOf, OneSize}
 use Rattle.terms.specs.declared.Field.{Field}
 use Rattle.terms.specs.declared.Kind.{Kind}
 use Rattle.terms.specs.declared.Kind.the-variants.{Copy, Pack, Unpack}
@@ -23,12 +23,12 @@ input-is f = go (f .kind)
     go Pack = refl
     go Unpack = refl
 
-pub output-is : (f : Field) → (f .kind ≡ Copy → f .input ≡ f .output) → outputSize (fieldOf f .kind) ≡ f .output
+pub output-is : (f : Field) → OneSize (f .kind) (f .input) (f .output) → outputSize (fieldOf f .kind) ≡ f .output
 unfolding fieldOf
-output-is f copies = go (f .kind) copies
+output-is f one = go (f .kind) one
   where
-    go : (c : Kind) → (c ≡ Copy → f .input ≡ f .output) → outputSize (kindOf c (f .input) (f .output)) ≡ f .output
-    go Copy same = same refl
+    go : (c : Kind) → OneSize c (f .input) (f .output) → outputSize (kindOf c (f .input) (f .output)) ≡ f .output
+    go Copy same = sym same
     go Pack same = refl
     go Unpack same = refl
 
@@ -38,9 +38,9 @@ fair-fits n m f ok = record {
   r-low = ok .r-low;
   t-low = ok .t-low;
   input-low = omega (arith, input-is f, ok .input-low);
-  output-low = omega (arith, output-is f (ok .copies), ok .output-low);
+  output-low = omega (arith, output-is f (ok .one-size), ok .output-low);
   input-high = omega (arith, input-is f, ok .r-high);
-  output-high = omega (arith, output-is f (ok .copies), ok .t-high);
+  output-high = omega (arith, output-is f (ok .one-size), ok .t-high);
 }
 
 -- inside records, and so inside longer ones
@@ -52,5 +52,5 @@ fair-longer n m n′ m′ f a b ok = record {
   t-high = omega (arith, ok .t-high);
   input-low = ok .input-low;
   output-low = ok .output-low;
-  copies = ok .copies;
+  one-size = ok .one-size;
 }

@@ -8,9 +8,8 @@ use Rattle.rules.specs.Answer.{fine, _>>_, unless}
 use Rattle.rules.specs.Halves.{inputSize, outputSize, copy, pack, unpack, Kind as RuleKind}
 use Rattle.rules.specs.Plan.{Plan, recordLength, inputHalves, allowed, barrenHalf, sourcesOf, lostAt}
 use Rattle.rules.specs.Rows.{KindWithin, FieldWithin, Inside}
-use Rattle.terms.specs.Meaning.{fieldOf}
+use Rattle.terms.specs.Meaning.{fieldOf, OneSize}
 use Rattle.terms.specs.declared.Field.{Field}
-use Rattle.terms.specs.declared.Kind.the-variants.{Copy}
 use Rattle.keeping.specs.Promise.{FairField, barrenOf, lostOf, weighedOf}
 use Rattle.keeping.proofs.Fields.{input-is, output-is}
 
@@ -21,18 +20,18 @@ sizes-low (copy s) w = (w .0, w .0)
 sizes-low (pack n m) w = (w .0 .0, w .1 .0)
 sizes-low (unpack n m) w = (w .0 .0, w .1 .0)
 
-pub fair-field : (n m : ℕ) (f : Field) → FieldWithin (fieldOf f) → Inside n m (fieldOf f) → (f .kind ≡ Copy → f .input ≡ f .output) → FairField n m f
+pub fair-field : (n m : ℕ) (f : Field) → FieldWithin (fieldOf f) → Inside n m (fieldOf f) → OneSize (f .kind) (f .input) (f .output) → FairField n m f
 unfolding fieldOf
-fair-field n m f within inside copies =
+fair-field n m f within inside one =
     let low = sizes-low (fieldOf f .kind) (within .kind) in
     record {
       r-low = within .r .0;
       r-high = omega (arith, inside .input, input-is f);
       t-low = within .t .0;
-      t-high = omega (arith, inside .output, output-is f copies);
+      t-high = omega (arith, inside .output, output-is f one);
       input-low = omega (arith, low .0, input-is f);
-      output-low = omega (arith, low .1, output-is f copies);
-      copies = copies;
+      output-low = omega (arith, low .1, output-is f one);
+      one-size = one;
     }
 
 -- ---- what is answered

@@ -1,5 +1,4 @@
 -- What `weigh` promises: the lowest half with no permitted value; else whether every half is kept, or the lowest that is lost.
-use mathlib.Core.Path.{_≡_}
 use mathlib.Core.Bool.{Bool, cond}
 use mathlib.Core.List.{List}
 use Prim.Native.Nat.{ℕ, _+_, _*_, _≤_}
@@ -10,7 +9,7 @@ use Rattle.rules.specs.Halves.{Field as RuleField, sources}
 use Rattle.rules.specs.Permitted.{permitted, choices, firstOf}
 use Rattle.rules.specs.Keeping.{lostHalf}
 use Rattle.terms.specs.declared.Field.{Field}
-use Rattle.terms.specs.declared.Kind.the-variants.{Copy}
+use Rattle.terms.specs.Meaning.{OneSize}
 use Rattle.rows.specs.Flat.{fieldAt}
 use Rattle.keeping.specs.declared.Weighed.{Weighed}
 use Rattle.keeping.specs.declared.Weighed.the-variants.{Barren, Kept, Lost}
@@ -25,7 +24,7 @@ pub record FairField (n m : ℕ) (f : Field) : Type 0 where
   pub t-high : f .t + f .output ≤ m + 1
   pub input-low : 1 ≤ f .input
   pub output-low : 1 ≤ f .output
-  pub copies : f .kind ≡ Copy → f .input ≡ f .output
+  pub one-size : OneSize (f .kind) (f .input) (f .output)
 
 -- the fields of a row, at most 64, lie inside records of n and m bytes
 pub record Fair (row : List ℕ) (n m : ℕ) : Type 0 where

@@ -17,10 +17,10 @@ use Rattle.terms.specs.declared.Input.{Input}
 use Rattle.terms.specs.declared.Input.the-variants.{Plain, Keyed}
 use Rattle.terms.specs.declared.Part.{Part}
 use Rattle.terms.specs.declared.Field.{Field}
-use Rattle.terms.specs.Meaning.{kindOf, fieldOf, partOf, cardField}
+use Rattle.terms.specs.Meaning.{kindOf, fieldOf, OneSize, partOf, cardField}
 use Rattle.readers.specs.declared.Places.{Places}
 use Rattle.readers.specs.declared.UParameter.the-variants.{InputIs, OutputIs}
-use Rattle.readers.specs.Meaning.{OneSize, parameterPlaces, fieldPlaces}
+use Rattle.readers.specs.Meaning.{parameterPlaces, fieldPlaces}
 use Rattle.limits.specs.Limits.{shifted, sizePlaces, inputPlaces, mostOf, fieldOutside}
 
 -- the columns of two and of four numbers, 0 for one that is within its limits

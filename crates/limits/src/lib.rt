@@ -13,8 +13,7 @@ ghost use Prim.Native.Nat.{_-_, _≤_};
 ghost use Rattle.rules.specs.Base.{within};
 ghost use Rattle.rules.specs.Words.{outsideColumn, firstOf};
 ghost use Rattle.rules.specs.Asked.{least, sizeNumbers, inputNumbers};
-ghost use Rattle.terms.specs.Meaning.{formatOf, sizeOf, inputOf};
-ghost use Rattle.readers.specs.Meaning.{OneSize};
+ghost use Rattle.terms.specs.Meaning.{formatOf, sizeOf, inputOf, OneSize};
 ghost use Rattle.limits.specs.Limits.{Reaches, shifted, sizePlaces, inputPlaces, mostOf, fieldOutside, parameterOutside};
 
 // Whether a number is within its limits.

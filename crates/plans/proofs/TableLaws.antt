@@ -23,7 +23,7 @@ use Rattle.plans.specs.Promise.{partAt, placeAt, onCard, tableOf}
 
 -- ---- one entry
 
-pub entry-is : (f : Field) (key k p r : ℕ) → k ≡ kindNumber (kindOf (f .kind) 0 0) → p ≡ partAt key (f .r) → r ≡ placeAt key (f .r) → OneSize f
+pub entry-is : (f : Field) (key k p r : ℕ) → k ≡ kindNumber (kindOf (f .kind) 0 0) → p ≡ partAt key (f .r) → r ≡ placeAt key (f .r) → OneSize (f .kind) (f .input) (f .output)
     → _≡_ {A = Entry} (record { kind = k; part = p; r = r; input = f .input; output = f .output; t = f .t }) (entryFor (entryOf (onCard key (fieldOf f))))
 unfolding fieldOf onCard
 entry-is f key k p r e h q one =

@@ -15,11 +15,11 @@ use Rattle.rules.specs.TextParts.{numberThen, keyThen, sizesBehind, fieldBehind
 use Rattle.rules.proofs.ReaderLaws.{read-left, bind-read, text-sound}
 use Rattle.rules.proofs.NumberColumns.{columns-number}
 use Rattle.rules.proofs.ChoiceLaws.{byte-inside, mark-there, mark-not, kind-copy, item-field, item-key}
-use Rattle.terms.specs.Meaning.{kindOf, fieldOf, partOf, cardField}
+use Rattle.terms.specs.Meaning.{kindOf, OneSize, fieldOf, partOf, cardField}
 use Rattle.terms.specs.declared.Part.{Part}
 use Rattle.terms.specs.declared.Kind.{Kind}
 use Rattle.terms.specs.declared.Kind.the-variants.{Copy, Pack, Unpack}
-use Rattle.readers.specs.Meaning.{ReadsFrom, StopsFrom, Stops, numbersIn, placesIn, Sized, OneSize, kindPlaces, KindFrom, behindPlaces, fieldPlaces, ItemFrom, ItemSays}
+use Rattle.readers.specs.Meaning.{ReadsFrom, StopsFrom, Stops, numbersIn, placesIn, Sized, kindPlaces, KindFrom, behindPlaces, fieldPlaces, ItemFrom, ItemSays}
 use Rattle.readers.specs.declared.KindRead.{KindRead}
 use Rattle.readers.specs.declared.KindRead.the-variants.{IsKind, NoKind}
 use Rattle.readers.specs.declared.Places.{Places}

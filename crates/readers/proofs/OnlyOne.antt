@@ -11,7 +11,7 @@ use Rattle.rules.specs.Halves.{Kind as RuleKind, copy, pack, unpack, inputSize,
 use Rattle.rules.specs.Grammar.{Size as RuleSize, two, one, Input as RuleInput, plain, keyed, Parameter as RuleParameter, modeIs, formatIs, inputIs, outputIs, rewindIn, rewindOut, firstIs, Part as RulePart, inData, inKey, CardField, field, cv, parameter, item}
 use Rattle.rules.specs.Words.{numberColumns}
 use Rattle.rules.proofs.ReaderLaws.{not-read, read-value, read-left}
-use Rattle.terms.specs.Meaning.{sizeOf, inputOf, kindOf, fieldOf, partOf, cardField}
+use Rattle.terms.specs.Meaning.{sizeOf, inputOf, kindOf, OneSize, fieldOf, partOf, cardField}
 use Rattle.terms.specs.declared.Size.{Size}
 use Rattle.terms.specs.declared.Size.the-variants.{Two, One}
 use Rattle.terms.specs.declared.Input.{Input}
@@ -22,7 +22,7 @@ use Rattle.terms.specs.declared.Kind.{Kind}
 use Rattle.terms.specs.declared.Kind.the-variants.{Copy, Pack, Unpack}
 use Rattle.terms.specs.declared.Field.{Field}
 use Rattle.terms.proofs.BackLaws.{modeBack, mode-back, formatBack, format-back}
-use Rattle.readers.specs.Meaning.{Reads, Stops, NumberSays, secondIn, placesIn, parameterOf, ParameterSays, OneSize, ItemSays}
+use Rattle.readers.specs.Meaning.{Reads, Stops, NumberSays, secondIn, placesIn, parameterOf, ParameterSays, ItemSays}
 use Rattle.readers.specs.declared.NumberRead.{NumberRead}
 use Rattle.readers.specs.declared.NumberRead.the-variants.{IsNumber, NoNumber}
 use Rattle.readers.specs.declared.UParameter.{UParameter}

@@ -9,7 +9,7 @@ use Rattle.rules.specs.Reader.{read, stopped, Reader, isDigit, number}
 use Rattle.rules.specs.Halves.{Kind as RuleKind}
 use Rattle.rules.specs.Grammar.{Size as RuleSize, Input as RuleInput, Parameter as RuleParameter, modeIs, formatIs, inputIs, outputIs, rewindIn, rewindOut, firstIs, Item, field, cv, parameter, item}
 use Rattle.rules.specs.Words.{numberColumns}
-use Rattle.terms.specs.Meaning.{modeOf, formatOf, sizeOf, inputOf, kindOf, cardField}
+use Rattle.terms.specs.Meaning.{modeOf, formatOf, sizeOf, inputOf, kindOf, OneSize, cardField}
 use Rattle.terms.specs.declared.Size.the-variants.{Two, One}
 use Rattle.terms.specs.declared.Input.the-variants.{Plain, Keyed}
 use Rattle.terms.specs.declared.Kind.{Kind}
@@ -130,12 +130,6 @@ abbrev pub Sized : Kind → Type 0
 Sized Copy = ⊥
 Sized Pack = Unit
 Sized Unpack = Unit
-
--- a copy has one size, which stands in both places
-abbrev pub OneSize : Kind → ℕ → ℕ → Type 0
-OneSize Copy input output = output ≡ input
-OneSize Pack input output = Unit
-OneSize Unpack input output = Unit
 
 -- the places of a middle's sizes
 abbrev pub kindPlaces : Kind → ℕ → ℕ → List ℕ

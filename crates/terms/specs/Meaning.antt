@@ -77,8 +77,10 @@ unfoldable pub laid : ℕ → CardField → RuleField
 laid key f = record { r = laidAt key (f .part) (f .field .r) (inputSize (f .field .kind)); kind = f .field .kind; t = f .field .t }
 
 -- a copy has one size, which stands in both places
-abbrev pub OneSize : Field → Type 0
-OneSize f = f .kind ≡ Copy → f .input ≡ f .output
+abbrev pub OneSize : Kind → ℕ → ℕ → Type 0
+OneSize Copy input output = output ≡ input
+OneSize Pack input output = Unit
+OneSize Unpack input output = Unit
 
 -- a field that stands nowhere: what a list holds where there is no field
 abbrev pub noField : Field

@@ -24,6 +24,7 @@ use Rattle.rules.proofs.Twins.{lost-most}
 use Rattle.rules.proofs.TwinLaws.{lost-two, length-first, length-second, length-more, length-twins}
 use Rattle.rules.proofs.NextValue.{lost-next}
 use Rattle.terms.specs.Meaning.{sizeOf, fieldOf, OneSize, noField, planIn}
+use Rattle.terms.specs.declared.Field.{Field}
 use Rattle.terms.specs.declared.Asked.{Asked}
 use Rattle.rows.specs.Flat.{flatOf, fieldAt}
 use Rattle.rows.specs.Kept.{fieldFor, fieldsIn}
@@ -73,7 +74,7 @@ module _ (x : Asked) (row : List ℕ) (fair : PlanFair x row) where
             let here : k < length (fieldsIn row) = omega (arith, many-in row) in
             fair-field n m (fieldAt row k) (subst FieldWithin (field-in row d k l) (all-at d (fieldsIn row) (fair .accepted .limits) k here))
             (subst (Inside n m) (field-in row d k l) (all-at d (fieldsIn row) (fair .accepted .insides) k here))
-            (subst OneSize (sym (read-as k l)) (one-size (getD (fieldsIn row) k d)));
+            (subst (λ (f : Field). OneSize (f .kind) (f .input) (f .output)) (sym (read-as k l)) (one-size (getD (fieldsIn row) k d)));
       }
 
   pub fields-wide : Fair row 4096 4096
