@@ -6,26 +6,12 @@ use Prim.Native.Nat.{ℕ, _+_, _*_, _/_, _≤_}
 use native.Mathlib.Numerals.{add-one}
 use native.Mathlib.Omega.{arith}
 use lib.ListN.{length, drop}
-use Rattle.rules.specs.Halves.{inputSize, outputSize}
 use Rattle.rules.specs.Plan.{inside}
-use Rattle.terms.specs.Meaning.{kindOf, fieldOf, OneSize}
-use Rattle.terms.specs.declared.Kind.{Kind}
-use Rattle.terms.specs.declared.Kind.the-variants.{Copy, Pack, Unpack}
+use Rattle.terms.specs.Meaning.{fieldOf}
 use Rattle.rows.specs.Flat.{fieldAt}
 use Rattle.rows.specs.Kept.{fieldsIn}
 use Rattle.rows.proofs.RowLaws.{fields-on, fields-end}
 use Rattle.combinations.specs.Promise.{firstOutside}
-
--- the sizes that stand in a field are those of its kind
-pub input-size : (k : Kind) (input output : ℕ) → inputSize (kindOf k input output) ≡ input
-input-size Copy input output = refl
-input-size Pack input output = refl
-input-size Unpack input output = refl
-
-pub output-size : (k : Kind) (input output : ℕ) → OneSize k input output → outputSize (kindOf k input output) ≡ output
-output-size Copy input output e = sym e
-output-size Pack input output e = refl
-output-size Unpack input output e = refl
 
 -- what the fields from number i on give is what all give
 pub record Seeking (row : List ℕ) (a b i : ℕ) : Type 0 where

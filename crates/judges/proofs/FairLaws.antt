@@ -26,7 +26,7 @@ use Rattle.rows.specs.Kept.{fieldsIn}
 use Rattle.rows.proofs.RowLaws.{many-in, field-in}
 use Rattle.combinations.specs.Promise.{combinedOf, FieldFair, AskedFair}
 use Rattle.keeping.specs.Promise.{FairField, Fair}
-use Rattle.keeping.proofs.Fields.{input-is, output-is}
+use Rattle.terms.proofs.FieldLaws.{input-of, output-of}
 
 -- no FS card in TC and TR, and every field inside its records
 sound-tests : (x : Asked) (fs : List RuleField) → combinedOf x fs ≡ fine tt
@@ -58,9 +58,9 @@ module _ (n m : ℕ) where
   fair-one f fair w =
       record {
         r-low = fair .r-low;
-        r-high = omega (arith, w .input, input-is f, fair .r-low);
+        r-high = omega (arith, w .input, input-of f, fair .r-low);
         t-low = fair .t-low;
-        t-high = omega (arith, w .output, output-is f (fair .one-size), fair .t-low);
+        t-high = omega (arith, w .output, output-of f (fair .one-size), fair .t-low);
         input-low = fair .input-low;
         output-low = fair .output-low;
         one-size = fair .one-size;

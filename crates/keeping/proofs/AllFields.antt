@@ -24,7 +24,8 @@ use Rattle.rows.proofs.RowLaws.{many-in, field-in}
 use Rattle.keeping.specs.Marks.{Says, numbered, nowhere, Gives, Put, Stand}
 use Rattle.keeping.specs.Promise.{FairField, Fair}
 use Rattle.keeping.proofs.Arrays.{Met}
-use Rattle.keeping.proofs.Fields.{output-is, fair-fits}
+use Rattle.terms.proofs.FieldLaws.{output-of}
+use Rattle.keeping.proofs.Fields.{fair-fits}
 use Rattle.keeping.proofs.Meets.{says-any}
 
 module _ (row : List ℕ) where
@@ -72,7 +73,7 @@ module _ (row : List ℕ) where
       writes = ap writesFrom same
 
       wide : outputSize (getD (fieldsIn row) k (fieldOf noField) .kind) ≡ f .output
-      wide = ap (λ (x : RuleField). outputSize (x .kind)) same ∙ output-is f (subst (FairField n m) (sym read) (fair .each k l) .one-size)
+      wide = ap (λ (x : RuleField). outputSize (x .kind)) same ∙ output-of f (subst (FairField n m) (sym read) (fair .each k l) .one-size)
 
       room : readsFrom (fieldOf f) + readsMany (fieldOf f) ≤ 2 * n
       room =

@@ -14,7 +14,8 @@ use Rattle.terms.specs.declared.Kind.{Kind}
 use Rattle.terms.specs.declared.Kind.the-variants.{Copy, Pack, Unpack}
 use Rattle.keeping.specs.Marks.{markAllows, Says, askingOf, Gives, Put}
 use Rattle.keeping.specs.Promise.{FairField}
-use Rattle.keeping.proofs.Fields.{kind-of, input-is}
+use Rattle.terms.proofs.FieldLaws.{input-of}
+use Rattle.keeping.proofs.Fields.{kind-of}
 use Rattle.keeping.proofs.Meets.{or-allows}
 
 -- half h has mark b after a field, where it had mark a: it permits what both permit
@@ -41,14 +42,14 @@ module _ (n m : ℕ) (f : Field) (ok : FairField n m f) (h : ℕ) where
 
   met-above : (a : ℕ) → 2 * f .r - 2 + 2 * f .input ≤ h → Met f h a a
   unfolding Met
-  met-above a b v l = rw (allows-after zoneF (fieldOf f) v h (omega (arith, from-is, input-is f)), any-of v l)
+  met-above a b v l = rw (allows-after zoneF (fieldOf f) v h (omega (arith, from-is, input-of f)), any-of v l)
 
   pub met-inside : (j a b : ℕ) → h ≡ 2 * f .r - 2 + j → j < 2 * f .input → Says b (kindAllows zoneF (fieldOf f .kind) j) → Met f h a (bitOr a b)
   unfolding Met
   met-inside j a b e l says v s =
       ap (λ (x : ℕ). markAllows x v) (or-comm a b)
       ∙ or-allows b a v s
-      ∙ ap (λ (t : Bool). t && markAllows a v) (says v s ∙ sym (allows-inside zoneF (fieldOf f) v h j (omega (arith, from-is)) (omega (arith, input-is f))))
+      ∙ ap (λ (t : Bool). t && markAllows a v) (says v s ∙ sym (allows-inside zoneF (fieldOf f) v h j (omega (arith, from-is)) (omega (arith, input-of f))))
 
   -- a copy takes any value
   copy-allows : f .kind ≡ Copy → (v : ℕ) → v < 16 → allows zoneF (fieldOf f) h v ≡ true

@@ -1,46 +1,27 @@
--- A field of the code, as a field of the rules: its sizes, and that it lies inside its records. By cases on what the field does.
-use mathlib.Core.Path.{_≡_, refl, ap, sym}
+-- A field of the code, as a field of the rules: what it does, and that it lies inside its records. By its sizes, which are those of its kind.
+use mathlib.Core.Path.{_≡_, ap}
 use Prim.Native.Nat.{ℕ, _≤_}
 use native.Mathlib.Omega.{arith}
-use Rattle.rules.specs.Halves.{inputSize, outputSize}
 use Rattle.rules.specs.RecordParts.{Fits}
-use Rattle.terms.specs.Meaning.{kindOf, fieldOf, OneSize}
+use Rattle.terms.specs.Meaning.{kindOf, fieldOf}
 use Rattle.terms.specs.declared.Field.{Field}
 use Rattle.terms.specs.declared.Kind.{Kind}
-use Rattle.terms.specs.declared.Kind.the-variants.{Copy, Pack, Unpack}
+use Rattle.terms.proofs.FieldLaws.{input-of, output-of}
 use Rattle.keeping.specs.Promise.{FairField}
 
 pub kind-of : (f : Field) (c : Kind) → f .kind ≡ c → fieldOf f .kind ≡ kindOf c (f .input) (f .output)
 unfolding fieldOf
 kind-of f c q = ap (λ (d : Kind). kindOf d (f .input) (f .output)) q
 
-pub input-is : (f : Field) → inputSize (fieldOf f .kind) ≡ f .input
-unfolding fieldOf
-input-is f = go (f .kind)
-  where
-    go : (c : Kind) → inputSize (kindOf c (f .input) (f .output)) ≡ f .input
-    go Copy = refl
-    go Pack = refl
-    go Unpack = refl
-
-pub output-is : (f : Field) → OneSize (f .kind) (f .input) (f .output) → outputSize (fieldOf f .kind) ≡ f .output
-unfolding fieldOf
-output-is f one = go (f .kind) one
-  where
-    go : (c : Kind) → OneSize c (f .input) (f .output) → outputSize (kindOf c (f .input) (f .output)) ≡ f .output
-    go Copy same = sym same
-    go Pack same = refl
-    go Unpack same = refl
-
 pub fair-fits : (n m : ℕ) (f : Field) → FairField n m f → Fits n m (fieldOf f)
 unfolding fieldOf
 fair-fits n m f ok = record {
   r-low = ok .r-low;
   t-low = ok .t-low;
-  input-low = omega (arith, input-is f, ok .input-low);
-  output-low = omega (arith, output-is f (ok .one-size), ok .output-low);
-  input-high = omega (arith, input-is f, ok .r-high);
-  output-high = omega (arith, output-is f (ok .one-size), ok .t-high);
+  input-low = omega (arith, input-of f, ok .input-low);
+  output-low = omega (arith, output-of f (ok .one-size), ok .output-low);
+  input-high = omega (arith, input-of f, ok .r-high);
+  output-high = omega (arith, output-of f (ok .one-size), ok .t-high);
 }
 
 -- inside records, and so inside longer ones

@@ -1,24 +1,19 @@
 -- For those who weigh a plan: fields that passed refusals 7 and 9 are fair, and what is answered is refusal 10 and the lost half of the rules.
 use mathlib.Core.Path.{_≡_, refl}
 use mathlib.Core.Bool.{cond}
-use Prim.Native.Nat.{ℕ, _≤_}
+use Prim.Native.Nat.{ℕ}
 use native.Mathlib.Omega.{arith}
 use lib.Dec.{eqb}
 use Rattle.rules.specs.Answer.{fine, _>>_, unless}
-use Rattle.rules.specs.Halves.{inputSize, outputSize, copy, pack, unpack, Kind as RuleKind}
 use Rattle.rules.specs.Plan.{Plan, recordLength, inputHalves, allowed, barrenHalf, sourcesOf, lostAt}
-use Rattle.rules.specs.Rows.{KindWithin, FieldWithin, Inside}
+use Rattle.rules.specs.Rows.{FieldWithin, Inside}
+use Rattle.rules.proofs.RecordLaws.{sizes-low}
 use Rattle.terms.specs.Meaning.{fieldOf, OneSize}
+use Rattle.terms.proofs.FieldLaws.{input-of, output-of}
 use Rattle.terms.specs.declared.Field.{Field}
 use Rattle.keeping.specs.Promise.{FairField, barrenOf, lostOf, weighedOf}
-use Rattle.keeping.proofs.Fields.{input-is, output-is}
 
 -- ---- fair fields
-
-sizes-low : (c : RuleKind) → KindWithin c → (1 ≤ inputSize c) × (1 ≤ outputSize c)
-sizes-low (copy s) w = (w .0, w .0)
-sizes-low (pack n m) w = (w .0 .0, w .1 .0)
-sizes-low (unpack n m) w = (w .0 .0, w .1 .0)
 
 pub fair-field : (n m : ℕ) (f : Field) → FieldWithin (fieldOf f) → Inside n m (fieldOf f) → OneSize (f .kind) (f .input) (f .output) → FairField n m f
 unfolding fieldOf
@@ -26,11 +21,11 @@ fair-field n m f within inside one =
     let low = sizes-low (fieldOf f .kind) (within .kind) in
     record {
       r-low = within .r .0;
-      r-high = omega (arith, inside .input, input-is f);
+      r-high = omega (arith, inside .input, input-of f);
       t-low = within .t .0;
-      t-high = omega (arith, inside .output, output-is f one);
-      input-low = omega (arith, low .0, input-is f);
-      output-low = omega (arith, low .1, output-is f one);
+      t-high = omega (arith, inside .output, output-of f one);
+      input-low = omega (arith, low .0, input-of f);
+      output-low = omega (arith, low .1, output-of f one);
       one-size = one;
     }
 

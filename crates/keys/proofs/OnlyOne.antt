@@ -1,22 +1,14 @@
 -- Each promise allows one answer. That of `laid` says what the field means, which leaves open the second place of a copy's size, and that this place stays.
-use mathlib.Core.Path.{_≡_, refl, ap, sym, _∙_}
+use mathlib.Core.Path.{_≡_, ap, sym, _∙_}
 use Prim.Native.Nat.{ℕ}
 use Rattle.rules.specs.Halves.{inputSize, Field as RuleField}
 use Rattle.terms.specs.declared.Size.{Size}
 use Rattle.terms.specs.declared.Input.{Input}
 use Rattle.terms.specs.declared.Part.{Part}
-use Rattle.terms.specs.declared.Kind.{Kind}
-use Rattle.terms.specs.declared.Kind.the-variants.{Copy, Pack, Unpack}
 use Rattle.terms.specs.declared.Field.{Field}
-use Rattle.terms.specs.Meaning.{kindOf, fieldOf, cardField, laid}
-use Rattle.rows.specs.Kept.{kindFor}
-use Rattle.rows.proofs.FlatLaws.{input-of}
+use Rattle.terms.specs.Meaning.{kindFor, fieldOf, cardField, laid}
+use Rattle.terms.proofs.FieldLaws.{kind-back, input-of}
 use Rattle.keys.specs.Keys.{joinedOf, keyOf}
-
-kind-back : (k : Kind) (input output : ℕ) → kindFor (kindOf k input output) ≡ k
-kind-back Copy input output = refl
-kind-back Pack input output = refl
-kind-back Unpack input output = refl
 
 -- what a field means, and its output size, tell it
 field-once : (f g : Field) → fieldOf f ≡ fieldOf g → f .output ≡ g .output → f ≡ g

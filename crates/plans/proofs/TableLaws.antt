@@ -14,11 +14,10 @@ use Rattle.rules.specs.Lent.{kindNumber, partNumber, entryOf}
 use Rattle.terms.specs.Meaning.{kindOf, fieldOf, OneSize, noField, entryFor, noEntry}
 use Rattle.terms.specs.declared.Field.{Field}
 use Rattle.terms.specs.declared.Entry.{Entry}
-use Rattle.terms.proofs.FieldLaws.{kind-number}
+use Rattle.terms.proofs.FieldLaws.{kind-number, input-size, output-size}
 use Rattle.rows.specs.Flat.{fieldAt}
 use Rattle.rows.specs.Kept.{fieldsIn}
 use Rattle.rows.proofs.RowLaws.{many-in, field-in}
-use Rattle.combinations.proofs.OutsideLaws.{input-size, output-size}
 use Rattle.plans.specs.Promise.{partAt, placeAt, onCard, tableOf}
 
 -- ---- one entry

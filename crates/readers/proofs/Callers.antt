@@ -26,7 +26,8 @@ use Rattle.readers.specs.declared.UParameter.{UParameter}
 use Rattle.readers.specs.declared.ParameterRead.the-variants.{IsParameter}
 use Rattle.readers.specs.declared.Places.{Places}
 use Rattle.readers.specs.declared.ItemRead.the-variants.{IsField, IsCV}
-use Rattle.readers.proofs.OnlyOne.{taken-once, kind-back}
+use Rattle.terms.proofs.FieldLaws.{input-of, output-of}
+use Rattle.readers.proofs.OnlyOne.{taken-once}
 use Rattle.readers.proofs.NumberPlaces.{all-inside}
 use Rattle.readers.proofs.TextPlaces.{parameter-numbers, item-numbers}
 
@@ -129,8 +130,7 @@ pub field-small : (s : List ℕ) (part : Part) (f : Field) (p : Places) (n : ℕ
 unfolding cardField fieldOf
 field-small s part f p n q =
     let h : SmallItem (field (cardField part f)) = small-item (item-sound s (field (cardField part f)) (drop n s) (q .0 .1) .2) in
-    let e = kind-back (f .kind) (f .input) (f .output) (q .1) in
-    record { r = h .0; input = omega (arith, h .1, e .1); output = omega (arith, h .2, e .2); t = h .3 }
+    record { r = h .0; input = omega (arith, h .1, input-of f); output = omega (arith, h .2, output-of f (q .1)); t = h .3 }
 
 -- ---- where the numbers begin
 

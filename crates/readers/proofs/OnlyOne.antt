@@ -7,21 +7,20 @@ use Prim.Native.Nat.{ℕ, _≤_}
 use native.Mathlib.Omega.{arith}
 use lib.ListN.{length, take, drop, length-drop}
 use Rattle.rules.specs.Reader.{Reader, number}
-use Rattle.rules.specs.Halves.{Kind as RuleKind, copy, pack, unpack, inputSize, outputSize, Field as RuleField}
+use Rattle.rules.specs.Halves.{inputSize, outputSize, Field as RuleField}
 use Rattle.rules.specs.Grammar.{Size as RuleSize, two, one, Input as RuleInput, plain, keyed, Parameter as RuleParameter, modeIs, formatIs, inputIs, outputIs, rewindIn, rewindOut, firstIs, Part as RulePart, inData, inKey, CardField, field, cv, parameter, item}
 use Rattle.rules.specs.Words.{numberColumns}
 use Rattle.rules.proofs.ReaderLaws.{not-read, read-value, read-left}
-use Rattle.terms.specs.Meaning.{sizeOf, inputOf, kindOf, OneSize, fieldOf, partOf, cardField}
+use Rattle.terms.specs.Meaning.{sizeOf, inputOf, kindFor, OneSize, fieldOf, partOf, cardField}
 use Rattle.terms.specs.declared.Size.{Size}
 use Rattle.terms.specs.declared.Size.the-variants.{Two, One}
 use Rattle.terms.specs.declared.Input.{Input}
 use Rattle.terms.specs.declared.Input.the-variants.{Plain, Keyed}
 use Rattle.terms.specs.declared.Part.{Part}
 use Rattle.terms.specs.declared.Part.the-variants.{Data, Key}
-use Rattle.terms.specs.declared.Kind.{Kind}
-use Rattle.terms.specs.declared.Kind.the-variants.{Copy, Pack, Unpack}
 use Rattle.terms.specs.declared.Field.{Field}
 use Rattle.terms.proofs.BackLaws.{modeBack, mode-back, formatBack, format-back}
+use Rattle.terms.proofs.FieldLaws.{kind-back, input-of, output-of}
 use Rattle.readers.specs.Meaning.{Reads, Stops, NumberSays, secondIn, placesIn, parameterOf, ParameterSays, ItemSays}
 use Rattle.readers.specs.declared.NumberRead.{NumberRead}
 use Rattle.readers.specs.declared.NumberRead.the-variants.{IsNumber, NoNumber}
@@ -113,25 +112,19 @@ parameter-only-one s (NoParameter n) (NoParameter m) r q = ap NoParameter (one-s
 
 -- ---- an item
 
-abbrev pub kindBack : RuleKind → Kind
-kindBack (copy s) = Copy
-kindBack (pack n m) = Pack
-kindBack (unpack n m) = Unpack
-
-pub kind-back : (k : Kind) (input output : ℕ) → OneSize k input output
-    → (kindBack (kindOf k input output) ≡ k) × (inputSize (kindOf k input output) ≡ input) × (outputSize (kindOf k input output) ≡ output)
-kind-back Copy input output e = (refl, refl, sym e)
-kind-back Pack input output e = (refl, refl, refl)
-kind-back Unpack input output e = (refl, refl, refl)
-
 abbrev fieldBack : RuleField → Field
-fieldBack f = record { kind = kindBack (f .kind); r = f .r; input = inputSize (f .kind); output = outputSize (f .kind); t = f .t }
+fieldBack f = record { kind = kindFor (f .kind); r = f .r; input = inputSize (f .kind); output = outputSize (f .kind); t = f .t }
 
 field-back : (f : Field) → OneSize (f .kind) (f .input) (f .output) → fieldBack (fieldOf f) ≡ f
 unfolding fieldOf
 field-back f h =
-    let e = kind-back (f .kind) (f .input) (f .output) h in
-    λ i. record { kind = e .0 i; r = f .r; input = e .1 i; output = e .2 i; t = f .t }
+    λ i. record {
+      kind = kind-back (f .kind) (f .input) (f .output) i;
+      r = f .r;
+      input = input-of f i;
+      output = output-of f h i;
+      t = f .t;
+    }
 
 pub field-once : (f g : Field) → OneSize (f .kind) (f .input) (f .output) → OneSize (g .kind) (g .input) (g .output) → fieldOf f ≡ fieldOf g → f ≡ g
 field-once f g a b e = sym (field-back f a) ∙ ap fieldBack e ∙ field-back g b

@@ -13,7 +13,7 @@ use Rattle.rules.specs.Texts.{NumberText, SizeText, InputText, ParameterText, K
 use Rattle.rules.proofs.NumberLaws.{Ends, at-end, before}
 use Rattle.rules.proofs.NumberColumns.{columns-number}
 use Rattle.rules.proofs.GrammarLaws.{comma-ends, parameter-sound, item-sound}
-use Rattle.terms.specs.Meaning.{kindOf, fieldOf, cardField}
+use Rattle.terms.specs.Meaning.{kindFor, fieldOf, cardField}
 use Rattle.terms.specs.declared.Size.the-variants.{Two, One}
 use Rattle.terms.specs.declared.Input.the-variants.{Plain, Keyed}
 use Rattle.terms.specs.declared.Part.{Part}
@@ -25,7 +25,7 @@ use Rattle.readers.specs.declared.UParameter.{UParameter}
 use Rattle.readers.specs.declared.UParameter.the-variants.{ModeIs, FormatIs, InputIs, OutputIs, RewindIn, RewindOut, FirstIs}
 use Rattle.readers.specs.declared.Places.{Places}
 use Rattle.readers.proofs.NumberPlaces.{text-is}
-use Rattle.readers.proofs.OnlyOne.{kindBack}
+use Rattle.terms.proofs.FieldLaws.{kind-back}
 
 pub close-ends : (s : List ℕ) → Ends (41 ∷ s)
 close-ends s = before refl refl
@@ -146,7 +146,7 @@ start-text {w = w} (StartText.of-key {x = x} n) e =
     (3, suc (3 + length x), ap (numberColumns false 0) f ∙ columns-number 3 n (close-ends w))
 
 kind-text : (c : ℕ) {x w : List ℕ} {k : RuleKind} → KindText x k → Ends w
-    → (first : ℕ) × (second : ℕ) × (d : ℕ) × (numberColumns false c (x ++ w) ≡ kindPlaces (kindBack k) first second ++ numberColumns false d w)
+    → (first : ℕ) × (second : ℕ) × (d : ℕ) × (numberColumns false c (x ++ w) ≡ kindPlaces (kindFor k) first second ++ numberColumns false d w)
 kind-text c {w = w} (KindText.copies {x = x} n) e = (c, c, c + length x, columns-number c n e)
 kind-text c {w = w} (KindText.packs {x = a} {y = b} n m) e =
     let f : (ascii "(P," ++ a ++ ascii "," ++ b ++ ascii ")") ++ w ≡ 40 ∷ 80 ∷ 44 ∷ (a ++ 44 ∷ (b ++ 41 ∷ w)) = simp append-assoc in
@@ -168,7 +168,7 @@ kind-text c {w = w} (KindText.unpacks {x = a} {y = b} n m) e =
     )
 
 abbrev ItemPlaces : Item → List ℕ → Type 0
-ItemPlaces (field f) cs = (q : Places) × (cs ≡ fieldPlaces (kindBack (f .field .kind)) q)
+ItemPlaces (field f) cs = (q : Places) × (cs ≡ fieldPlaces (kindFor (f .field .kind)) q)
 ItemPlaces cv cs = Unit
 
 item-text : {x : List ℕ} {i : Item} → ItemText x i → ItemPlaces i (numberColumns false 0 x)
@@ -179,14 +179,9 @@ item-text (ItemText.aField {x = x} {y = y} {z = z} {k = k} n m t) =
     let l : numberColumns false (c .2) (44 ∷ z) ≡ suc (c .2) ∷ [] = last-number (suc (c .2)) t in (
       record { r = b .0; input = c .0; output = c .1; t = suc (c .2) },
       ap (numberColumns false 0) e ∙ b .2
-          ∙ ap (λ (l : List ℕ). b .0 ∷ l) (c .3 ∙ ap (λ (l : List ℕ). kindPlaces (kindBack k) (c .0) (c .1) ++ l) l ∙ behind-places (kindBack k) (b .0) (c .0) (c .1) (suc (c .2))),
+          ∙ ap (λ (l : List ℕ). b .0 ∷ l) (c .3 ∙ ap (λ (l : List ℕ). kindPlaces (kindFor k) (c .0) (c .1) ++ l) l ∙ behind-places (kindFor k) (b .0) (c .0) (c .1) (suc (c .2))),
     )
 item-text ItemText.CV = tt
-
-kind-same : (k : Kind) (input output : ℕ) → kindBack (kindOf k input output) ≡ k
-kind-same Copy input output = refl
-kind-same Pack input output = refl
-kind-same Unpack input output = refl
 
 field-again : (k : Kind) (q : Places) → fieldPlaces k (placesIn (fieldPlaces k q)) ≡ fieldPlaces k q
 field-again Copy q = refl
@@ -200,5 +195,5 @@ item-numbers s part f p n r e =
     let x = item-sound s (field (cardField part f)) (drop n s) (r .1) in
     let y : ItemPlaces (field (cardField part f)) (numberColumns false 0 (x .0)) = item-text (x .2) in
     let c : numberColumns false 0 (take n s) ≡ fieldPlaces (f .kind) (y .0)
-    = ap (numberColumns false 0) (text-is s 0 n (x .0) (omega arith) (r .0) (x .1) .1) ∙ y .1 ∙ ap (λ (k : Kind). fieldPlaces k (y .0)) (kind-same (f .kind) (f .input) (f .output)) in
+    = ap (numberColumns false 0) (text-is s 0 n (x .0) (omega arith) (r .0) (x .1) .1) ∙ y .1 ∙ ap (λ (k : Kind). fieldPlaces k (y .0)) (kind-back (f .kind) (f .input) (f .output)) in
     c ∙ sym (ap (fieldPlaces (f .kind)) (e ∙ ap placesIn c) ∙ field-again (f .kind) (y .0))

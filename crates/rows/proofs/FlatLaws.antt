@@ -2,7 +2,7 @@
 -- five stores in a row leave, and that a field is read back from its numbers. By going along the fields.
 use mathlib.Core.Path.{_≡_, refl, ap, ap₂, sym, subst, _∙_}
 use mathlib.Core.List.{List, [], _∷_, _++_, append-nil}
-use Prim.Native.Nat.{ℕ, zero, suc, _+_, _-_, _*_, _≤_, _<_}
+use Prim.Native.Nat.{ℕ, zero, suc, _+_, _*_, _≤_, _<_}
 use native.Mathlib.Omega.{arith}
 use native.Mathlib.Nat.{not-suc-le-zero, le-of-suc-le-suc}
 use native.Mathlib.Numerals.{add-one}
@@ -14,24 +14,14 @@ use Rattle.rules.specs.Lent.{kindNumber}
 use Rattle.rules.specs.Rows.{KindWithin}
 use Rattle.rules.specs.RecordParts.{Fits}
 use Rattle.rules.proofs.AllLaws.{all-at}
-use Rattle.terms.specs.Meaning.{kindOf, fieldOf, noField}
-use Rattle.terms.specs.declared.Kind.{Kind}
-use Rattle.terms.specs.declared.Kind.the-variants.{Copy, Pack, Unpack}
+use Rattle.terms.specs.Meaning.{kindFor, fieldOf, noField}
 use Rattle.terms.specs.declared.Field.{Field}
+use Rattle.terms.proofs.FieldLaws.{input-of}
 use Rattle.rows.specs.Flat.{flatOf, kindAt, fieldAt, FlatFair}
-use Rattle.rows.specs.Kept.{kindFor, fieldFor}
+use Rattle.rows.specs.Kept.{fieldFor}
 use Rattle.rows.proofs.KeptLaws.{field-meant}
 
 -- ---- one field
-
-size-of : (k : Kind) (n m : ℕ) → inputSize (kindOf k n m) ≡ n
-size-of Copy n m = refl
-size-of Pack n m = refl
-size-of Unpack n m = refl
-
-pub input-of : (f : Field) → inputSize (fieldOf f .kind) ≡ f .input
-unfolding fieldOf
-input-of f = size-of (f .kind) (f .input) (f .output)
 
 -- five stores in a row
 put-five : (xs : List ℕ) (i a b c d e : ℕ) → i + 5 ≤ length xs

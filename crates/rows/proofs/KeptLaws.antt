@@ -1,8 +1,8 @@
 -- A field of the rules and the field as it is read say the same, each the other, where a copy's size stands in both places. By its kind.
 use mathlib.Core.Path.{_≡_, refl, ap}
 use Rattle.rules.specs.Halves.{Kind as RuleKind, copy, pack, unpack, inputSize, outputSize, Field as RuleField}
-use Rattle.terms.specs.Meaning.{kindOf, fieldOf, OneSize}
-use Rattle.rows.specs.Kept.{kindFor, fieldFor}
+use Rattle.terms.specs.Meaning.{kindOf, kindFor, fieldOf, OneSize}
+use Rattle.rows.specs.Kept.{fieldFor}
 
 kind-meant : (k : RuleKind) → kindOf (kindFor k) (inputSize k) (outputSize k) ≡ k
 kind-meant (copy s) = refl

@@ -16,7 +16,8 @@ use Rattle.terms.specs.Meaning.{fieldOf}
 use Rattle.terms.specs.declared.Kind.the-variants.{Copy, Pack, Unpack}
 use Rattle.terms.specs.declared.Field.{Field}
 use Rattle.rows.specs.Flat.{flatOf, kindAt, fieldAt, FlatFair, Readable}
-use Rattle.rows.proofs.FlatLaws.{input-of, fits-at}
+use Rattle.terms.proofs.FieldLaws.{input-of}
+use Rattle.rows.proofs.FlatLaws.{fits-at}
 
 -- ---- an accepted plan
 

@@ -2,17 +2,10 @@
 use mathlib.Core.List.{List, [], _∷_, _++_}
 use Prim.Native.Nat.{ℕ, zero, suc, _-_, _*_, _/_}
 use lib.ListN.{length, replicate}
-use Rattle.rules.specs.Halves.{Kind as RuleKind, copy, pack, unpack, inputSize, outputSize, Field as RuleField}
-use Rattle.terms.specs.declared.Kind.{Kind}
-use Rattle.terms.specs.declared.Kind.the-variants.{Copy, Pack, Unpack}
+use Rattle.rules.specs.Halves.{inputSize, outputSize, Field as RuleField}
 use Rattle.terms.specs.declared.Field.{Field}
-use Rattle.terms.specs.Meaning.{fieldOf}
+use Rattle.terms.specs.Meaning.{kindFor, fieldOf}
 use Rattle.rows.specs.Flat.{flatOf, fieldAt}
-
-abbrev pub kindFor : RuleKind → Kind
-kindFor (copy s) = Copy
-kindFor (pack n m) = Pack
-kindFor (unpack n m) = Unpack
 
 -- the field as it is read: a copy's size stands in both places
 unfoldable pub fieldFor : RuleField → Field

@@ -56,6 +56,12 @@ kindOf Copy input output = copy input
 kindOf Pack input output = pack input output
 kindOf Unpack input output = unpack input output
 
+-- the kind that means it
+abbrev pub kindFor : RuleKind → Kind
+kindFor (copy s) = Copy
+kindFor (pack n m) = Pack
+kindFor (unpack n m) = Unpack
+
 unfoldable pub fieldOf : Field → RuleField
 fieldOf f = record { r = f .r; kind = kindOf (f .kind) (f .input) (f .output); t = f .t }
 

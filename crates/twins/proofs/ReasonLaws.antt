@@ -21,7 +21,8 @@ use Rattle.rows.specs.Flat.{fieldAt}
 use Rattle.rows.specs.Kept.{fieldsIn}
 use Rattle.rows.proofs.RowLaws.{fields-on, fields-end}
 use Rattle.keeping.specs.Promise.{FairField}
-use Rattle.keeping.proofs.Fields.{kind-of, input-is, fair-fits}
+use Rattle.terms.proofs.FieldLaws.{input-of}
+use Rattle.keeping.proofs.Fields.{kind-of, fair-fits}
 
 -- ---- one field
 
@@ -31,7 +32,7 @@ module _ (n m : ℕ) (f : Field) (ok : FairField n m f) where
   from-is = omega (arith, ok .r-low)
 
   many-is : readsMany (fieldOf f) ≡ 2 * f .input
-  many-is = ap (λ (s : ℕ). 2 * s) (input-is f)
+  many-is = ap (λ (s : ℕ). 2 * s) (input-of f)
 
   -- it reads inside the input
   pub room : readsFrom (fieldOf f) + readsMany (fieldOf f) ≤ 2 * n

@@ -5,7 +5,7 @@ use Prim.Native.Nat.{_+_, _-_}
 use native.Mathlib.Omega.{arith}
 use Rattle.rules.specs.Plan.{inside}
 use Rattle.terms.specs.Meaning.{fieldOf}
-use Rattle.combinations.proofs.OutsideLaws.{input-size, output-size}
+use Rattle.terms.proofs.FieldLaws.{input-size, output-size}
 use Rattle.combinations.proofs.lies_inside.Statement.{statement}
 use Rattle.combinations.proofs.lies_inside.Tie as tie
 

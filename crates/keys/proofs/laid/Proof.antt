@@ -2,7 +2,7 @@
 use mathlib.Core.Path.{refl}
 use borrow.Author.Needs.{needs}
 use Rattle.terms.specs.Meaning.{fieldOf, cardField, laid}
-use Rattle.rows.proofs.FlatLaws.{input-of}
+use Rattle.terms.proofs.FieldLaws.{input-of}
 use Rattle.keys.proofs.laid.Statement.{statement}
 use Rattle.keys.proofs.laid.Tie as tie
 

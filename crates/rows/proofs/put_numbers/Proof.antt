@@ -3,8 +3,8 @@ use mathlib.Core.Path.{_∙_}
 use native.Mathlib.Omega.{arith}
 use borrow.Author.Needs.{needs}
 use Rattle.terms.specs.Meaning.{fieldOf}
-use Rattle.terms.proofs.FieldLaws.{number-of}
-use Rattle.rows.proofs.FlatLaws.{input-of, put-field}
+use Rattle.terms.proofs.FieldLaws.{input-of, number-of}
+use Rattle.rows.proofs.FlatLaws.{put-field}
 use Rattle.rows.proofs.put_numbers.Statement.{statement}
 use Rattle.rows.proofs.put_numbers.Tie as tie
 
