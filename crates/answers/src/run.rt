@@ -2,7 +2,7 @@
 use crate::digest;
 use crate::say;
 use crate::text;
-use bhexodana::Ran;
+use outcomes::Ran;
 ghost use Rattle.io.specs.Counts.{Counts};
 
 // Fills all of an output with a pattern, against which it is seen which bytes a run changes.

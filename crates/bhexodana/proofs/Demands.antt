@@ -40,10 +40,11 @@ use Rattle.rules.proofs.JudgeLaws.{judge-says, judging}
 use Rattle.terms.specs.Meaning.{entryMeans}
 use Rattle.terms.specs.declared.Entry.{Entry}
 use Rattle.terms.proofs.Entries.{entries-hold}
-use Rattle.bhexodana.specs.Promise.{numbersOf, ranOf, runNumbers, twinsNumbers, judgedOf, judgeNumbers, PlanOf, PlannedInto, RanInto, TwinsInto, JudgedAs}
+use Rattle.outcomes.specs.declared.Ran.{Ran}
+use Rattle.outcomes.specs.Promise.{ranStruct, runNumbers}
+use Rattle.bhexodana.specs.Promise.{numbersOf, twinsNumbers, judgedOf, judgeNumbers, PlanOf, PlannedInto, RanInto, TwinsInto, JudgedAs}
 use Rattle.bhexodana.specs.declared.Judged.{Judged}
 use Rattle.bhexodana.specs.declared.Planned.{Planned}
-use Rattle.bhexodana.specs.declared.Ran.{Ran}
 use Rattle.bhexodana.specs.declared.Twins.{Twins}
 
 -- ---- one outcome only
@@ -124,21 +125,21 @@ keeping-plan deck n w k = go (plan deck) refl
     go (refuse q) e = let z : _≡_ {A = ℕ} 0 1 = sym (ap (λ (x : Answer Plan). planAnswer x .keeping) e) ∙ one in absurd (omega arith)
 
 -- the reel of a finished run stands at the front of the lent output
-front : (before : List ℕ) (r : Ran) (after : List ℕ) (x : RuleRan) → r ≡ ranOf (runAnswer (fine x)) → after ≡ outputAfter before (fine x) → reelIn r after ≡ x .reel
+front : (before : List ℕ) (r : Ran) (after : List ℕ) (x : RuleRan) → r ≡ ranStruct (runAnswer (fine x)) → after ≡ outputAfter before (fine x) → reelIn r after ≡ x .reel
 front before r after x is out =
     ap (λ (n : ℕ). take n after) (ap (λ (n : Ran). n .length) is) ∙ ap (take (length (x .reel))) out ∙ take-at (x .reel) (drop (length (x .reel)) before) (length (x .reel)) refl
 
 -- a run that is not refused is finished, its reel stands at the front of the lent output, and its numbers are the reel's
 pub finished-run : (deck reel before : List ℕ) (r : Ran) (after : List ℕ) → All Byte reel → RanInto deck reel before r after → r .refusal ≡ 0
-    → (x : RuleRan) × (run (length before) deck reel ≡ fine x) × (reelIn r after ≡ x .reel) × (r ≡ ranOf (runAnswer (fine x)))
+    → (x : RuleRan) × (run (length before) deck reel ≡ fine x) × (reelIn r after ≡ x .reel) × (r ≡ ranStruct (runAnswer (fine x)))
 unfolding run
 finished-run deck reel before r after a w z = go (run (length before) deck reel) refl
   where
     go : (y : Answer RuleRan) → run (length before) deck reel ≡ y
-        → (x : RuleRan) × (run (length before) deck reel ≡ fine x) × (reelIn r after ≡ x .reel) × (r ≡ ranOf (runAnswer (fine x)))
-    go (refuse q) d = absurd (run-never-0 zoneF (length before) (omega arith) deck reel a q d (sym (ap (λ (n : Ran). n .refusal) (w .answer ∙ ap (λ (y : Answer RuleRan). ranOf (runAnswer y)) d)) ∙ z))
+        → (x : RuleRan) × (run (length before) deck reel ≡ fine x) × (reelIn r after ≡ x .reel) × (r ≡ ranStruct (runAnswer (fine x)))
+    go (refuse q) d = absurd (run-never-0 zoneF (length before) (omega arith) deck reel a q d (sym (ap (λ (n : Ran). n .refusal) (w .answer ∙ ap (λ (y : Answer RuleRan). ranStruct (runAnswer y)) d)) ∙ z))
     go (fine x) d =
-        let is : r ≡ ranOf (runAnswer (fine x)) = w .answer ∙ ap (λ (y : Answer RuleRan). ranOf (runAnswer y)) d in
+        let is : r ≡ ranStruct (runAnswer (fine x)) = w .answer ∙ ap (λ (y : Answer RuleRan). ranStruct (runAnswer y)) d in
         (x, d, front before r after x is (w .output ∙ ap (outputAfter before) d), is)
 
 -- ---- demand 3 and the run
@@ -216,13 +217,13 @@ module _ (deck reel before : List ℕ) (r : Ran) (after : List ℕ) (a : All Byt
         no-12 = λ n. never 12 (omega arith) (back .no-12) (run (length before′) deck′ (x .0 .reel)) refl n;
         copied = λ m l.
             let c : run (length before′) deck′ (x .0 .reel) ≡ fine (x .0) = back .copied m (length before′) (rw (ap (λ (n : Ran). n .length) (x .3)) at l) in
-            let is : r′ ≡ ranOf (runAnswer (fine (x .0))) = answer ∙ ap (λ (y : Answer RuleRan). ranOf (runAnswer y)) c in
+            let is : r′ ≡ ranStruct (runAnswer (fine (x .0))) = answer ∙ ap (λ (y : Answer RuleRan). ranStruct (runAnswer y)) c in
             let out : after′ ≡ outputAfter before′ (fine (x .0)) =
             w′ .output ∙ ap (λ (s : List ℕ). outputAfter before′ (run (length before′) deck′ s)) (x .2) ∙ ap (outputAfter before′) c in
             (is ∙ sym (x .3), front before′ r′ after′ (x .0) is out ∙ sym (x .2));
       }
     where
-      x : (x : RuleRan) × (run (length before) deck reel ≡ fine x) × (reelIn r after ≡ x .reel) × (r ≡ ranOf (runAnswer (fine x)))
+      x : (x : RuleRan) × (run (length before) deck reel ≡ fine x) × (reelIn r after ≡ x .reel) × (r ≡ ranStruct (runAnswer (fine x)))
       x = finished-run deck reel before r after a w z
 
       back : RunsAgain zoneF deck′ q (x .0)
@@ -232,11 +233,11 @@ module _ (deck reel before : List ℕ) (r : Ran) (after : List ℕ) (a : All Byt
           go false f = run-gives zoneF (length before) (omega arith) deck reel p (x .0) e f a (x .1) .back deck′ q e′ u .again
           go true f = spanned-deck zoneF deck p e f (omega arith) .finished (length before) reel a (x .0) (x .1) .back deck′ q e′ u
 
-      answer : r′ ≡ ranOf (runAnswer (run (length before′) deck′ (x .0 .reel)))
-      answer = w′ .answer ∙ ap (λ (s : List ℕ). ranOf (runAnswer (run (length before′) deck′ s))) (x .2)
+      answer : r′ ≡ ranStruct (runAnswer (run (length before′) deck′ (x .0 .reel)))
+      answer = w′ .answer ∙ ap (λ (s : List ℕ). ranStruct (runAnswer (run (length before′) deck′ s))) (x .2)
 
       never : (n : ℕ) → 1 ≤ n → NeverRefused zoneF deck′ (x .0 .reel) n → (y : Answer RuleRan) → run (length before′) deck′ (x .0 .reel) ≡ y → r′ .refusal ≡ n → ⊥
-      never n l h y d k = go y d (sym (ap (λ (b : Ran). b .refusal) (answer ∙ ap (λ (y : Answer RuleRan). ranOf (runAnswer y)) d)) ∙ k)
+      never n l h y d k = go y d (sym (ap (λ (b : Ran). b .refusal) (answer ∙ ap (λ (y : Answer RuleRan). ranStruct (runAnswer y)) d)) ∙ k)
         where
           go : (y : Answer RuleRan) → run (length before′) deck′ (x .0 .reel) ≡ y → runAnswer y .refusal ≡ n → ⊥
           go (fine b) d k = omega arith
@@ -282,11 +283,11 @@ module _ (deck before : List ℕ) (t : Twins) (after : List ℕ) (told : Told de
           ap (λ (k : ℕ). run k deck (alone p (told .s))) room′ ∙ alone-runs zoneF deck p e first other (told .s) (shows .s-converts)
           ∙ ap (λ (o : List ℕ). fine (ownRan p o)) (sym (shows .outputs))
 
-      is : r ≡ ranOf (runAnswer (fine x))
-      is = w .answer ∙ ap (λ (y : Answer RuleRan). ranOf (runAnswer y)) runs
+      is : r ≡ ranStruct (runAnswer (fine x))
+      is = w .answer ∙ ap (λ (y : Answer RuleRan). ranStruct (runAnswer y)) runs
 
-      is′ : r′ ≡ ranOf (runAnswer (fine x))
-      is′ = w′ .answer ∙ ap (λ (y : Answer RuleRan). ranOf (runAnswer y)) runs′
+      is′ : r′ ≡ ranStruct (runAnswer (fine x))
+      is′ = w′ .answer ∙ ap (λ (y : Answer RuleRan). ranStruct (runAnswer y)) runs′
 
 -- ---- a reel from elsewhere (document 02, order 7)
 

@@ -1,36 +1,19 @@
--- The run of a deck is the run of its plan, which has no column, or the deck's own refusal: by cases on the plan, as the rules run it.
-use mathlib.Core.Path.{_≡_, refl, ap, sym, _∙_}
+-- The run of a deck is the run of its plan, or the deck's own refusal: by cases on the plan, as the rules run it.
+use mathlib.Core.Path.{_≡_, ap, sym, _∙_}
 use mathlib.Core.List.{List}
 use Prim.Native.Nat.{ℕ, _*_, _≤_}
 use native.Mathlib.Omega.{arith}
 use lib.ListN.{length, take}
 use Rattle.rules.specs.Answer.{Answer, fine, refuse, refusedAt, _>>=_}
 use Rattle.rules.specs.Plan.{Plan}
-use Rattle.rules.specs.Run.{Ran as RuleRan, conversion, runOf}
-use Rattle.rules.specs.Lent.{zoneF, plan, run, runAnswer}
-use Rattle.rules.proofs.RunColumns.{conversion-column}
+use Rattle.rules.specs.Run.{conversion, runOf}
+use Rattle.rules.specs.Lent.{zoneF, plan, run}
 use Rattle.terms.specs.Meaning.{planIn}
 use Rattle.rows.specs.Kept.{fieldsIn}
 use Rattle.rows.specs.Fair.{PlanFair}
 use Rattle.plans.specs.Promise.{Plans}
 use Rattle.plans.specs.declared.Planned.{Planned}
 use Rattle.plans.proofs.FilledLaws.{refused-plan, accepted-plan, plan-is, plan-fair, row-holds}
-use Rattle.outcomes.specs.declared.Ran.{Ran as Checked}
-use Rattle.outcomes.specs.Promise.{ranStruct}
-use Rattle.bhexodana.specs.Promise.{ranOf}
-use Rattle.bhexodana.specs.declared.Ran.{Ran}
-
--- the struct of what runs answers
-abbrev pub ranFrom : Checked → Ran
-ranFrom r = record { refusal = r .refusal; place = r .place; column = 0; length = r .length; records = r .records; blocks = r .blocks }
-
--- says all that the rules say of the run of a plan
-pub ran-same : (room : ℕ) (p : Plan) (s : List ℕ) → ranFrom (ranStruct (runAnswer (conversion room p s))) ≡ ranOf (runAnswer (conversion room p s))
-ran-same room p s = go (conversion room p s) refl
-  where
-    go : (x : Answer RuleRan) → conversion room p s ≡ x → ranFrom (ranStruct (runAnswer x)) ≡ ranOf (runAnswer x)
-    go (fine x) e = refl
-    go (refuse q) e = ap (λ (c : ℕ). ranOf (runAnswer (refusedAt (q .number) (q .place) c))) (sym (conversion-column room p s q e))
 
 -- the plan is asked first
 run-plan : (room : ℕ) (deck s : List ℕ) (x : Answer Plan) → plan deck ≡ x → run room deck s ≡ (x >>= λ p. conversion room p s)

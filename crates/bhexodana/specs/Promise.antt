@@ -4,16 +4,17 @@ use mathlib.Core.List.{List, map}
 use Prim.Native.Nat.{ℕ}
 use lib.ListN.{length}
 use Rattle.rules.specs.Plan.{PlanAnswer, planAnswer}
-use Rattle.rules.specs.Lent.{plan, planInto, tableAfter, run, RunAnswer, runAnswer, outputAfter}
+use Rattle.rules.specs.Lent.{plan, planInto, tableAfter, run, runAnswer, outputAfter}
 use Rattle.rules.specs.Twins.{twinsInto, TwinsAnswer, twinsAnswer, twinsAfter}
 use Rattle.rules.specs.Judge.{judge, JudgeAnswer, judgeAnswer}
 use Rattle.terms.specs.Meaning.{entryMeans, entryFor}
 use Rattle.terms.specs.declared.Entry.{Entry}
 use Rattle.plans.specs.Promise.{tableOf, stored}
+use Rattle.outcomes.specs.declared.Ran.{Ran}
+use Rattle.outcomes.specs.Promise.{ranStruct}
 use Rattle.bhexodana.specs.declared.Filling.{Filling}
 use Rattle.bhexodana.specs.declared.Judged.{Judged}
 use Rattle.bhexodana.specs.declared.Planned.{Planned}
-use Rattle.bhexodana.specs.declared.Ran.{Ran}
 use Rattle.bhexodana.specs.declared.Twins.{Twins}
 
 -- ---- numbers
@@ -24,13 +25,6 @@ plannedOf n = record { refusal = n .refusal; place = n .place; column = n .colum
 
 abbrev pub numbersOf : Planned → PlanAnswer
 numbersOf r = record { refusal = r .refusal; place = r .place; column = r .column; keeping = r .keeping; lost = r .lost; fields = r .fields }
-
--- and of a run
-abbrev pub ranOf : RunAnswer → Ran
-ranOf x = record { refusal = x .refusal; place = x .place; column = x .column; length = x .reelLength; records = x .records; blocks = x .blocks }
-
-abbrev pub runNumbers : Ran → RunAnswer
-runNumbers r = record { refusal = r .refusal; place = r .place; column = r .column; reelLength = r .length; records = r .records; blocks = r .blocks }
 
 -- and of twins
 abbrev pub twinsOf : TwinsAnswer → Twins
@@ -46,9 +40,6 @@ judgedOf x = record { refusal = x .refusal; place = x .place; column = x .column
 abbrev pub judgeNumbers : Judged → JudgeAnswer
 judgeNumbers r = record { refusal = r .refusal; place = r .place; column = r .column; yes = r .yes; number = r .number }
 
-abbrev pub refusedRun : ℕ → ℕ → ℕ → Ran
-refusedRun number place column = record { refusal = number; place = place; column = column; length = 0; records = 0; blocks = 0 }
-
 -- ---- the promises
 
 -- bhx_plan
@@ -62,7 +53,7 @@ pub record PlannedInto (deck : List ℕ) (before : List Entry) (r : Planned) (af
 
 -- bhx_run: the answer, and the lent output afterwards
 pub record RanInto (deck reel before : List ℕ) (r : Ran) (after : List ℕ) : Type 0 where
-  pub answer : r ≡ ranOf (runAnswer (run (length before) deck reel))
+  pub answer : r ≡ ranStruct (runAnswer (run (length before) deck reel))
   pub output : after ≡ outputAfter before (run (length before) deck reel)
 
 -- bhx_twins: the answer, and the lent output afterwards

@@ -1,11 +1,12 @@
 // What users call: the plan of a deck, the plan into a table that the caller lends, the run of a deck over a reel, the twins of a deck, and whether a reel from
 // elsewhere is a true conversion. Exported for C and Fortran.
+use outcomes::Ran;
 use terms::Entry;
 ghost use mathlib.Core.Path.{_≡_};
 ghost use mathlib.Core.List.{_++_};
 ghost use Prim.Native.Nat.{_≤_};
 ghost use lib.ListN.{length, take, drop};
-ghost use Rattle.bhexodana.specs.Promise.{refusedRun, PlanOf, PlannedInto, RanInto, TwinsInto, JudgedAs, fillingOf};
+ghost use Rattle.bhexodana.specs.Promise.{PlanOf, PlannedInto, RanInto, TwinsInto, JudgedAs, fillingOf};
 
 // What a plan answers: refusal, place, column, 1 for keeping or 0, lost place or 0, field count.
 #[repr(C)]
@@ -85,32 +86,7 @@ pub extern "C" fn bhx_plan_into(deck: &[u8], table: &mut [Entry]) -> Planned
     p.answer
 }
 
-// What a run answers: refusal, place, column, and the length, the records and the blocks of the reel that was written.
-#[repr(C)]
-pub struct Ran {
-    pub refusal: usize,
-    pub place: usize,
-    pub column: usize,
-    pub length: usize,
-    pub records: usize,
-    pub blocks: usize,
-}
-
-fn refused(number: usize, place: usize, column: usize) -> Ran
-    ensures { λ r. ⌜ r ≡ refusedRun number place column ⌝ }
-{
-    Ran {
-        refusal: number,
-        place,
-        column,
-        length: 0,
-        records: 0,
-        blocks: 0,
-    }
-}
-
-// The run of a deck over a reel, into an output that the caller lends. A refusal changes no byte. For 11 to 15 no byte of a card is at fault, so these
-// have no column.
+// The run of a deck over a reel, into an output that the caller lends. A refusal changes no byte.
 #[no_mangle]
 pub extern "C" fn bhx_run(deck: &[u8], reel: &[u8], out: &mut [u8]) -> Ran
     ensures { λ r. ⌜ RanInto (now (deck .entry)) (now (reel .entry)) (now (out .entry)) r (now (out .exit)) ⌝ }
@@ -118,19 +94,11 @@ pub extern "C" fn bhx_run(deck: &[u8], reel: &[u8], out: &mut [u8]) -> Ran
     let mut row = [0u16; 320];
     let p = plans::plan_deck(deck, &mut row);
     if p.refusal != 0 {
-        return refused(p.refusal, p.place, p.column);
+        return outcomes::refused(p.refusal, p.place, p.column);
     }
     let asked = p.asked;
     let end = 5 * asked.count;
-    let r = runs::run_plan(asked, &row[..end], reel, out);
-    Ran {
-        refusal: r.refusal,
-        place: r.place,
-        column: 0,
-        length: r.length,
-        records: r.records,
-        blocks: r.blocks,
-    }
+    runs::run_plan(asked, &row[..end], reel, out)
 }
 
 // What is answered for twins: refusal, place, column, the reason, and how many bytes were written.

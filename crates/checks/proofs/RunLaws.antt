@@ -75,7 +75,7 @@ module _ (room : ℕ) (p : Plan) (s : List ℕ) where
 -- what is answered of a measure: 14, or 15 and the numbers
 abbrev pub measuredRun : ℕ → Answer (ℕ × ℕ × ℕ) → Ran
 measuredRun room (fine x) = housedRun room (x .2) (x .1) (x .0)
-measuredRun room (refuse r) = refusedRun (r .number) (r .place)
+measuredRun room (refuse r) = refusedRun (r .number) (r .place) (r .column)
 
 -- and that is the run's answer where 13 does not apply
 measured-run : (room : ℕ) (p : Plan) (s : List ℕ) (recs : List (List (List ℕ))) → Good p s recs → each 13 (permits p) (p .first) (joined (takenFrom (p .first) recs)) ≡ fine tt
@@ -150,7 +150,7 @@ module _ {task : Task} {fields s : List ℕ} {blocks records : ℕ} where
 -- ---- 13, 14 and 15 in their order
 
 module _ {task : Task} {fields s : List ℕ} {blocks records room : ℕ} {r : Ran} where
-  pub stops-unpermitted : (number : ℕ) → 0 < number → Unpermitted task fields s number → r ≡ refusedRun 13 number → CheckedRun task fields s blocks records room r
+  pub stops-unpermitted : (number : ℕ) → 0 < number → Unpermitted task fields s number → r ≡ refusedRun 13 number 0 → CheckedRun task fields s blocks records room r
   stops-unpermitted zero l u e = absurd (omega arith)
   stops-unpermitted (suc i) l u e = record { is = λ p recs x g b k. e ∙ ap (λ (z : Answer RuleRan). ranStruct (runAnswer z)) (sym (no-permit room p s recs g (suc i) (u .is p recs x g))) }
 
@@ -169,10 +169,10 @@ module _ {task : Task} {fields s : List ℕ} {form : Form} {read : ReelRead} (f 
   told : (p : Plan) → Given task fields p → Tells p s read
   told p x = tells form p (form-given (x .is) f) s read w
 
-  pub ends-no-reel : {room : ℕ} → read ≡ NotReel → (r : Ran) → r ≡ refusedRun 11 0 → Checked task fields s room r
+  pub ends-no-reel : {room : ℕ} → read ≡ NotReel → (r : Ran) → r ≡ refusedRun 11 0 0 → Checked task fields s room r
   ends-no-reel {room} t r e = record { is = λ p x. e ∙ ap (λ (z : Answer RuleRan). ranStruct (runAnswer z)) (sym (not-reel room p s (subst (Tells p s) t (told p x)))) }
 
-  pub ends-bad : {room : ℕ} (i : ℕ) → read ≡ BadBlock i → (r : Ran) → r ≡ refusedRun 12 i → Checked task fields s room r
+  pub ends-bad : {room : ℕ} (i : ℕ) → read ≡ BadBlock i → (r : Ran) → r ≡ refusedRun 12 i 0 → Checked task fields s room r
   ends-bad {room} i t r e = record {
     is = λ p x.
         let y = subst (Tells p s) t (told p x) in

@@ -58,11 +58,11 @@ fn checked(task: Task, fields: &[u16], s: &[u8], blocks: usize, records: usize, 
 {
     let number = unpermitted(task, fields, s);
     if number > 0 {
-        return outcomes::refused(13, number);
+        return outcomes::refused(13, number, 0);
     }
     let output = measured(task, fields, s, blocks, records);
     match output {
-        Measured::TooLong { record } => outcomes::refused(14, record),
+        Measured::TooLong { record } => outcomes::refused(14, record, 0),
         Measured::Fits {
             blocks,
             records,
@@ -78,8 +78,8 @@ pub fn check(task: Task, fields: &[u16], s: &[u8], room: usize) -> Ran
 {
     let read = reels::read_reel(tasks::form_of(task), s);
     match read {
-        ReelRead::NotReel => outcomes::refused(11, 0),
-        ReelRead::BadBlock { block } => outcomes::refused(12, block),
+        ReelRead::NotReel => outcomes::refused(11, 0, 0),
+        ReelRead::BadBlock { block } => outcomes::refused(12, block, 0),
         ReelRead::Read { blocks, records } => checked(task, fields, s, blocks, records, room),
     }
 }

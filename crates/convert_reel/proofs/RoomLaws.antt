@@ -7,8 +7,8 @@ use lib.ListN.{length, drop, length-append}
 use Rattle.rules.specs.Answer.{Answer, fine, refuse}
 use Rattle.rules.specs.Run.{Ran as RuleRan}
 use Rattle.rules.specs.Lent.{run, runAnswer, outputAfter}
+use Rattle.outcomes.specs.declared.Ran.{Ran}
 use Rattle.bhexodana.specs.Promise.{RanInto}
-use Rattle.bhexodana.specs.declared.Ran.{Ran}
 
 within : (x : Answer RuleRan) (lent out : List ℕ) → out ≡ outputAfter lent x → runAnswer x .reelLength ≤ length out
 within (fine x) lent out e =

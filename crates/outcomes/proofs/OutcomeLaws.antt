@@ -10,10 +10,16 @@ use borrow.Author.Tests.{ltb-true, ltb-false, lt-ltb, le-ltb, le-leb, lt-leb}
 use Rattle.rules.specs.Answer.{Answer, fine, refuse, _>>_, unless}
 use Rattle.rules.specs.Run.{Ran as RuleRan, housed}
 use Rattle.rules.specs.Halves.{over}
-use Rattle.rules.specs.Lent.{runAnswer, outputAfter}
+use Rattle.rules.specs.Lent.{RunAnswer, runAnswer, outputAfter}
 use Rattle.rules.proofs.LentParts.{front-over}
 use Rattle.outcomes.specs.declared.Ran.{Ran}
-use Rattle.outcomes.specs.Promise.{ranStruct, refusedRun, finishedRun, housedRun}
+use Rattle.outcomes.specs.Promise.{ranStruct, runNumbers, refusedRun, finishedRun, housedRun}
+
+-- ---- the struct
+
+-- it says all that the rules answer
+pub run-told : (x : RunAnswer) → runNumbers (ranStruct x) ≡ x
+run-told x = refl
 
 -- ---- 15
 
@@ -31,11 +37,11 @@ room-is room x = go (ltb room (length (x .reel))) refl (ltb 65536 (length (x .re
 
 -- as the code asks it
 module _ (room size records blocks : ℕ) (r : Ran) where
-  pub room-over : room < size → r ≡ refusedRun 15 size → r ≡ housedRun room size records blocks
+  pub room-over : room < size → r ≡ refusedRun 15 size 0 → r ≡ housedRun room size records blocks
   unfolding housedRun
   room-over l e = rw (lt-ltb room size l) e
 
-  pub most-over : size ≤ room → 65536 < size → r ≡ refusedRun 15 size → r ≡ housedRun room size records blocks
+  pub most-over : size ≤ room → 65536 < size → r ≡ refusedRun 15 size 0 → r ≡ housedRun room size records blocks
   unfolding housedRun
   most-over k l e = rw (le-ltb room size k, lt-ltb 65536 size l) e
 
@@ -56,8 +62,8 @@ over-front v old new x e h = h ∙ sym (front-over (length v) old v refl) ∙ ap
 
 -- ---- one answer
 
-pub refused-only-one : (number place : ℕ) (x y : Ran) → x ≡ refusedRun number place → y ≡ refusedRun number place → x ≡ y
-refused-only-one number place x y h k = h ∙ sym k
+pub refused-only-one : (number place column : ℕ) (x y : Ran) → x ≡ refusedRun number place column → y ≡ refusedRun number place column → x ≡ y
+refused-only-one number place column x y h k = h ∙ sym k
 
 pub housed-only-one : (room size records blocks : ℕ) (x y : Ran) → x ≡ housedRun room size records blocks → y ≡ housedRun room size records blocks → x ≡ y
 housed-only-one room size records blocks x y h k = h ∙ sym k

@@ -5,17 +5,20 @@ use lib.Dec.{ltb}
 use Rattle.rules.specs.Lent.{RunAnswer}
 use Rattle.outcomes.specs.declared.Ran.{Ran}
 
--- the struct that says what the rules say
+-- the struct that says what the rules say, and what it says
 abbrev pub ranStruct : RunAnswer → Ran
-ranStruct x = record { refusal = x .refusal; place = x .place; length = x .reelLength; records = x .records; blocks = x .blocks }
+ranStruct x = record { refusal = x .refusal; place = x .place; column = x .column; length = x .reelLength; records = x .records; blocks = x .blocks }
 
-abbrev pub refusedRun : ℕ → ℕ → Ran
-refusedRun number place = record { refusal = number; place = place; length = 0; records = 0; blocks = 0 }
+abbrev pub runNumbers : Ran → RunAnswer
+runNumbers r = record { refusal = r .refusal; place = r .place; column = r .column; reelLength = r .length; records = r .records; blocks = r .blocks }
+
+abbrev pub refusedRun : ℕ → ℕ → ℕ → Ran
+refusedRun number place column = record { refusal = number; place = place; column = column; length = 0; records = 0; blocks = 0 }
 
 abbrev pub finishedRun : ℕ → ℕ → ℕ → Ran
-finishedRun size records blocks = record { refusal = 0; place = 0; length = size; records = records; blocks = blocks }
+finishedRun size records blocks = record { refusal = 0; place = 0; column = 0; length = size; records = records; blocks = blocks }
 
 -- refusal 15
 unfoldable pub housedRun : ℕ → ℕ → ℕ → ℕ → Ran
 housedRun room size records blocks =
-    cond (ltb room size) (refusedRun 15 size) (cond (ltb 65536 size) (refusedRun 15 size) (finishedRun size records blocks))
+    cond (ltb room size) (refusedRun 15 size 0) (cond (ltb 65536 size) (refusedRun 15 size 0) (finishedRun size records blocks))

@@ -5,22 +5,26 @@ ghost use Rattle.outcomes.specs.Promise.{refusedRun, housedRun};
 // At most so many bytes has an output reel.
 const MOST: usize = 65536;
 
-// What a run answers: refusal and place, or 0 and 0; the length of the output reel, and how many records and blocks are written.
+// What a run answers: refusal, place, column, or 0 of each; the length of the output reel, and how many records and blocks are written. For 11 to 15 no byte of a
+// card is at fault, so these have no column. In C it lies as it stands here.
+#[repr(C)]
 pub struct Ran {
     pub refusal: usize,
     pub place: usize,
+    pub column: usize,
     pub length: usize,
     pub records: usize,
     pub blocks: usize,
 }
 
 // A run that is refused.
-pub fn refused(number: usize, place: usize) -> Ran
-    ensures { λ r. ⌜ r ≡ refusedRun number place ⌝ }
+pub fn refused(number: usize, place: usize, column: usize) -> Ran
+    ensures { λ r. ⌜ r ≡ refusedRun number place column ⌝ }
 {
     Ran {
         refusal: number,
         place,
+        column,
         length: 0,
         records: 0,
         blocks: 0,
@@ -32,14 +36,15 @@ pub fn housed(room: usize, length: usize, records: usize, blocks: usize) -> Ran
     ensures { λ r. ⌜ r ≡ housedRun room length records blocks ⌝ }
 {
     if length > room {
-        return refused(15, length);
+        return refused(15, length, 0);
     }
     if length > MOST {
-        return refused(15, length);
+        return refused(15, length, 0);
     }
     Ran {
         refusal: 0,
         place: 0,
+        column: 0,
         length,
         records,
         blocks,

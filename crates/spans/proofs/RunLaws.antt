@@ -123,7 +123,7 @@ module _ (copies : Bool) (g m first : ℕ) (s old : List ℕ) where
   unfolding spannedRun unless _>>_ _>>=_
   run-good recs t e = rw (t, e)
 
-  answers-refused : (number place : ℕ) → spannedRun copies g m first (length old) s ≡ refused number place → {r : Ran} → r ≡ refusedRun number place → Answers r old
+  answers-refused : (number place : ℕ) → spannedRun copies g m first (length old) s ≡ refused number place → {r : Ran} → r ≡ refusedRun number place 0 → Answers r old
   answers-refused number place e k =
       (k ∙ ap (λ (a : Answer RuleRan). ranStruct (runAnswer a)) (sym e), ap (outputAfter old) (sym e))
 
@@ -132,10 +132,10 @@ module _ (copies : Bool) (g m first : ℕ) (s old : List ℕ) where
       (k .answer ∙ ap (λ (a : Answer RuleRan). ranStruct (runAnswer a)) (sym e), k .output ∙ ap (outputAfter old) (sym e))
 
   module _ {read : ReelRead} (w : SpannedAs g s read) where
-    pub ends-no-reel : read ≡ NotReel → {r : Ran} → r ≡ refusedRun 11 0 → Answers r old
+    pub ends-no-reel : read ≡ NotReel → {r : Ran} → r ≡ refusedRun 11 0 0 → Answers r old
     ends-no-reel t k = answers-refused 11 0 (run-no-reel (subst (Tells g s) t (tells g s read w))) k
 
-    pub ends-bad : (i : ℕ) → read ≡ BadBlock i → {r : Ran} → r ≡ refusedRun 12 i → Answers r old
+    pub ends-bad : (i : ℕ) → read ≡ BadBlock i → {r : Ran} → r ≡ refusedRun 12 i 0 → Answers r old
     ends-bad i t k = let x = subst (Tells g s) t (tells g s read w) in answers-refused 12 i (run-bad i (x .0) (x .1)) k
 
     module _ (blocks records : ℕ) (t : read ≡ Read blocks records) where

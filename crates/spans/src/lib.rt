@@ -160,8 +160,8 @@ pub fn run_spanned(copies: bool, g: usize, m: usize, first: usize, s: &[u8], out
 {
     let read = turns::read_spanned(g, s);
     match read {
-        ReelRead::NotReel => outcomes::refused(11, 0),
-        ReelRead::BadBlock { block } => outcomes::refused(12, block),
+        ReelRead::NotReel => outcomes::refused(11, 0, 0),
+        ReelRead::BadBlock { block } => outcomes::refused(12, block, 0),
         ReelRead::Read { blocks, records } => {
             let passed = segments::smaller(first - 1, records);
             if copies {

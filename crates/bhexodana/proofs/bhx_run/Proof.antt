@@ -1,20 +1,18 @@
 -- The deck's refusal where it is refused; else the run of its plan, which the rules' run is then.
-use mathlib.Core.Path.{_≡_, ap, sym, _∙_}
+use mathlib.Core.Path.{ap, sym, _∙_}
 use Prim.Native.Nat.{_*_}
 use native.Mathlib.Omega.{arith}
 use denote.Ref.{now}
-use lib.ListN.{length, take}
+use lib.ListN.{length}
 use lib.Seq.{length-take-le}
 use borrow.Author.Needs.{needs}
 use Rattle.rules.specs.Answer.{Answer}
 use Rattle.rules.specs.Run.{Ran as RuleRan}
-use Rattle.rules.specs.Lent.{zoneF, runAnswer, outputAfter}
-use Rattle.terms.specs.Meaning.{planIn}
-use Rattle.rows.specs.Kept.{fieldsIn}
+use Rattle.rules.specs.Lent.{runAnswer, outputAfter}
 use Rattle.rows.proofs.RowLaws.{row-none}
 use Rattle.plans.proofs.FilledLaws.{plans-long}
-use Rattle.bhexodana.specs.Promise.{ranOf}
-use Rattle.bhexodana.proofs.RunLaws.{ranFrom, ran-same, run-refused, run-accepted, runnable, front-in}
+use Rattle.outcomes.specs.Promise.{ranStruct}
+use Rattle.bhexodana.proofs.RunLaws.{run-refused, run-accepted, runnable, front-in}
 use Rattle.bhexodana.proofs.bhx_run.Statement.{statement}
 use Rattle.bhexodana.proofs.bhx_run.Tie as tie
 
@@ -29,7 +27,7 @@ returns c =
     let a = c .before .before .before .before .before .before .before .before .args in
     let p = c .before .before .before .plan-deck in
     let e = run-refused (now (a .deck)) (p .result) (p .last .1 .0) (p .ensures) (c .before .if1 .taken) (length (now (a .out))) (now (a .reel)) in
-    record { answer = c .refused .ensures ∙ ap (λ (x : Answer RuleRan). ranOf (runAnswer x)) (sym e); output = ap (outputAfter (now (a .out))) (sym e) }
+    record { answer = c .refused .ensures ∙ ap (λ (x : Answer RuleRan). ranStruct (runAnswer x)) (sym e); output = ap (outputAfter (now (a .out))) (sym e) }
 
 mul-end : tie.Need-mul-end
 mul-end c =
@@ -62,11 +60,7 @@ returns-2 c =
     let p = c .before .before .before .before .before .before .before .before .before .plan-deck in
     let r = c .before .before .run-plan in
     let e = run-accepted (now (a .deck)) (p .result) (p .last .1 .0) (p .ensures) (c .before .before .before .before .before .before .before .if1 .left) (length (now (a .out))) (now (a .reel)) in
-    let plan = planIn zoneF (p .result .asked) (fieldsIn (take (5 * p .result .asked .count) (p .last .1 .0))) in
-    record {
-      answer = ap ranFrom (r .ensures .0) ∙ ran-same (length (now (a .out))) plan (now (a .reel)) ∙ ap (λ (x : Answer RuleRan). ranOf (runAnswer x)) (sym e);
-      output = r .ensures .1 ∙ ap (outputAfter (now (a .out))) (sym e);
-    }
+    record { answer = r .ensures .0 ∙ ap (λ (x : Answer RuleRan). ranStruct (runAnswer x)) (sym e); output = r .ensures .1 ∙ ap (outputAfter (now (a .out))) (sym e) }
 
 pub bhx-run-spec : {M : Type 1} → statement M
 bhx-run-spec =
