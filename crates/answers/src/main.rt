@@ -20,7 +20,7 @@ mod reel;
 mod run;
 mod say;
 mod text;
-mod twins;
+mod twin_records;
 
 ghost use mathlib.Core.Path.{_≡_};
 ghost use lib.ListN.{length};
@@ -120,7 +120,7 @@ fn deck_and_records(words: &[u8]) {
     let mut out = room();
     run::mark(&mut out);
     let lent = text::count(text::after(words, b' '), &out);
-    twins::tell(&deck[..n], &mut out, lent);
+    twin_records::tell(&deck[..n], &mut out, lent);
 }
 
 fn deck_and_two_reels(words: &[u8]) {

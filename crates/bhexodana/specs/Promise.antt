@@ -5,17 +5,19 @@ use Prim.Native.Nat.{ℕ}
 use lib.ListN.{length}
 use Rattle.rules.specs.Plan.{PlanAnswer, planAnswer}
 use Rattle.rules.specs.Lent.{plan, planInto, tableAfter, run, runAnswer, outputAfter}
-use Rattle.rules.specs.Twins.{twinsInto, TwinsAnswer, twinsAnswer, twinsAfter}
-use Rattle.rules.specs.Judge.{judge, JudgeAnswer, judgeAnswer}
+use Rattle.rules.specs.Twins.{twinsInto, twinsAnswer, twinsAfter}
+use Rattle.rules.specs.Judge.{judge, judgeAnswer}
 use Rattle.terms.specs.Meaning.{entryMeans, entryFor}
 use Rattle.terms.specs.declared.Entry.{Entry}
 use Rattle.plans.specs.Promise.{tableOf, stored}
 use Rattle.outcomes.specs.declared.Ran.{Ran}
 use Rattle.outcomes.specs.Promise.{ranStruct}
+use Rattle.twins.specs.declared.Twins.{Twins}
+use Rattle.twins.specs.Promise.{twinsOf}
+use Rattle.verdicts.specs.declared.Judged.{Judged}
+use Rattle.verdicts.specs.Promise.{judgedOf}
 use Rattle.bhexodana.specs.declared.Filling.{Filling}
-use Rattle.bhexodana.specs.declared.Judged.{Judged}
 use Rattle.bhexodana.specs.declared.Planned.{Planned}
-use Rattle.bhexodana.specs.declared.Twins.{Twins}
 
 -- ---- numbers
 
@@ -25,20 +27,6 @@ plannedOf n = record { refusal = n .refusal; place = n .place; column = n .colum
 
 abbrev pub numbersOf : Planned → PlanAnswer
 numbersOf r = record { refusal = r .refusal; place = r .place; column = r .column; keeping = r .keeping; lost = r .lost; fields = r .fields }
-
--- and of twins
-abbrev pub twinsOf : TwinsAnswer → Twins
-twinsOf x = record { refusal = x .refusal; place = x .place; column = x .column; reason = x .reason; length = x .written }
-
-abbrev pub twinsNumbers : Twins → TwinsAnswer
-twinsNumbers r = record { refusal = r .refusal; place = r .place; column = r .column; reason = r .reason; written = r .length }
-
--- and of a reel that is judged
-abbrev pub judgedOf : JudgeAnswer → Judged
-judgedOf x = record { refusal = x .refusal; place = x .place; column = x .column; yes = x .yes; number = x .number }
-
-abbrev pub judgeNumbers : Judged → JudgeAnswer
-judgeNumbers r = record { refusal = r .refusal; place = r .place; column = r .column; yes = r .yes; number = r .number }
 
 -- ---- the promises
 

@@ -2,6 +2,8 @@
 // elsewhere is a true conversion. Exported for C and Fortran.
 use outcomes::Ran;
 use terms::Entry;
+use twins::Twins;
+use verdicts::Judged;
 ghost use mathlib.Core.Path.{_≡_};
 ghost use mathlib.Core.List.{_++_};
 ghost use Prim.Native.Nat.{_≤_};
@@ -101,40 +103,12 @@ pub extern "C" fn bhx_run(deck: &[u8], reel: &[u8], out: &mut [u8]) -> Ran
     runs::run_plan(asked, &row[..end], reel, out)
 }
 
-// What is answered for twins: refusal, place, column, the reason, and how many bytes were written.
-#[repr(C)]
-pub struct Twins {
-    pub refusal: usize,
-    pub place: usize,
-    pub column: usize,
-    pub reason: usize,
-    pub length: usize,
-}
-
 // For a deck whose plan loses, two input records that it makes one, into an output that the caller lends. A refusal changes no byte.
 #[no_mangle]
 pub extern "C" fn bhx_twins(deck: &[u8], out: &mut [u8]) -> Twins
     ensures { λ r. ⌜ TwinsInto (now (deck .entry)) (now (out .entry)) r (now (out .exit)) ⌝ }
 {
-    let t = twins::twins_of(deck, out);
-    Twins {
-        refusal: t.refusal,
-        place: t.place,
-        column: t.column,
-        reason: t.reason,
-        length: t.length,
-    }
-}
-
-// What is answered of a reel from elsewhere: refusal, place, column, 1 for a true conversion or 0, and the number, from 1 in the output, of the first record that
-// disagrees or lacks a partner, or 0.
-#[repr(C)]
-pub struct Judged {
-    pub refusal: usize,
-    pub place: usize,
-    pub column: usize,
-    pub yes: usize,
-    pub number: usize,
+    twins::twins_of(deck, out)
 }
 
 // Whether theirs is a true conversion of ours by a deck of TR or TRF. Nothing is lent but to read.
@@ -142,12 +116,5 @@ pub struct Judged {
 pub extern "C" fn bhx_judge(deck: &[u8], ours: &[u8], theirs: &[u8]) -> Judged
     ensures { λ r. ⌜ JudgedAs (now (deck .entry)) (now (ours .entry)) (now (theirs .entry)) r ⌝ }
 {
-    let j = verdicts::judge_deck(deck, ours, theirs);
-    Judged {
-        refusal: j.refusal,
-        place: j.place,
-        column: j.column,
-        yes: j.yes,
-        number: j.number,
-    }
+    verdicts::judge_deck(deck, ours, theirs)
 }

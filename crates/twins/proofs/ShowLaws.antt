@@ -16,7 +16,7 @@ use Rattle.rules.specs.Permitted.{permitted, choices}
 use Rattle.rules.specs.Plan.{Plan, PlanAnswer, planAnswer, bit, recordLength, inputHalves, allowed, lostAt, keeps}
 use Rattle.rules.specs.Rows.{SizeWithin, FieldWithin, Inside}
 use Rattle.rules.specs.Lent.{zoneF, plan}
-use Rattle.rules.specs.Twins.{listed, lowest, second, raised, firstTwin, secondTwin, twins, reasonBy, reason, Shown, shown, twinsInto, twinsAnswer, twinsAfter}
+use Rattle.rules.specs.Twins.{listed, lowest, second, raised, firstTwin, secondTwin, twins, reasonBy, reason, Shown, shown, twinsInto, TwinsAnswer, twinsAnswer, twinsAfter}
 use Rattle.rules.proofs.AllLaws.{all-at}
 use Rattle.rules.proofs.ListedLaws.{getD-listed, listed-same}
 use Rattle.rules.proofs.KeepingLaws.{lowest-passes, second-passes}
@@ -38,7 +38,7 @@ use Rattle.keeping.proofs.Weighs.{fair-longest}
 use Rattle.plans.specs.Promise.{numbersIn, Holds, Plans}
 use Rattle.plans.specs.declared.Planned.{Planned}
 use Rattle.plans.proofs.FilledLaws.{refused-plan, accepted-plan, plan-is, plan-fair, row-holds}
-use Rattle.twins.specs.Promise.{raisedIn, Values, neededFor, recordsIn, WrittenInto, Loses, twinsOf, refusedTwins, fitting, ShownInto, TwinsWritten}
+use Rattle.twins.specs.Promise.{raisedIn, Values, neededFor, recordsIn, WrittenInto, Loses, twinsOf, twinsNumbers, refusedTwins, fitting, ShownInto, TwinsWritten}
 use Rattle.twins.specs.declared.Twins.{Twins}
 
 -- ---- the fields of an accepted plan
@@ -223,6 +223,10 @@ module _ (deck before : List ℕ) (r : Planned) (row : List ℕ) (w : Plans deck
         let k = loses-of e .loses in
         let q : Plan = planIn zoneF (r .asked) (fieldsIn (take (5 * r .asked .count) row)) in
         into-of (fitting (length before) q) (planned (fine q) (made .1 ∙ ap fine (sym is)) ∙ rw k refl) t after (s .answer) (s .output)
+
+-- the struct says all that the rules answer
+pub twins-told : (x : TwinsAnswer) → twinsNumbers (twinsOf x) ≡ x
+twins-told x = refl
 
 -- the promise allows one outcome alone
 pub only-one : (deck before : List ℕ) (r r′ : Twins) (after after′ : List ℕ) → TwinsWritten deck before r after → TwinsWritten deck before r′ after′ → (r ≡ r′) × (after ≡ after′)

@@ -43,8 +43,12 @@ pub record Loses (p : Plan) (lost : ℕ) : Type 0 where
 
 -- ---- the answer
 
+-- the struct that says what the rules say, and what it says
 abbrev pub twinsOf : TwinsAnswer → Twins
 twinsOf n = record { refusal = n .refusal; place = n .place; column = n .column; reason = n .reason; length = n .written }
+
+abbrev pub twinsNumbers : Twins → TwinsAnswer
+twinsNumbers r = record { refusal = r .refusal; place = r .place; column = r .column; reason = r .reason; written = r .length }
 
 abbrev pub refusedTwins : ℕ → ℕ → ℕ → Twins
 refusedTwins number place column = record { refusal = number; place = place; column = column; reason = 0; length = 0 }

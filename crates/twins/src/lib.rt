@@ -17,7 +17,8 @@ use terms::Asked;
 use terms::Field;
 use terms::Kind;
 
-// What is answered: refusal, place, column, reason, and how many bytes were written.
+// What is answered: refusal, place, column, the reason, and how many bytes were written. In C it lies as it stands here.
+#[repr(C)]
 pub struct Twins {
     pub refusal: usize,
     pub place: usize,

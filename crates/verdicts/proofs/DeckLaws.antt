@@ -13,7 +13,7 @@ use Rattle.rules.specs.Asked.{Asked as RuleAsked, Utility, askedOf}
 use Rattle.rules.specs.Keys.{throughUtility}
 use Rattle.rules.specs.Plan.{Plan, isFS, planOf, blockLength, combined, assembled}
 use Rattle.rules.specs.Lent.{zoneF, plan}
-use Rattle.rules.specs.Judge.{isFilling, judge, judgeOf, judgeAnswer, judgement}
+use Rattle.rules.specs.Judge.{isFilling, judge, judgeOf, JudgeAnswer, judgeAnswer, judgement}
 use Rattle.rules.proofs.AnswerLaws.{fine-same, bind-fine, then-fine, fine-bind}
 use Rattle.rules.proofs.JudgeSteps.{copiesBlocks, deck-copies, deck-fills}
 use Rattle.terms.specs.Meaning.{modeOf, formatOf, sizeOf, utilityOf, planIn, Means}
@@ -27,7 +27,7 @@ use Rattle.plans.specs.Promise.{Plans}
 use Rattle.plans.specs.declared.Planned.{Planned}
 use Rattle.plans.proofs.FilledLaws.{refused-plan, accepted-plan, plan-is, plan-fair, row-holds}
 use Rattle.verdicts.specs.declared.Judged.{Judged}
-use Rattle.verdicts.specs.Promise.{judgedOf, refusedWith, toldAs, Spanning, NotJudged}
+use Rattle.verdicts.specs.Promise.{judgedOf, judgeNumbers, refusedWith, toldAs, Spanning, NotJudged}
 
 -- ---- what the cards ask for
 
@@ -129,6 +129,12 @@ told-yes number e = rw (eq-eqb number 0 e)
 
 pub told-no : (number : ℕ) → (number ≡ 0 → ⊥) → record { refusal = 0; place = 0; column = 0; yes = 0; number = number } ≡ toldAs number
 told-no number o = rw (ne-eqb number 0 o)
+
+-- ---- the struct
+
+-- it says all that the rules answer
+pub judged-told : (x : JudgeAnswer) → judgeNumbers (judgedOf x) ≡ x
+judged-told x = refl
 
 -- ---- one outcome only
 

@@ -22,8 +22,12 @@ use Rattle.verdicts.specs.declared.Judged.{Judged}
 
 -- ---- the struct
 
+-- it says what the rules say, and this is what it says
 abbrev pub judgedOf : JudgeAnswer → Judged
 judgedOf x = record { refusal = x .refusal; place = x .place; column = x .column; yes = x .yes; number = x .number }
+
+abbrev pub judgeNumbers : Judged → JudgeAnswer
+judgeNumbers r = record { refusal = r .refusal; place = r .place; column = r .column; yes = r .yes; number = r .number }
 
 abbrev pub refusedWith : ℕ → ℕ → ℕ → Judged
 refusedWith refusal place column = record { refusal = refusal; place = place; column = column; yes = 0; number = 0 }

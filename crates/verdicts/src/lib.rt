@@ -18,7 +18,8 @@ use terms::Mode;
 use terms::Task;
 
 // What is answered: refusal, place and column; 1 for a true conversion or 0, and the number, from 1 in the output, of the first record that disagrees or lacks a
-// partner, or 0.
+// partner, or 0. In C it lies as it stands here.
+#[repr(C)]
 pub struct Judged {
     pub refusal: usize,
     pub place: usize,

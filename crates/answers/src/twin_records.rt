@@ -2,7 +2,7 @@
 use crate::digest;
 use crate::say;
 use crate::text;
-use bhexodana::Twins;
+use twins::Twins;
 ghost use Rattle.io.specs.Counts.{Counts};
 
 fn tell_answer(answer: Twins) {
