@@ -3,10 +3,10 @@
 use mathlib.Core.Path.{_≡_, refl, ap, sym, _∙_, subst}
 use mathlib.Core.List.{List, [], _∷_, _++_, map}
 use mathlib.Core.Option.{Option, none, some}
-use Prim.Native.Nat.{ℕ, zero, suc, _+_, _-_, _≤_, _<_}
+use Prim.Native.Nat.{ℕ, suc, _+_, _-_, _≤_, _<_}
 use native.Mathlib.Omega.{arith}
 use lib.ListN.{length, take, drop, length-drop}
-use lib.Seq.{slice, take-take, drop-drop, length-slice, take-nil, drop-nil}
+use lib.Seq.{slice, take-take, drop-drop, length-slice}
 use Rattle.rules.specs.Places.{All}
 use Rattle.rules.specs.Answer.{Answer, fine, refuse, _>>=_}
 use Rattle.rules.specs.Reader.{Read, read, stopped, listOf}
@@ -15,6 +15,7 @@ use Rattle.rules.specs.Order.{Operands, operandsOf}
 use Rattle.rules.specs.Grammar.{Item, item, fsOperand}
 use Rattle.rules.specs.Words.{Worded, worded, partsOf, fsWords, valuesOf}
 use Rattle.rules.specs.Asked.{itemsFrom}
+use Rattle.rules.proofs.Lists.{slice-from}
 use Rattle.rules.proofs.AllLaws.{all-head}
 use Rattle.rules.proofs.AnswerLaws.{bind-fine}
 use Rattle.rules.proofs.OrderOutcome.{order-fine}
@@ -30,16 +31,9 @@ use Rattle.cards.specs.Deck.{cardsIn, fsFirst, OperandAt, Operandless, F
 
 -- ---- a part of a part
 
-take-behind : {A : Type 0} (a t : ℕ) (l : List A) → take t (drop a l) ≡ drop a (take (a + t) l)
-take-behind zero t l = ap (λ (n : ℕ). take n l) (let e : t ≡ 0 + t = omega arith in e)
-take-behind (suc a) t [] = take-nil t ∙ sym (drop-nil (suc a)) ∙ sym (ap (drop (suc a)) (take-nil (suc a + t)))
-take-behind (suc a) t (x ∷ l) =
-    let e : suc (a + t) ≡ suc a + t = omega arith in
-    take-behind a t l ∙ ap (λ (n : ℕ). drop (suc a) (take n (x ∷ l))) e
-
 slice-within : (a e f t : ℕ) (l : List ℕ) → a + t ≤ e → slice f t (slice a e l) ≡ slice (a + f) (a + t) l
 slice-within a e f t l h =
-    ap (drop f) (take-behind a t (take e l) ∙ ap (drop a) (take-take (a + t) e l h)) ∙ drop-drop f a (take (a + t) l)
+    ap (drop f) (sym (slice-from a t (take e l)) ∙ ap (drop a) (take-take (a + t) e l h)) ∙ drop-drop f a (take (a + t) l)
 
 -- ---- the card at a place
 

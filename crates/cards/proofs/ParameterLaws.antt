@@ -2,7 +2,7 @@
 -- second one, and another is noted. So the card is read parameter by parameter, to its end or to where it stops.
 use mathlib.Core.Path.{_≡_, refl, ap, sym, _∙_, subst}
 use mathlib.Core.Bool.{Bool, true, false, cond, not, _&&_, _||_, and-true, and-false, or-true, or-false}
-use mathlib.Core.List.{List, [], _∷_, _++_, map}
+use mathlib.Core.List.{List, [], _∷_, _++_, map, map-append}
 use Prim.Native.Nat.{ℕ, zero, suc, _+_, _≤_, _<_}
 use native.Mathlib.Numerals.{add-one}
 use native.Mathlib.Omega.{arith}
@@ -17,7 +17,7 @@ use Rattle.rules.specs.Words.{Worded, worded, valuesOf, againColumn, numberColu
 use Rattle.rules.specs.Asked.{letter, among, distinct, sameLetter, parameterNumbers, Given, note, given}
 use Rattle.rules.proofs.ReaderLaws.{Within}
 use Rattle.rules.proofs.ParameterLaws.{within-parameter}
-use Rattle.rules.proofs.ParameterSteps.{letters-last, among-last, distinct-last, given-new, given-again}
+use Rattle.rules.proofs.ParameterSteps.{among-last, distinct-last, given-new, given-again}
 use Rattle.rules.proofs.ListLaws.{ahead, ahead-none, ahead-more, ahead-last, ahead-other, ahead-stop}
 use Rattle.rules.proofs.WordedLaws.{within-worded}
 use Rattle.rules.proofs.WordColumns.{word-taken, worded-stops, columns-shift, first-zero, width, width-last, values-last, outside-last, again-last}
@@ -131,7 +131,7 @@ module _ (c : ℕ) (low : 1 ≤ c) (st : Parameters) (ws : List (Worded Paramete
   letters = map letter (valuesOf ws)
 
   letters-said : map letter (valuesOf with-said) ≡ letters ++ (letter said ∷ [])
-  letters-said = ap (map letter) (values-last ws word) ∙ letters-last (valuesOf ws) said
+  letters-said = ap (map letter) (values-last ws word) ∙ map-append letter (valuesOf ws) (said ∷ [])
 
   among-said : (j : ℕ) → among j (map letter (valuesOf with-said)) ≡ (among j letters || eqb j (letter said))
   among-said j = ap (among j) letters-said ∙ among-last j letters (letter said)

@@ -1,14 +1,14 @@
 -- The answer of a run, step by step: each refusal is that of the first step that refuses. By the definition of a run.
 use mathlib.Core.Path.{_≡_, refl, ap, sym, _∙_, subst}
 use mathlib.Core.Bool.{true, false}
-use mathlib.Core.List.{List, [], _∷_}
+use mathlib.Core.List.{List}
 use mathlib.Core.Logic.{inl}
 use Prim.Native.Nat.{ℕ, zero, suc, _-_, _≤_, _<_}
 use native.Mathlib.Omega.{arith}
-use lib.ListN.{length, getD}
+use lib.ListN.{length}
 use Rattle.rules.specs.Base.{joined}
 use Rattle.rules.specs.Answer.{Answer, fine, refuse, refused, _>>=_, _>>_, unless, each}
-use Rattle.rules.specs.Places.{All, noMore, also, Byte}
+use Rattle.rules.specs.Places.{All, Byte}
 use Rattle.rules.specs.Grammar.{tc}
 use Rattle.rules.specs.Reel.{isReel}
 use Rattle.rules.specs.Plan.{Plan, selects, isTC, recordLength}
@@ -116,10 +116,6 @@ none-asked task fields s a h p recs x =
     (all-joined (taken-all-of (p .first - 1) (holds-whole p ok (all-blocks s a) (holds-of p ok 1 (all-blocks s a) recs (x .fair .good .records))))))
 
 -- ---- 14
-
-pub bytes-of : (s : List ℕ) → ((i : ℕ) → getD s i 0 < 256) → All Byte s
-bytes-of [] h = noMore
-bytes-of (b ∷ s) h = also (h 0) (bytes-of s (λ i. h (suc i)))
 
 module _ {task : Task} {fields s : List ℕ} where
   pub measurable : isTC (modeOf (task .mode)) ≡ false → ReadBy task fields s → Measurable task s

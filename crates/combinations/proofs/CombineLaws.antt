@@ -12,17 +12,19 @@ use borrow.Author.Tests.{eq-eqb, ne-eqb, le-leb, lt-leb}
 use Rattle.rules.specs.Base.{_⇒_, every, isEmpty, joined}
 use Rattle.rules.specs.Places.{All, noMore, also}
 use Rattle.rules.specs.Answer.{Answer, fine, refuse, refused, refusalOf, placeOf, _>>_, unless, each}
-use Rattle.rules.specs.Grammar.{Mode, tc, tf, tr, trf, Format, ff, fv, fu, fsp, Size, two, one, Input, plain, keyed, CardField, Item}
-use Rattle.rules.specs.Halves.{Kind as RuleKind, copy, pack, unpack, inputSize, outputSize, Field as RuleField}
+use Rattle.rules.specs.Grammar.{Mode, tc, tf, tr, trf, Format, ff, fv, fu, fsp, Size, Input, plain, keyed, CardField, Item}
+use Rattle.rules.specs.Halves.{Field as RuleField}
 use Rattle.rules.specs.Asked.{Utility, Asked as RuleAsked, fieldsOf, cvs}
 use Rattle.rules.specs.Keys.{throughUtility}
 use Rattle.rules.specs.Plan.{isTC, isTF, isTR, isFF, isFV, isFU, isFS, selects, numbers, wanted, recordLength, blockLength, whole, equal, roomy, combinations, sound, joinedSize, keyLength, through, isKeyed, keyFits, keyFields, cardFits, inside, insidePart, inputHalves, barrenHalf, combined, assembled, Plan}
 use Rattle.rules.proofs.AllLaws.{all-at, all-imply}
-use Rattle.rules.proofs.BlockSizes.{all-map}
+use Rattle.rules.proofs.BlockSizes.{all-map, size-least, record-most}
 use Rattle.rules.proofs.KeyLaws.{joined-within, Named}
 use Rattle.rules.proofs.AcceptedLaws.{key-fits}
 use Rattle.rules.proofs.AnswerLaws.{fine-then, then-fine, fine-unless, each-fine, then-assoc}
-use Rattle.rules.specs.Rows.{Within, SizeWithin, InputWithin, UtilityWithin, KindWithin, FieldWithin}
+use Rattle.rules.specs.Rows.{InputWithin, UtilityWithin, FieldWithin}
+use Rattle.rules.proofs.RecordLaws.{sizes-within}
+use Rattle.rules.proofs.LimitLaws.{two-of}
 use Rattle.terms.specs.Meaning.{modeOf, formatOf, sizeOf, fieldOf, laid, laidFields, noField, utilityOf, firstCard, keyCard, Means}
 use Rattle.terms.proofs.Laid.{inside-laid, laid-through, laid-within}
 use Rattle.terms.specs.declared.Asked.{Asked}
@@ -357,20 +359,6 @@ module _ (zone : ℕ) (x : Asked) (a : RuleAsked) (m : Means x a) (u : UtilityWi
 
 -- ---- what `combine` asks holds within the limits
 
-size-some : (f : Format) (s : Size) → SizeWithin f s → numbers s ≡ 2 → 1 ≤ recordLength s
-size-some f (two n m) w e = w .0 .0
-size-some f (one g) w e = absurd (omega arith)
-
-size-most : (f : Format) (s : Size) → SizeWithin f s → recordLength s ≤ 4096
-size-most f (two n m) w = w .0 .1
-size-most f (one g) w = omega arith
-
--- the two sizes of a field within its limits
-sizes-within : (k : RuleKind) → KindWithin k → Within 1 4096 (inputSize k) × Within 1 4096 (outputSize k)
-sizes-within (copy s) w = omega arith
-sizes-within (pack n m) w = omega arith
-sizes-within (unpack n m) w = omega arith
-
 field-fair : (k : ℕ) (f : CardField) → k ≤ 4096 → FieldWithin (f .field) → FieldFair (fieldFor (laid k f))
 unfolding fieldFor laid
 field-fair k f h w =
@@ -414,10 +402,10 @@ asked-fair x a row m u w e =
       sizes =
           rw (input-is 0 x a m u w, output-is 0 x a m u w)
           (record {
-            some-A = size-some f (joinedSize (a .utility .input)) own;
-            some-B = size-some f b (u .output);
-            most-A = size-most f (joinedSize (a .utility .input)) own;
-            most-B = size-most f b (u .output);
+            some-A = λ e. size-least f (joinedSize (a .utility .input)) own (two-of _ e);
+            some-B = λ e. size-least f b (u .output) (two-of _ e);
+            most-A = record-most f (joinedSize (a .utility .input)) own;
+            most-B = record-most f b (u .output);
           });
       fields = subst FieldsFair (sym e) (fields-fair (keyLength (a .utility .input)) (fieldsOf (joined (a .cards))) (key-most f (a .utility .input) (u .input)) w);
     }

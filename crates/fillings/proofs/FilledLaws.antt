@@ -8,6 +8,7 @@ use lib.ListN.{length, length-append}
 use Rattle.rules.specs.Base.{joined}
 use Rattle.rules.specs.Grammar.{Mode, Format, tc, tf, tr, trf}
 use Rattle.rules.specs.Output.{blockOf, cost, total}
+use Rattle.rules.proofs.Lists.{mapped-append, mapped-last}
 use Rattle.rules.proofs.BlockLaws.{length-block}
 use Rattle.rules.proofs.FillLaws.{total-snoc}
 use Rattle.terms.specs.Meaning.{modeOf}
@@ -17,7 +18,6 @@ use Rattle.fillings.specs.declared.Tally.{Tally}
 use Rattle.fillings.specs.Tallying.{overfillsOf, opensIn, opensOf, tallyOf}
 use Rattle.fillings.proofs.TallyLaws.{tally-opens, tally-behind, over-first, over-later, empty}
 use Rattle.fillings.proofs.Gathering.{gather, gathered}
-use Rattle.fillings.proofs.LaidLaws.{bytes-append, bytes-snoc}
 
 -- ---- the blocks so far
 
@@ -37,10 +37,10 @@ sizeOf f (r ∷ rs) = total (cost f) (cost f) (r ∷ rs)
 
 module _ (f : Format) (bs : List (List (List ℕ))) where
   length-both : (more : List (List (List ℕ))) → length (bytesIn f (bs ++ more)) ≡ length (bytesIn f bs) + length (bytesIn f more)
-  length-both more = ap length (bytes-append (blockOf f) bs more) ∙ length-append (bytesIn f bs) (bytesIn f more)
+  length-both more = ap length (mapped-append (blockOf f) bs more) ∙ length-append (bytesIn f bs) (bytesIn f more)
 
   pub length-snoc : (b : List (List ℕ)) → length (bytesIn f (bs ++ (b ∷ []))) ≡ length (bytesIn f bs) + total (cost f) (cost f) b
-  length-snoc b = omega (arith, ap length (bytes-snoc (blockOf f) bs b), length-append (bytesIn f bs) (blockOf f b), length-block f b)
+  length-snoc b = omega (arith, ap length (mapped-last (blockOf f) bs b), length-append (bytesIn f bs) (blockOf f b), length-block f b)
 
 -- ---- whether a record opens a block, by the size of the one that is open
 

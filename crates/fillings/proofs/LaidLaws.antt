@@ -2,28 +2,19 @@
 -- stand before the base, and since a piece goes behind the last byte that was laid, or its block's word over the one that stood there, which is as long.
 -- A piece is a record with its word, or a segment with its own.
 use mathlib.Core.Path.{_≡_, ap, ap₂, sym, _∙_}
-use mathlib.Core.List.{List, [], _∷_, _++_, map, append-nil, append-assoc, map-append}
+use mathlib.Core.List.{List, [], _∷_, _++_, map, append-assoc, map-append}
 use Prim.Native.Nat.{ℕ, _+_, _*_, _≤_}
 use native.Mathlib.Omega.{arith}
 use lib.ListN.{length, length-append, length-map}
 use Rattle.rules.specs.Base.{joined}
 use Rattle.rules.specs.Halves.{over}
 use Rattle.rules.specs.Reel.{word, ends, reelOf}
-use Rattle.rules.proofs.PartLaws.{joined-append}
+use Rattle.rules.proofs.Lists.{mapped-last}
 use Rattle.rules.proofs.SizeLaws.{length-over}
 use Rattle.rules.proofs.PlaceLaws.{over-nothing, over-behind, over-apart, over-part}
 use Rattle.rules.proofs.WordLaws.{length-word}
 use Rattle.rules.proofs.ReelLaws.{length-ends, length-reel}
 use Rattle.rules.proofs.BlockPlaces.{heads, length-heads, heads-snoc, heads-ends}
-
--- ---- the bytes of blocks
-
-module _ {A : Type 0} (block : A → List ℕ) (bs : List A) where
-  pub bytes-append : (more : List A) → joined (map block (bs ++ more)) ≡ joined (map block bs) ++ joined (map block more)
-  bytes-append more = ap joined (map-append block bs more) ∙ joined-append (map block bs) (map block more)
-
-  pub bytes-snoc : (b : A) → joined (map block (bs ++ (b ∷ []))) ≡ joined (map block bs) ++ block b
-  bytes-snoc b = bytes-append (b ∷ []) ∙ ap (joined (map block bs) ++_) (append-nil (block b))
 
 -- ---- blocks of pieces
 
@@ -55,7 +46,7 @@ module _ {P : Type 0} (x : Framing P) where
   bytesBy bs = joined (map (x .block) bs)
 
   pub length-more : (bs : List (List P)) (b : List P) → length (bytesBy (bs ++ (b ∷ []))) ≡ length (bytesBy bs) + (x .cost + length (x .body b))
-  length-more bs b = omega (arith, ap length (bytes-snoc (x .block) bs b), length-append (bytesBy bs) (x .block b), length-block b)
+  length-more bs b = omega (arith, ap length (mapped-last (x .block) bs b), length-append (bytesBy bs) (x .block b), length-block b)
 
 -- ---- blocks that are laid
 
@@ -118,7 +109,7 @@ module _ {P : Type 0} (x : Framing P) (base : ℕ) (old : List ℕ) where
           ∙ ap (j ++_)
           (ap₂ (λ (i : ℕ) (q : List ℕ). x .sizeWord i ++ q) (let z : size ≡ x .cost + length (x .body (p ∷ [])) = omega arith in z) (sym (body-one x p))
           ∙ sym (x .is (p ∷ [])))
-          ∙ sym (bytes-snoc (x .block) bs (p ∷ [])))
+          ∙ sym (mapped-last (x .block) bs (p ∷ [])))
           (ap (λ (i : ℕ). hs ++ word i) b
           ∙ sym (heads-snoc base (map (x .block) bs) (x .block (p ∷ [])))
           ∙ ap (heads base) (sym (map-append (x .block) bs ((p ∷ []) ∷ []))))
@@ -141,7 +132,7 @@ module _ {P : Type 0} (x : Framing P) (base : ℕ) (old : List ℕ) where
         let room : base + length (bytesBy x old-blocks) + length (x .piece p) ≤ length old = omega (arith, length-more x closed new, length-more x closed now) in
         let n : length y ≡ length old = headed-length old-blocks front (omega arith) in
         let same : length after ≡ length before = x .long size ∙ sym (x .long (x .cost + length (x .body now))) in
-        let is : bytesBy x old-blocks ≡ j ++ (before ++ body) = bytes-snoc (x .block) closed now ∙ ap (j ++_) (x .is now) in
+        let is : bytesBy x old-blocks ≡ j ++ (before ++ body) = mapped-last (x .block) closed now ∙ ap (j ++_) (x .is now) in
         let long : length (j ++ (after ++ body)) ≡ length (bytesBy x old-blocks)
         = omega (arith, ap length is, length-append j (after ++ body), length-append j (before ++ body), length-append after body, length-append before body) in
         let heads-in : (b : List P) → heads base (map (x .block) (closed ++ (b ∷ []))) ≡ heads base (map (x .block) closed) ++ word (base + length (bytesBy x closed))
@@ -155,7 +146,7 @@ module _ {P : Type 0} (x : Framing P) (base : ℕ) (old : List ℕ) where
         (append-assoc after body (x .piece p)
         ∙ ap₂ (λ (i : ℕ) (q : List ℕ). x .sizeWord i ++ q) (let z : size ≡ x .cost + length (x .body new) = omega arith in z) (sym (x .behind now p))
         ∙ sym (x .is new))
-        ∙ sym (bytes-snoc (x .block) closed new))
+        ∙ sym (mapped-last (x .block) closed new))
         (heads-in now ∙ sym (heads-in new))
 
 -- ---- the reel

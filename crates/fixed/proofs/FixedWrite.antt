@@ -1,7 +1,7 @@
 -- In FF the offsets, and behind them the outputs of all records taken, are the offsets and the blocks of the output. By what the rules write there in closed form.
-use mathlib.Core.Path.{_≡_, refl, ap, ap₂, sym, _∙_, subst}
-use mathlib.Core.Bool.{Bool, true, false}
-use mathlib.Core.List.{List, [], _∷_, map}
+use mathlib.Core.Path.{_≡_, refl, ap, sym, _∙_, subst}
+use mathlib.Core.Bool.{false}
+use mathlib.Core.List.{List, map}
 use Prim.Native.Nat.{ℕ, _+_, _-_, _*_, _/_, _≤_}
 use native.Mathlib.Omega.{arith}
 use lib.ListN.{length, take, drop, length-drop}
@@ -14,11 +14,13 @@ use Rattle.rules.specs.Reel.{ends}
 use Rattle.rules.specs.Blocks.{takenFrom}
 use Rattle.rules.specs.Output.{outRecord}
 use Rattle.rules.specs.EvenRecords.{Even}
+use Rattle.rules.proofs.Lists.{map-same, map-own}
 use Rattle.rules.proofs.ReelLaws.{length-ends, length-reel}
 use Rattle.rules.proofs.LentParts.{rest-over}
 use Rattle.rules.proofs.PlaceLaws.{over-behind}
 use Rattle.rules.proofs.Never.{output-other}
 use Rattle.rules.proofs.EvenOutput.{output-bytes, output-length}
+use Rattle.rules.proofs.Tests.{never-true}
 use Rattle.terms.specs.declared.Task.{Task}
 use Rattle.terms.specs.declared.Format.the-variants.{FF}
 use Rattle.walks.specs.Walking.{fixedStart}
@@ -27,14 +29,6 @@ use Rattle.fillings.proofs.FixedLaws.{is-fixed, record-some, data-even, records
 use Rattle.fixed.specs.Promise.{blocksIn, Ready, outOf, Lent, BodyPut}
 use Rattle.fixed.specs.Fixed.{BytesFit, BytesPut, EndsFit, EndsPut}
 use Rattle.fixed.proofs.ReadyLaws.{count-is, input-small, fair-is, out-is}
-
-map-same : {f g : List ℕ → List ℕ} → ((r : List ℕ) → f r ≡ g r) → (rs : List (List ℕ)) → map f rs ≡ map g rs
-map-same h [] = refl
-map-same h (r ∷ rs) = ap₂ _∷_ (h r) (map-same h rs)
-
-map-none : {f : List ℕ → List ℕ} → ((r : List ℕ) → f r ≡ r) → (rs : List (List ℕ)) → map f rs ≡ rs
-map-none h [] = refl
-map-none h (r ∷ rs) = ap₂ _∷_ (h r) (map-none h rs)
 
 module _ {task : Task} {xs s : List ℕ} {blocks : ℕ} (old : List ℕ) (y : Lent task xs s blocks (length old)) (f : task .format ≡ FF) {from : ℕ} (b : from ≡ fixedStart (formOf task) s (task .first)) where
   abbrev x : Ready task s blocks (length old)
@@ -74,16 +68,10 @@ module _ {task : Task} {xs s : List ℕ} {blocks : ℕ} (old : List ℕ) (y : Le
   -- ---- for the outputs
 
   none-carried : task .carries ≡ false
-  none-carried = x .is .carries ∙ go (x .p .carries) refl
+  none-carried = x .is .carries ∙ never-true (x .p .carries) (λ c. differ (sym (is-fixed (x .is) (x .good) f) ∙ x .good .accepted .with-FV c))
     where
-      go : (c : Bool) → x .p .carries ≡ c → x .p .carries ≡ false
-      go false c = c
-      go true c =
-          let e : ff ≡ fv = sym (is-fixed (x .is) (x .good) f) ∙ x .good .accepted .with-FV c in
-          absurd (differ e)
-        where
-          differ : ff ≡ fv → ⊥
-          differ e = let z : _≡_ {A = ℕ} 0 1 = cc in omega arith
+      differ : ff ≡ fv → ⊥
+      differ e = let z : _≡_ {A = ℕ} 0 1 = cc in omega arith
 
   block-is : {block : List ℕ} → block ≡ drop from s → Even (task .n) block taken
   block-is d = subst (λ (z : List ℕ). Even (task .n) z (joined (takenFrom (x .p .first) (x .recs)))) (sym d) (data-even (x .is) (x .good) f refl b)
@@ -103,7 +91,7 @@ module _ {task : Task} {xs s : List ℕ} {blocks : ℕ} (old : List ℕ) (y : Le
         none-carried = none-carried;
         whole = λ m.
             let other : selects (x .p .mode) ≡ false = ap selects (sym (x .is .mode)) ∙ m in
-            omega (arith, ap length (bytes-are ∙ ap joined (map-none (output-other (x .p) other) taken) ∙ block-is d .is));
+            omega (arith, ap length (bytes-are ∙ ap joined (map-own (output-other (x .p) other) taken) ∙ block-is d .is));
       }
 
   pub room-behind : (n : ℕ) → n ≡ length old → 4 * blocks + 8 + length (joined (blocksIn (x .p) (x .recs))) ≤ n

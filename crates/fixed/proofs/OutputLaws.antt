@@ -1,8 +1,8 @@
 -- Records of equal length, one behind the other, and their outputs one behind the other: each turn puts one more, and what is left is the outputs of the records that are left.
 -- By going from record to record.
-use mathlib.Core.Path.{_≡_, refl, ap, ap₂, sym, _∙_, subst}
+use mathlib.Core.Path.{_≡_, refl, ap, sym, _∙_, subst}
 use mathlib.Core.Bool.{Bool, true, false, cond}
-use mathlib.Core.List.{List, [], _∷_, _++_, map}
+use mathlib.Core.List.{List, _++_, map}
 use Prim.Native.Nat.{ℕ, _+_, _-_, _*_, _≤_, _<_}
 use native.Mathlib.Nat.{suc-mul}
 use native.Mathlib.Omega.{arith}
@@ -13,6 +13,7 @@ use Rattle.rules.specs.Base.{joined}
 use Rattle.rules.specs.Halves.{over, Field}
 use Rattle.rules.specs.Plan.{selects}
 use Rattle.rules.specs.EvenRecords.{Even}
+use Rattle.rules.proofs.Lists.{map-same, map-own}
 use Rattle.rules.proofs.AllLaws.{all-imply}
 use Rattle.rules.proofs.BlockSizes.{all-map}
 use Rattle.rules.proofs.BlockLaws.{length-joined}
@@ -110,21 +111,16 @@ module _ (task : Task) (xs block old new : List ℕ) (y : BytesFit task xs block
   -- TR: all of them at once
   pub bytes-copied : {m : Mode} → task .mode ≡ m → selects (modeOf m) ≡ false → new ≡ over 0 block old → BytesPut task xs block old new
   unfolding BytesPut outOf
-  bytes-copied m s q fs fair rs e = q ∙ ap (λ (z : List ℕ). over 0 z old) (sym (e .is) ∙ ap joined (same rs))
+  bytes-copied m s q fs fair rs e = q ∙ ap (λ (z : List ℕ). over 0 z old) (sym (e .is) ∙ ap joined (sym (map-own same rs)))
     where
-      same : (rs : List (List ℕ)) → rs ≡ map (λ r. cond (selects (modeOf (task .mode))) (outBytes (task .n) (task .width) fs (task .carries) r) r) rs
-      same [] = refl
-      same (r ∷ rs) = ap₂ _∷_ (sym (ap (λ (b : Bool). cond b (outBytes (task .n) (task .width) fs (task .carries) r) r) (selects-as task m false s))) (same rs)
+      same : (r : List ℕ) → cond (selects (modeOf (task .mode))) (outBytes (task .n) (task .width) fs (task .carries) r) r ≡ r
+      same r = ap (λ (b : Bool). cond b (outBytes (task .n) (task .width) fs (task .carries) r) r) (selects-as task m false s)
 
   pub bytes-selected : {m : Mode} → task .mode ≡ m → selects (modeOf m) ≡ true → OutputsPut xs (task .n) (task .width) block old new → BytesPut task xs block old new
   unfolding OutputsPut BytesPut outOf
-  bytes-selected m s q fs fair rs e = q fs fair rs e ∙ ap (λ (z : List (List ℕ)). over 0 (joined z) old) (same rs)
+  bytes-selected m s q fs fair rs e = q fs fair rs e ∙ ap (λ (z : List (List ℕ)). over 0 (joined z) old) (map-same same rs)
     where
-      same : (rs : List (List ℕ))
-          → map (outBytes (task .n) (task .width) fs false) rs ≡ map (λ r. cond (selects (modeOf (task .mode))) (outBytes (task .n) (task .width) fs (task .carries) r) r) rs
-      same [] = refl
-      same (r ∷ rs) =
-          ap₂ _∷_
-          (ap (λ (c : Bool). outBytes (task .n) (task .width) fs c r) (sym (y .none-carried))
-          ∙ sym (ap (λ (b : Bool). cond b (outBytes (task .n) (task .width) fs (task .carries) r) r) (selects-as task m true s)))
-          (same rs)
+      same : (r : List ℕ) → outBytes (task .n) (task .width) fs false r ≡ cond (selects (modeOf (task .mode))) (outBytes (task .n) (task .width) fs (task .carries) r) r
+      same r =
+          ap (λ (c : Bool). outBytes (task .n) (task .width) fs c r) (sym (y .none-carried))
+          ∙ sym (ap (λ (b : Bool). cond b (outBytes (task .n) (task .width) fs (task .carries) r) r) (selects-as task m true s))

@@ -12,13 +12,13 @@ use Rattle.rules.specs.Halves.{Field, over}
 use Rattle.rules.specs.Grammar.{Format, Size}
 use Rattle.rules.specs.Plan.{Plan, selects, recordLength}
 use Rattle.rules.specs.Output.{outRecord}
-use Rattle.rules.specs.RecordParts.{Fits, writtenBytes}
+use Rattle.rules.specs.RecordParts.{writtenBytes}
 use Rattle.rules.specs.Rows.{SizeWithin}
 use Rattle.rules.specs.Lent.{zoneF}
 use Rattle.rules.specs.Judge.{agrees}
 use Rattle.rules.proofs.AllLaws.{all-imply}
 use Rattle.rules.proofs.PermittedLaws.{same-test}
-use Rattle.rules.proofs.RecordLaws.{Shape, fixed, variable, shape-of}
+use Rattle.rules.proofs.RecordLaws.{Shape, fixed, variable, shape-of, fits-wider}
 use Rattle.rules.proofs.AgreeBytes.{tailOut, agrees-selected, agrees-carried}
 use Rattle.terms.specs.Meaning.{modeOf}
 use Rattle.terms.specs.declared.Mode.{Mode}
@@ -106,18 +106,7 @@ width-least (variable la lb) w = w .0 .1
 given-fields : {task : Task} {fields : List ℕ} (p : Plan) → Given task fields p → (k : ℕ) → recordLength (p .input) ≤ k → (m : ℕ) → m ≡ recordLength (p .output) → Fielded fields k m
 given-fields p g k l m e =
     let fair = fair-of p (g .accepted) in
-    record { fields = p .fields; fair = record { flat = g .flat; fits = all-imply longer (fair .fits); sizes = fair .sizes } }
-  where
-    longer : (f : Field) → Fits (recordLength (p .input)) (recordLength (p .output)) f → Fits k m f
-    longer f w =
-        record {
-          r-low = w .r-low;
-          t-low = w .t-low;
-          input-low = w .input-low;
-          output-low = w .output-low;
-          input-high = omega (arith, w .input-high);
-          output-high = omega (arith, w .output-high);
-        }
+    record { fields = p .fields; fair = record { flat = g .flat; fits = all-imply (fits-wider k m l (omega arith)) (fair .fits); sizes = fair .sizes } }
 
 module _ {task : Task} {fields r : List ℕ} {room : ℕ} (s : Selecting task fields r room) where
   pub width-most : task .width ≤ 4096

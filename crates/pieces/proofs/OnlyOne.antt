@@ -12,29 +12,26 @@ use Rattle.pieces.specs.declared.Form.{Form}
 use Rattle.pieces.specs.declared.StartRead.{StartRead}
 use Rattle.pieces.specs.declared.PieceRead.{PieceRead}
 
-only-one : {A : Type 0} {x y z : A} → x ≡ z → y ≡ z → x ≡ y
-only-one e f = e ∙ sym f
-
 pub only-one-word : (s : List ℕ) (at r r′ : ℕ) → r ≡ wordAt s at → r′ ≡ wordAt s at → r ≡ r′
-only-one-word s at r r′ = only-one
+only-one-word s at r r′ e f = e ∙ sym f
 
 pub only-one-start : (form : Form) (b : List ℕ) (r r′ : StartRead) → r ≡ startOf form b → r′ ≡ startOf form b → r ≡ r′
-only-one-start form b r r′ = only-one
+only-one-start form b r r′ e f = e ∙ sym f
 
 pub only-one-variable-start : (b : List ℕ) (r r′ : StartRead) → r ≡ variableStart b → r′ ≡ variableStart b → r ≡ r′
-only-one-variable-start b r r′ = only-one
+only-one-variable-start b r r′ e f = e ∙ sym f
 
 pub only-one-piece : (form : Form) (b : List ℕ) (i : ℕ) (r r′ : PieceRead) → r ≡ pieceOf form b i → r′ ≡ pieceOf form b i → r ≡ r′
-only-one-piece form b i r r′ = only-one
+only-one-piece form b i r r′ e f = e ∙ sym f
 
 pub only-one-segment : (b : List ℕ) (i : ℕ) (r r′ : PieceRead) → r ≡ wordedIn 3 b i → r′ ≡ wordedIn 3 b i → r ≡ r′
-only-one-segment b i r r′ = only-one
+only-one-segment b i r r′ e f = e ∙ sym f
 
 pub only-one-put-word : (at value : ℕ) (out x x′ : List ℕ) → x ≡ over at (word value) out → x′ ≡ over at (word value) out → x ≡ x′
-only-one-put-word at value out x x′ = only-one
+only-one-put-word at value out x x′ e f = e ∙ sym f
 
 pub only-one-put-coded-word : (at code length : ℕ) (out x x′ : List ℕ) → x ≡ over at (codedWord code length) out → x′ ≡ over at (codedWord code length) out → x ≡ x′
-only-one-put-coded-word at code length out x x′ = only-one
+only-one-put-coded-word at code length out x x′ e f = e ∙ sym f
 
 pub only-one-put-length-word : (at length : ℕ) (out x x′ : List ℕ) → x ≡ over at (lengthWord length) out → x′ ≡ over at (lengthWord length) out → x ≡ x′
-only-one-put-length-word at length out x x′ = only-one
+only-one-put-length-word at length out x x′ e f = e ∙ sym f

@@ -14,10 +14,11 @@ use Rattle.rules.specs.Blocks.{Piece, wordLength, headedTo, withPiece, piecesIn
 use Rattle.rules.specs.Output.{cost}
 use Rattle.rules.specs.ReelPlaces.{pieceAt, piecesAt, pieceFrom, goodFrom, behind, goodStart}
 use Rattle.rules.proofs.BlockWords.{wordLength-at}
-use Rattle.rules.proofs.CodedWords.{HeadedTo, headedTo-exactly}
-use Rattle.rules.proofs.SpannedSteps.{headedTo-short, walkAt, walkAt-end, walkAt-good, walkAt-bad}
+use Rattle.rules.proofs.CodedWords.{HeadedTo, headedTo-exactly, headedTo-short}
+use Rattle.rules.proofs.SpannedSteps.{walkAt, walkAt-end, walkAt-good, walkAt-bad}
 use Rattle.rules.proofs.BlockSteps.{pieces-start, pieces-end, good-inside, pieces-good, pieces-bad}
 use Rattle.rules.proofs.PieceLaws.{takes-some, pieces-none}
+use Rattle.rules.proofs.Tests.{never-true, failing}
 use Rattle.pieces.specs.Pieces.{lengthOf, startIn, variableStart, found, pieceIn, wordedIn, fixedPiece}
 use Rattle.pieces.specs.declared.Cursor.{Cursor}
 use Rattle.pieces.specs.declared.LengthRead.the-variants.{Length, NoLength}
@@ -33,11 +34,7 @@ unfolding lengthOf
 no-length top low s e = rw e
 
 not-headed : (top low : ℕ) (s : List ℕ) → (HeadedTo top low s → ⊥) → NoLength ≡ lengthOf top low s
-not-headed top low s f = no-length top low s (go (headedTo top low s) refl)
-  where
-    go : (t : Bool) → headedTo top low s ≡ t → headedTo top low s ≡ false
-    go true t = absurd (f (headedTo-exactly top low s .0 t))
-    go false t = t
+not-headed top low s f = no-length top low s (failing (headedTo top low s) (headedTo-exactly top low s) f)
 
 module _ (top low : ℕ) (b : List ℕ) (i : ℕ) where
   -- the ways in which there is no word
@@ -81,11 +78,7 @@ length-told top low s v e = go (headedTo top low s) refl
 
 pub none-told : (top low : ℕ) (s : List ℕ) → lengthOf top low s ≡ NoLength → headedTo top low s ≡ false
 unfolding lengthOf
-none-told top low s e = go (headedTo top low s) refl
-  where
-    go : (t : Bool) → headedTo top low s ≡ t → headedTo top low s ≡ false
-    go true t = let e′ : Length (wordLength s) ≡ NoLength = rw t at e in let z : _≡_ {A = ℕ} 0 1 = cc in absurd (omega arith)
-    go false t = t
+none-told top low s e = never-true (headedTo top low s) (λ t. let e′ : Length (wordLength s) ≡ NoLength = rw t at e in let z : _≡_ {A = ℕ} 0 1 = cc in omega arith)
 
 pub length-within : (top low : ℕ) (s : List ℕ) (v : ℕ) → lengthOf top low s ≡ Length v → (low ≤ v) × (v ≤ length s)
 length-within top low s v e =
@@ -125,11 +118,7 @@ start-told b c e = go (goodStart fv b) refl
     go false t = let e′ : NoStart ≡ From c = start-bad fv b t ∙ e in let z : _≡_ {A = ℕ} 0 1 = cc in absurd (omega arith)
 
 pub start-untold : (b : List ℕ) → variableStart b ≡ NoStart → goodStart fv b ≡ false
-start-untold b e = go (goodStart fv b) refl
-  where
-    go : (t : Bool) → goodStart fv b ≡ t → goodStart fv b ≡ false
-    go true t = let e′ : From (record { at = 4 }) ≡ NoStart = start-good fv b t ∙ e in let z : _≡_ {A = ℕ} 0 1 = cc in absurd (omega arith)
-    go false t = t
+start-untold b e = never-true (goodStart fv b) (λ t. let e′ : From (record { at = 4 }) ≡ NoStart = start-good fv b t ∙ e in let z : _≡_ {A = ℕ} 0 1 = cc in omega arith)
 
 -- ---- the piece at a place
 

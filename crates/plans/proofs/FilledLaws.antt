@@ -1,7 +1,7 @@
 -- What the numbers of a plan say of the rules' answer, what its struct and its row hold, and so what is filled into a table; and what the lent table then holds.
 use mathlib.Core.Path.{_≡_, refl, ap, sym, subst, _∙_}
-use mathlib.Core.List.{List, [], _∷_, _++_, map}
-use Prim.Native.Nat.{ℕ, zero, suc, _+_, _-_, _*_, _≤_, _<_}
+use mathlib.Core.List.{List, [], _++_, map, map-append}
+use Prim.Native.Nat.{ℕ, _+_, _-_, _*_, _≤_, _<_}
 use native.Mathlib.Omega.{arith}
 use lib.ListN.{length, take, drop, length-map}
 use lib.Seq.{take-at}
@@ -18,6 +18,7 @@ use Rattle.rules.specs.Rows.{FieldWithin, Inside}
 use Rattle.rules.specs.Accepted.{Accepted}
 use Rattle.rules.specs.Plan.{Plan, PlanAnswer, planAnswer, planOf, assembled, recordLength, keyLength, partLength, bytesBefore, through, insidePart}
 use Rattle.rules.specs.Lent.{zoneF, plan, planInto, entryOf, cardFields, tableAfter}
+use Rattle.rules.proofs.Lists.{map-drop}
 use Rattle.rules.proofs.AnswerLaws.{fine-same, bind-fine, then-fine, unless-fine}
 use Rattle.rules.proofs.AcceptedLaws.{accepted, limited-of, limits-utility, limits-fields, combines, key-fits}
 use Rattle.rules.proofs.LimitLaws.{inside-exactly}
@@ -203,15 +204,6 @@ module _ (room : ℕ) (deck : List ℕ) (r : Planned) (row : List ℕ) (w : Plan
 
 -- ---- the lent table
 
-map-append : (es fs : List Entry) → map entryMeans (es ++ fs) ≡ map entryMeans es ++ map entryMeans fs
-map-append [] fs = refl
-map-append (e ∷ es) fs = ap (entryMeans e ∷_) (map-append es fs)
-
-map-drop : (n : ℕ) (es : List Entry) → map entryMeans (drop n es) ≡ drop n (map entryMeans es)
-map-drop zero es = refl
-map-drop (suc n) [] = refl
-map-drop (suc n) (e ∷ es) = map-drop n es
-
 -- the entries to be stored
 pub stored-entries : (fs : List CardField) → take (length fs) (tableOf fs) ≡ map entryFor (map entryOf fs)
 unfolding tableOf
@@ -224,8 +216,8 @@ table-after deck (refuse r) own table = refl
 table-after deck (fine p) own table =
     let fs = cardFields (askedOf deck) in
     ap (λ (es : List Entry). map entryMeans (es ++ drop (length fs) table)) (stored-entries fs)
-    ∙ map-append (map entryFor (map entryOf fs)) (drop (length fs) table)
-    ∙ rw (entries-hold (map entryOf fs), map-drop (length fs) table, card-count deck p (own p refl))
+    ∙ map-append entryMeans (map entryFor (map entryOf fs)) (drop (length fs) table)
+    ∙ rw (entries-hold (map entryOf fs), map-drop entryMeans (length fs) table, card-count deck p (own p refl))
 
 -- a plan that goes into a table is the deck's plan, and the table has room for its fields
 pub into-room : (room : ℕ) (deck : List ℕ) (p : Plan) → planInto room deck ≡ fine p → (plan deck ≡ fine p) × (length (p .fields) ≤ room)

@@ -15,6 +15,7 @@ use Rattle.rules.specs.TextParts.{numberThen, keyThen, sizesBehind, fieldBehind
 use Rattle.rules.proofs.ReaderLaws.{read-left, bind-read, text-sound}
 use Rattle.rules.proofs.NumberColumns.{columns-number}
 use Rattle.rules.proofs.ChoiceLaws.{byte-inside, mark-there, mark-not, kind-copy, item-field, item-key}
+use Rattle.rules.proofs.NumberLaws.{close-ends}
 use Rattle.terms.specs.Meaning.{kindOf, OneSize, fieldOf, partOf, cardField}
 use Rattle.terms.specs.declared.Part.{Part}
 use Rattle.terms.specs.declared.Kind.{Kind}
@@ -26,7 +27,7 @@ use Rattle.readers.specs.declared.Places.{Places}
 use Rattle.readers.specs.declared.ItemRead.{ItemRead}
 use Rattle.readers.specs.declared.ItemRead.the-variants.{IsField, IsCV, NoItem}
 use Rattle.readers.proofs.NumberPlaces.{text-is, text-ahead, none-between, mark-passed, marks-passed, number-ahead, number-passed, then-text, then-ahead, then-passed, both-passed}
-use Rattle.readers.proofs.TextPlaces.{close-ends, behind-places}
+use Rattle.readers.proofs.TextPlaces.{behind-places}
 use Rattle.readers.proofs.Parts.{marks-not, both-there, second-not}
 
 -- ---- the middle

@@ -7,14 +7,15 @@ use Prim.Native.Nat.{ℕ, suc, _+_, _≤_, _<_}
 use native.Mathlib.Numerals.{add-one}
 use native.Mathlib.Omega.{arith}
 use lib.Dec.{eqb}
-use lib.ListN.{length, getD, take, drop, length-append, length-drop, take-append-drop}
-use lib.Seq.{slice, slice-cons, slice-empty, length-slice, length-take-le, take-append-seam, take-append-le, drop-append-le}
+use lib.ListN.{length, getD, take, drop, length-append, length-drop}
+use lib.Seq.{slice, slice-cons, slice-empty, length-slice, take-append-seam}
 use borrow.Author.Tests.{eqb-true}
 use Rattle.rules.specs.Reader.{read, stopped, pure, _>>_, after, isDigit, number}
 use Rattle.rules.specs.Places.{All, noMore, also}
 use Rattle.rules.specs.Words.{numberColumns}
 use Rattle.rules.specs.Texts.{Digit, NumberText}
 use Rattle.rules.specs.TextParts.{numberThen}
+use Rattle.rules.proofs.Lists.{slice-rest, slice-slice}
 use Rattle.rules.proofs.NumberLaws.{digit-of, number-sound}
 use Rattle.rules.proofs.ReaderLaws.{not-read, read-left, bind-read}
 use Rattle.readers.specs.Meaning.{ReadsFrom, numbersIn}
@@ -54,28 +55,20 @@ marked t k (b ∷ x) m y e = go (isDigit b && not t) (marked (isDigit b) (suc k)
 -- ---- parts of a text
 
 module _ (s : List ℕ) (i n : ℕ) where
-  split : (to : ℕ) → i ≤ n → n ≤ to → to ≤ length s → slice i to s ≡ slice i n s ++ slice n to s
-  split to a b c =
-      let e : take n (take to s) ≡ take n s
-      = sym (take-append-le n (take to s) (drop to s) (omega (arith, length-take-le to s c))) ∙ ap (take n) (take-append-drop to s) in
-      let f : take n s ++ slice n to s ≡ take to s = ap (λ (l : List ℕ). l ++ slice n to s) (sym e) ∙ take-append-drop n (take to s) in
-      ap (drop i) (sym f) ∙ drop-append-le i (take n s) (slice n to s) (omega (arith, length-take-le n s (omega arith)))
-
   -- the text between two places
   pub text-is : (x : List ℕ) → i ≤ length s → n ≤ length s → drop i s ≡ x ++ drop n s → (n ≡ i + length x) × (slice i n s ≡ x)
   text-is x a b e =
       let k : n ≡ i + length x = omega (arith, length-drop i s, length-drop n s, ap length e, length-append x (drop n s)) in
-      let f : drop i s ≡ slice i n s ++ drop n s
-      = ap (drop i) (sym (take-append-drop n s)) ∙ drop-append-le i (take n s) (drop n s) (omega (arith, length-take-le n s b)) in
+      let f : slice i n s ++ drop n s ≡ drop i s = slice-rest i n s (omega arith) b in
       let l : length (slice i n s) ≡ length x = omega (arith, length-slice i n s b) in (
         k,
-        sym (take-append-seam (slice i n s) (drop n s)) ∙ ap (λ (j : ℕ). take j (slice i n s ++ drop n s)) l ∙ ap (take (length x)) (sym f ∙ e)
+        sym (take-append-seam (slice i n s) (drop n s)) ∙ ap (λ (j : ℕ). take j (slice i n s ++ drop n s)) l ∙ ap (take (length x)) (f ∙ e)
             ∙ take-append-seam x (drop n s),
       )
 
   -- and on to a third
   pub text-ahead : (x : List ℕ) → i ≤ length s → drop i s ≡ x ++ drop n s → (to : ℕ) → i ≤ n → n ≤ to → to ≤ length s → slice i to s ≡ x ++ slice n to s
-  text-ahead x a e to h k l = split to h k l ∙ ap (λ (z : List ℕ). z ++ slice n to s) (text-is x a (omega arith) e .1)
+  text-ahead x a e to h k l = sym (slice-slice i n to s h k l) ∙ ap (λ (z : List ℕ). z ++ slice n to s) (text-is x a (omega arith) e .1)
 
 -- ---- what is read
 
@@ -148,7 +141,7 @@ pub both-passed : (s : List ℕ) (t : Bool) (i n m to : ℕ) → i ≤ n → get
 both-passed s t i n m to a e d h l =
     let x = slice i n s in
     let y = slice (suc n) to s in
-    let f : slice i to s ≡ x ++ (m ∷ y) = split s i n to a (omega arith) l ∙ ap (λ (z : List ℕ). x ++ z) (slice-cons n to s 256 h l ∙ ap (λ (b : ℕ). b ∷ y) e) in
+    let f : slice i to s ≡ x ++ (m ∷ y) = sym (slice-slice i n to s a (omega arith) l) ∙ ap (λ (z : List ℕ). x ++ z) (slice-cons n to s 256 h l ∙ ap (λ (b : ℕ). b ∷ y) e) in
     let k : suc (i + length x) ≡ suc n = omega (arith, length-slice i n s (omega arith)) in
     ap (numberColumns t i) f ∙ marked t i x m y d ∙ ap (λ (j : ℕ). numberColumns t i x ++ numberColumns false j y) k
     ∙ ap (λ (j : ℕ). numbersIn t s i n ++ numbersIn false s j to) (sym (add-one n))

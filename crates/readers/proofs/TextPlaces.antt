@@ -10,9 +10,9 @@ use Rattle.rules.specs.Halves.{Kind as RuleKind}
 use Rattle.rules.specs.Grammar.{Size as RuleSize, two, one, Input as RuleInput, plain, keyed, Parameter as RuleParameter, modeIs, formatIs, inputIs, outputIs, rewindIn, rewindOut, firstIs, Item, field, cv, Start, parameter, item}
 use Rattle.rules.specs.Words.{numberColumns}
 use Rattle.rules.specs.Texts.{NumberText, SizeText, InputText, ParameterText, KindText, StartText, ItemText}
-use Rattle.rules.proofs.NumberLaws.{Ends, at-end, before}
+use Rattle.rules.proofs.NumberLaws.{Ends, at-end, comma-ends, close-ends}
 use Rattle.rules.proofs.NumberColumns.{columns-number}
-use Rattle.rules.proofs.GrammarLaws.{comma-ends, parameter-sound, item-sound}
+use Rattle.rules.proofs.GrammarLaws.{parameter-sound, item-sound}
 use Rattle.terms.specs.Meaning.{kindFor, fieldOf, cardField}
 use Rattle.terms.specs.declared.Size.the-variants.{Two, One}
 use Rattle.terms.specs.declared.Input.the-variants.{Plain, Keyed}
@@ -26,9 +26,6 @@ use Rattle.readers.specs.declared.UParameter.the-variants.{ModeIs, Forma
 use Rattle.readers.specs.declared.Places.{Places}
 use Rattle.readers.proofs.NumberPlaces.{text-is}
 use Rattle.terms.proofs.FieldLaws.{kind-back}
-
-pub close-ends : (s : List ℕ) → Ends (41 ∷ s)
-close-ends s = before refl refl
 
 -- a number at the end of a text
 last-number : (c : ℕ) {x : List ℕ} {v : ℕ} → NumberText x v → numberColumns false c x ≡ c ∷ []

@@ -17,6 +17,7 @@ use Rattle.rules.proofs.AllLaws.{all-imply}
 use Rattle.rules.proofs.PlaceLaws.{over-behind, over-whole}
 use Rattle.rules.proofs.FieldSteps.{writtenBytes-step, length-fieldBytes, length-writtenBytes, out-bytes}
 use Rattle.rules.proofs.LentParts.{part-length, part-over, front-over}
+use Rattle.rules.proofs.RecordLaws.{fits-wider}
 use Rattle.terms.specs.Meaning.{kindOf, fieldOf}
 use Rattle.terms.specs.declared.Kind.{Kind}
 use Rattle.terms.specs.declared.Field.{Field}
@@ -154,19 +155,8 @@ module _ (xs r old new : List ℕ) (i : ℕ) (w : Writing xs r old new i) where
 
 -- records with more room
 pub fields-wider : {xs : List ℕ} {a b : ℕ} (a′ b′ : ℕ) → a ≤ a′ → b ≤ b′ → Fielded xs a b → Fielded xs a′ b′
-fields-wider {a = a} {b = b} a′ b′ h k x =
-    record { fields = x .fields; fair = record { flat = x .fair .flat; fits = all-imply wider (x .fair .fits); sizes = x .fair .sizes } }
-  where
-    wider : (f : RuleField) → Fits a b f → Fits a′ b′ f
-    wider f w =
-        record {
-          r-low = w .r-low;
-          t-low = w .t-low;
-          input-low = w .input-low;
-          output-low = w .output-low;
-          input-high = omega (arith, w .input-high);
-          output-high = omega (arith, w .output-high);
-        }
+fields-wider a′ b′ h k x =
+    record { fields = x .fields; fair = record { flat = x .fair .flat; fits = all-imply (fits-wider a′ b′ h k) (x .fair .fits); sizes = x .fair .sizes } }
 
 -- with CV the tail has room
 pub tail-room : (carries : Bool) (m k l : ℕ) → carries ≡ true → m + cond carries k 0 ≤ l → m + k ≤ l

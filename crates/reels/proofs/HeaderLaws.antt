@@ -9,10 +9,11 @@ use lib.Seq.{slice}
 use borrow.Author.Tests.{le-leb, lt-leb}
 use Rattle.rules.specs.Reel.{blockCount, isReel, blocksOf}
 use Rattle.rules.specs.ReelPlaces.{wordAt, offsetAt}
+use Rattle.rules.proofs.Lists.{slice-part}
 use Rattle.rules.proofs.HeaderSteps.{next-at}
-use Rattle.rules.proofs.PieceLaws.{slice-taken}
 use Rattle.rules.proofs.ReelLaws.{header-is}
 use Rattle.rules.proofs.ReelSteps.{offset-most, blocks-step, block-at, length-block}
+use Rattle.rules.proofs.Tests.{never-true}
 use Rattle.reels.specs.Header.{headerOf, partAt}
 use Rattle.reels.specs.declared.HeaderRead.the-variants.{Reel, NoReel}
 
@@ -35,11 +36,7 @@ reel-told s k e = go (isReel s) refl
 
 pub no-reel-told : (s : List ℕ) → headerOf s ≡ NoReel → isReel s ≡ false
 unfolding headerOf
-no-reel-told s e = go (isReel s) refl
-  where
-    go : (t : Bool) → isReel s ≡ t → isReel s ≡ false
-    go true t = let e′ : Reel (blockCount s) ≡ NoReel = rw t at e in let z : _≡_ {A = ℕ} 0 1 = cc in absurd (omega arith)
-    go false t = t
+no-reel-told s e = never-true (isReel s) (λ t. let e′ : Reel (blockCount s) ≡ NoReel = rw t at e in let z : _≡_ {A = ℕ} 0 1 = cc in omega arith)
 
 -- ---- the parts between the offsets
 
@@ -66,7 +63,7 @@ pub part-taken : (s : List ℕ) (i a e : ℕ) → 4 * i + 12 ≤ length s → a 
     → take (e - a) (drop a s) ≡ partAt s i
 part-taken s i a e l f n m d =
     let o : offsetAt s (suc i) ≡ e = next-at s i ∙ sym n in
-    sym (part-there s i l (omega arith) ∙ ap (λ (x : ℕ). slice (offsetAt s i) x s) o ∙ ap (λ (x : ℕ). slice x e s) (sym f) ∙ slice-taken a e s d m)
+    sym (part-there s i l (omega arith) ∙ ap (λ (x : ℕ). slice (offsetAt s i) x s) o ∙ ap (λ (x : ℕ). slice x e s) (sym f) ∙ slice-part a e s d)
 
 -- block i of a reel is the part between offset i and offset i+1
 pub part-is : (s : List ℕ) (i : ℕ) → isReel s ≡ true → i < blockCount s → partAt s i ≡ slice (offsetAt s i) (offsetAt s (suc i)) s

@@ -10,17 +10,14 @@ use Rattle.reels.specs.declared.BlockRead.{BlockRead}
 use Rattle.reels.specs.declared.ReelRead.{ReelRead}
 use Rattle.reels.proofs.ReelTold.{answer-once}
 
-only-one : {A : Type 0} {x y z : A} → x ≡ z → y ≡ z → x ≡ y
-only-one e f = e ∙ sym f
-
 pub only-one-header : (s : List ℕ) (r r′ : HeaderRead) → r ≡ headerOf s → r′ ≡ headerOf s → r ≡ r′
-only-one-header s r r′ = only-one
+only-one-header s r r′ e f = e ∙ sym f
 
 pub only-one-block : (s : List ℕ) (i : ℕ) (r r′ : List ℕ) → r ≡ partAt s i → r′ ≡ partAt s i → r ≡ r′
-only-one-block s i r r′ = only-one
+only-one-block s i r r′ e f = e ∙ sym f
 
 pub only-one-rule : (form : Form) (b : List ℕ) (r r′ : BlockRead) → Judged form b r → Judged form b r′ → r ≡ r′
-only-one-rule form b r r′ j j′ = only-one (j .is) (j′ .is)
+only-one-rule form b r r′ j j′ = j .is ∙ sym (j′ .is)
 
 pub only-one-read-reel : (form : Form) (s : List ℕ) (r r′ : ReelRead) → ReadAs form s r → ReadAs form s r′ → r ≡ r′
-only-one-read-reel form s r r′ w w′ = answer-once r r′ (only-one (w .is) (w′ .is))
+only-one-read-reel form s r r′ w w′ = answer-once r r′ (w .is ∙ sym (w′ .is))

@@ -8,9 +8,10 @@ use native.Mathlib.Numerals.{add-one}
 use native.Mathlib.Decide.{decLt, ℕ-discrete}
 use lib.ListN.{length, take, drop, getD, set, replicate, length-append, length-set, getD-replicate, length-replicate, replicate-append-replicate, List·getD-append}
 use lib.Seq.{drop-at, drop-cons, drop-length, getD-at, getD-set-same, getD-set-other, take-at, take-length, take-suc, ext-getD}
-use Rattle.rules.specs.Halves.{Kind as RuleKind, copy, pack, unpack, inputSize, outputSize, Field as RuleField, over}
-use Rattle.rules.specs.Rows.{KindWithin, FieldWithin}
+use Rattle.rules.specs.Halves.{copy, outputSize, Field as RuleField, over}
+use Rattle.rules.specs.Rows.{FieldWithin}
 use Rattle.rules.proofs.SizeLaws.{length-over}
+use Rattle.rules.proofs.RecordLaws.{sizes-within}
 use Rattle.terms.specs.Meaning.{fieldOf}
 use Rattle.terms.specs.declared.Field.{Field}
 use Rattle.rows.specs.Flat.{flatOf, fieldAt, Short}
@@ -22,13 +23,8 @@ use Rattle.rows.proofs.FlatLaws.{length-flat, flat-append, field-back}
 -- a field whose numbers are within their limits
 pub short-one : (f : RuleField) → FieldWithin f → Short f
 short-one f w =
-    let both = sizes (f .kind) (w .kind) in
-    record { r = omega (arith, w .r .1); input = both .0; output = both .1; t = omega (arith, w .t .1) }
-  where
-    sizes : (k : RuleKind) → KindWithin k → (inputSize k < 65536) × (outputSize k < 65536)
-    sizes (copy s) w = (omega (arith, w .1), omega (arith, w .1))
-    sizes (pack n m) w = (omega (arith, w .0 .1), omega (arith, w .1 .1))
-    sizes (unpack n m) w = (omega (arith, w .0 .1), omega (arith, w .1 .1))
+    let both = sizes-within (f .kind) (w .kind) in
+    record { r = omega (arith, w .r .1); input = omega (arith, both .0 .1); output = omega (arith, both .1 .1); t = omega (arith, w .t .1) }
 
 -- ---- one more field
 

@@ -16,7 +16,7 @@ use Rattle.rules.specs.Places.{All, noMore, also, Byte}
 use Rattle.rules.specs.Blocks.{Piece, wordLength, headedTo, withPiece, walkFrom, dataOf}
 use Rattle.rules.specs.ReelPlaces.{pieceAt}
 use Rattle.rules.specs.Spanned.{Segment, segment, part, code, segmentOf, codedWord, spelled, segmentAt}
-use Rattle.rules.proofs.Tests.{and-left, and-right, and-both, within-low, within-high, within-of}
+use Rattle.rules.proofs.Tests.{and-left, and-right, and-both, within-low, within-high, within-of, failing}
 use Rattle.rules.proofs.AllLaws.{all-append, all-drop}
 
 -- ---- codes
@@ -68,6 +68,11 @@ headedTo-exactly top low s = (to, λ w. and-both (and-both (within-of low (lengt
           third = leb-true (getD s 2 0) top (and-right (within low (length s) (wordLength s)) _ l);
           fourth = eqb-true (getD s 3 0) 0 (and-right (within low (length s) (wordLength s) && leb (getD s 2 0) top) _ e);
         }
+
+-- where 4 bytes are not left there is no word
+pub headedTo-short : (top low : ℕ) (b : List ℕ) (i : ℕ) → 4 ≤ low → length b < i + 4 → headedTo top low (drop i b) ≡ false
+headedTo-short top low b i l h =
+    failing (headedTo top low (drop i b)) (headedTo-exactly top low (drop i b)) (λ w. omega (arith, w .least, w .most, length-drop i b))
 
 -- the word of bytes is written as it stands
 pub codedWord-back : (s : List ℕ) → All Byte s → 4 ≤ length s → getD s 3 0 ≡ 0 → codedWord (getD s 2 0) (wordLength s) ≡ take 4 s

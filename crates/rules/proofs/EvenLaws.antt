@@ -24,10 +24,10 @@ use Rattle.rules.specs.Run.{fitting, outputs}
 use Rattle.rules.specs.RunRows.{RecordIs}
 use Rattle.rules.specs.Accepted.{Accepted}
 use Rattle.rules.specs.EvenRecords.{Even}
+use Rattle.rules.proofs.Lists.{joined-append}
 use Rattle.rules.proofs.AllLaws.{all-append, all-drop, all-head, all-tail, all-imply}
 use Rattle.rules.proofs.BlockSizes.{all-map, Reads, reads-exactly}
 use Rattle.rules.proofs.AnswerLaws.{reads-fine}
-use Rattle.rules.proofs.PartLaws.{joined-append}
 use Rattle.rules.proofs.BlockLaws.{fixed-back, length-joined}
 use Rattle.rules.proofs.ReelLaws.{joined-blocks}
 use Rattle.rules.proofs.TakenLaws.{taken-joined}

@@ -18,13 +18,12 @@ use Rattle.rules.specs.Output.{outRecord, blockOf, cost, filled, nonEmpt
 use Rattle.rules.specs.Run.{outputs, outputBlocks}
 use Rattle.rules.specs.Accepted.{Accepted}
 use Rattle.rules.specs.EvenRecords.{stepped, endsBehind, countBehind}
+use Rattle.rules.proofs.Lists.{joined-append, map-joined}
 use Rattle.rules.proofs.AllLaws.{all-imply}
-use Rattle.rules.proofs.PartLaws.{joined-append}
 use Rattle.rules.proofs.BlockSizes.{all-map, size-least}
 use Rattle.rules.proofs.BlockLaws.{length-joined}
 use Rattle.rules.proofs.WordLaws.{unwords}
 use Rattle.rules.proofs.ReelLaws.{header-is, nexts, ends-words}
-use Rattle.rules.proofs.MeasureLaws.{map-joined}
 use Rattle.rules.proofs.RunParts.{blocked-records}
 use Rattle.rules.proofs.Never.{fixed-output, output-fits}
 use Rattle.rules.proofs.EvenLaws.{EvenBlock, blocks-even, taken-even}

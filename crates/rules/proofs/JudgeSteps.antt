@@ -1,14 +1,14 @@
 -- Judging step by step, as code goes: each refusal is that of the first step that refuses, and where none does the number is that of the first record apart. By the
 -- definitions.
 use mathlib.Core.Path.{_≡_, refl, ap, sym, _∙_}
-use mathlib.Core.Bool.{Bool, true, false, not, true≢false, false≢true}
+use mathlib.Core.Bool.{Bool, true, false, not, false≢true}
 use mathlib.Core.List.{List, map}
 use mathlib.Core.Option.{none}
 use Prim.Native.Nat.{ℕ, _-_, _<_, min}
 use native.Mathlib.Omega.{arith}
 use lib.Dec.{leb}
 use lib.ListN.{length, drop, drop-of-length-le}
-use borrow.Author.Tests.{leb-true, leb-false}
+use borrow.Author.Tests.{leb-true, leb-false, not-true, not-false}
 use Rattle.rules.specs.Base.{joined}
 use Rattle.rules.specs.Answer.{Refusal, Answer, fine, refuse, refused, _>>=_, _>>_, unless}
 use Rattle.rules.specs.Reel.{isReel, blocksOf}
@@ -19,8 +19,8 @@ use Rattle.rules.specs.Spanned.{spannedFrom}
 use Rattle.rules.specs.Run.{outBlocks, convert, conversion, outputs}
 use Rattle.rules.specs.Asked.{Asked, askedOf}
 use Rattle.rules.specs.Judge.{isFilling, planToJudge, blocksRead, recordsRead, ourRecords, underB, theirRecords, agrees, firstApart, judgement, judgeOf}
+use Rattle.rules.proofs.Lists.{map-joined}
 use Rattle.rules.proofs.AnswerLaws.{refuse-same, fine-same, bind-fine}
-use Rattle.rules.proofs.MeasureLaws.{map-joined}
 use Rattle.rules.proofs.RunColumns.{Refuses}
 use Rattle.rules.proofs.RunParts.{gathered, blocked-records}
 use Rattle.rules.proofs.JudgeRead.{in-FS, in-others, ours-refused, ours-reach, ours-plain}
@@ -147,11 +147,7 @@ module _ (zone : ℕ) (deck ours theirs : List ℕ) where
   deck-copies e = go (askedOf deck) refl
     where
       go : (x : Answer Asked) → askedOf deck ≡ x → judgeOf zone deck ours theirs ≡ refused 8 1
-      go (fine a) d = rw (d, mode (isFilling (a .utility .mode)) (let z : not (isFilling (a .utility .mode)) ≡ true = rw d at e in z)) refl
-        where
-          mode : (b : Bool) → not b ≡ true → b ≡ false
-          mode true q = absurd (false≢true q)
-          mode false q = refl
+      go (fine a) d = rw (d, not-true (isFilling (a .utility .mode)) (let z : not (isFilling (a .utility .mode)) ≡ true = rw d at e in z)) refl
       go (refuse r) d = absurd (false≢true (let z : false ≡ true = rw d at e in z))
 
   pub deck-fills : copiesBlocks (askedOf deck) ≡ false → judgeOf zone deck ours theirs ≡ (planOf zone deck >>= λ p. judgement p ours theirs)
@@ -159,9 +155,5 @@ module _ (zone : ℕ) (deck ours theirs : List ℕ) where
   deck-fills e = go (askedOf deck) refl
     where
       go : (x : Answer Asked) → askedOf deck ≡ x → judgeOf zone deck ours theirs ≡ (planOf zone deck >>= λ p. judgement p ours theirs)
-      go (fine a) d = rw (d, mode (isFilling (a .utility .mode)) (let z : not (isFilling (a .utility .mode)) ≡ false = rw d at e in z)) refl
-        where
-          mode : (b : Bool) → not b ≡ false → b ≡ true
-          mode true q = refl
-          mode false q = absurd (true≢false q)
+      go (fine a) d = rw (d, not-false (isFilling (a .utility .mode)) (let z : not (isFilling (a .utility .mode)) ≡ false = rw d at e in z)) refl
       go (refuse r) d = rw d refl

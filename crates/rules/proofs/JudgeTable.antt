@@ -18,7 +18,7 @@ use Rattle.rules.specs.Reel.{isReel, blocksOf}
 use Rattle.rules.specs.Plan.{Plan, planOf, selects, joinedSize, combined, assembled}
 use Rattle.rules.specs.Run.{conversion, runOf}
 use Rattle.rules.specs.Rows.{Required, IsKeyed, KeyFits, Asks, Row8, PlanRows, _⊳_, No, Done, GivenBy}
-use Rattle.rules.specs.RunRows.{ReelIs, BadIn, Row11, Row12, Row13, Row14, RowRun}
+use Rattle.rules.specs.RunRows.{BadIn, Row11, Row12, Row13, Row14, RowRun}
 use Rattle.rules.specs.ColumnRows.{Column, Lowest}
 use Rattle.rules.specs.Accepted.{Accepted}
 use Rattle.rules.specs.Judge.{isFilling, planToJudge, underB, foreign, blocksRead, recordsRead, ourRecords, theirRecords, judgement, judgeOf}
@@ -34,11 +34,12 @@ use Rattle.rules.proofs.RunColumns.{Refuses}
 use Rattle.rules.proofs.ColumnTable.{lowest-zero, ColumnIs, Columned, plain-late, columned-bind, columned-then, columned-unless, columned-asked, columned-plan, columns}
 use Rattle.rules.proofs.ReadBack.{underB-accepted}
 use Rattle.rules.proofs.JudgeRead.{blocks-read, read-plain, ours-refused, ours-reach, ours-plain}
+use Rattle.rules.proofs.Tests.{fails, failing}
 
 -- ---- tables that agree up to a number
 
 abbrev Below : ℕ → (ℕ → ℕ → Type 0) → (ℕ → ℕ → Type 0) → Type 0
-Below k R S = (n p : ℕ) → n < k → R n p → S n p
+Below k R S = (n p : ℕ) → n < k → R n p ↔ S n p
 
 -- of each of the numbers 0 to 7, and of those from 8 on
 eight : (P : ℕ → Type 0) → P 0 → P 1 → P 2 → P 3 → P 4 → P 5 → P 6 → P 7 → ((n : ℕ) → P (suc (suc (suc (suc (suc (suc (suc (suc n))))))))) → (n : ℕ) → P n
@@ -52,8 +53,8 @@ eight P a b c d e f g h more (suc (suc (suc (suc (suc (suc zero)))))) = g
 eight P a b c d e f g h more (suc (suc (suc (suc (suc (suc (suc zero))))))) = h
 eight P a b c d e f g h more (suc (suc (suc (suc (suc (suc (suc (suc n)))))))) = more n
 
-given-below : {R S : ℕ → ℕ → Type 0} (k : ℕ) → Below k R S → Below k S R → (n p : ℕ) → n < k → GivenBy R n p → GivenBy S n p
-given-below k to from n p l g = (to n p l (g .0), λ q h s. g .1 q h (from n q l s), λ m q h s. g .2 m q h (from m q (omega arith) s))
+given-below : {R S : ℕ → ℕ → Type 0} (k : ℕ) → Below k R S → (n p : ℕ) → n < k → GivenBy S n p → GivenBy R n p
+given-below k same n p l g = (same n p l .1 (g .0), λ q h r. g .1 q h (same n q l .0 r), λ m q h r. g .2 m q h (same m q (omega arith) .0 r))
 
 -- ---- tables that agree
 
@@ -159,18 +160,13 @@ module _ (zone : ℕ) (half : zone < 16) (deck ours theirs : List ℕ) (bytes : 
 
   -- rows 1 to 14 are those of a run
   run-row : Below 15 Plain (RowRun zone deck ours 0)
-  run-row n p l r =
-      eight (λ n. (p : ℕ) → n < 15 → Plain n p → RowRun zone deck ours 0 n p) (λ p l r. r) (λ p l r. r) (λ p l r. r) (λ p l r. r) (λ p l r. r) (λ p l r. r) (λ p l r. r) (λ p l r. r)
-      (eight (λ n. (p : ℕ) → suc (suc (suc (suc (suc (suc (suc (suc n))))))) < 15 → Plain (suc (suc (suc (suc (suc (suc (suc (suc n)))))))) p → RowRun zone deck ours 0 (suc (suc (suc (suc (suc (suc (suc (suc n)))))))) p)
-      (λ p l r. r) (λ p l r. r) (λ p l r. r) (λ p l r. r) (λ p l r. r) (λ p l r. r) (λ p l r. r) (λ p l r. absurd (omega arith)) (λ n p l r. absurd (omega arith)))
-      n p l r
-
-  row-run : Below 15 (RowRun zone deck ours 0) Plain
-  row-run n p l r =
-      eight (λ n. (p : ℕ) → n < 15 → RowRun zone deck ours 0 n p → Plain n p) (λ p l r. r) (λ p l r. r) (λ p l r. r) (λ p l r. r) (λ p l r. r) (λ p l r. r) (λ p l r. r) (λ p l r. r)
-      (eight (λ n. (p : ℕ) → suc (suc (suc (suc (suc (suc (suc (suc n))))))) < 15 → RowRun zone deck ours 0 (suc (suc (suc (suc (suc (suc (suc (suc n)))))))) p → Plain (suc (suc (suc (suc (suc (suc (suc (suc n)))))))) p)
-      (λ p l r. r) (λ p l r. r) (λ p l r. r) (λ p l r. r) (λ p l r. r) (λ p l r. r) (λ p l r. r) (λ p l r. absurd (omega arith)) (λ n p l r. absurd (omega arith)))
-      n p l r
+  run-row =
+      eight (λ n. (p : ℕ) → n < 15 → Plain n p ↔ RowRun zone deck ours 0 n p) (λ p l. own) (λ p l. own) (λ p l. own) (λ p l. own) (λ p l. own) (λ p l. own) (λ p l. own) (λ p l. own)
+      (eight (λ n. (p : ℕ) → suc (suc (suc (suc (suc (suc (suc (suc n))))))) < 15 → Plain (suc (suc (suc (suc (suc (suc (suc (suc n)))))))) p ↔ RowRun zone deck ours 0 (suc (suc (suc (suc (suc (suc (suc (suc n)))))))) p)
+      (λ p l. own) (λ p l. own) (λ p l. own) (λ p l. own) (λ p l. own) (λ p l. own) (λ p l. own) (λ p l. absurd (omega arith)) (λ n p l. absurd (omega arith)))
+    where
+      own : {R : Type 0} → R ↔ R
+      own = (λ r. r, λ r. r)
 
   module _ (pl : Plan) (e : planOf zone deck ≡ fine pl) where
     ok : Accepted pl
@@ -198,19 +194,16 @@ module _ (zone : ℕ) (half : zone < 16) (deck ours theirs : List ℕ) (bytes : 
         go (fine outs) d l =
             let w = ours-reach pl ours outs d in
             let g = run-table zone half deck ours bytes 0 15 (w .0) .0 (0, the-run ∙ w .1) in
-            (λ q h r. absurd (not-suc-le-zero h), λ m q h r. g .2 m q h (run-row m q h r))
-        go (refuse r) d l = given-below 15 row-run run-row (r .number) (r .place) l (run-table zone half deck ours bytes 0 (r .number) (r .place) .0 (r .column, the-run ∙ ours-refused pl ours r d))
+            (λ q h r. absurd (not-suc-le-zero h), λ m q h r. g .2 m q h (run-row m q h .0 r))
+        go (refuse r) d l = given-below 15 run-row (r .number) (r .place) l (run-table zone half deck ours bytes 0 (r .number) (r .place) .0 (r .column, the-run ∙ ours-refused pl ours r d))
 
     -- ---- 17 and 18
 
     upto-reel : Clear Plain 17 0 → Upto Plain 18 0 (foreign (unless (isReel theirs) 11 0))
     upto-reel c =
         stage Plain 17 0 _ (foreign (unless (isReel theirs) 11 0)) (foreign-outcome 11 _ (unless (isReel theirs) 11 0) (unless-outcome (isReel theirs) 11 0)) c
-        (λ p f. (pl, asks, f .0, λ bs r. true≢false (sym (reel-exactly theirs bytes′ .1 (bs, r)) ∙ f .1))) (λ p l r. (r .2, no-reel (r .3) (isReel theirs) refl))
-      where
-        no-reel : ((bs : List (List ℕ)) → ReelIs theirs bs → ⊥) → (t : Bool) → isReel theirs ≡ t → isReel theirs ≡ false
-        no-reel h true t = let w = reel-exactly theirs bytes′ .0 t in absurd (h (w .0) (w .1))
-        no-reel h false t = t
+        (λ p f. (pl, asks, f .0, λ bs r. fails (isReel theirs) (reel-exactly theirs bytes′) (f .1) (bs, r)))
+        (λ p l r. (r .2, failing (isReel theirs) (reel-exactly theirs bytes′) (λ w. r .3 (w .0) (w .1))))
 
     upto-blocks : isReel theirs ≡ true → Clear Plain 18 0 → Upto Plain 19 0 (foreign (blocksRead (underB pl) (blocksOf theirs)))
     upto-blocks t c =

@@ -2,6 +2,7 @@ pub mod Cases
 pub mod ShortBlockCases
 pub mod TwinCases
 pub mod Tests
+pub mod Lists
 pub mod AllLaws
 pub mod AnswerLaws
 pub mod Search
@@ -75,7 +76,6 @@ pub mod RecordSteps
 pub mod TakenLaws
 pub mod BlockPlaces
 pub mod EvenBlocks
-pub mod PartLaws
 pub mod LentParts
 pub mod HeaderSteps
 pub mod ReelSteps

@@ -26,7 +26,7 @@ use Rattle.rules.proofs.Tests.{and-both, all-every}
 use Rattle.rules.proofs.AllLaws.{all-append, all-left, all-right}
 use Rattle.rules.proofs.LimitLaws.{Limited, limit-exactly}
 use Rattle.rules.proofs.AnswerLaws.{refuse-same}
-use Rattle.rules.proofs.NumberLaws.{digit-of, digits-front, Ends, at-end, before}
+use Rattle.rules.proofs.NumberLaws.{digit-of, digits-front, Ends, at-end, before, comma-ends, close-ends}
 
 -- ---- runs of digits
 
@@ -98,25 +98,19 @@ values-length : (ls : List Limit) → length (values ls) ≡ length ls
 values-length [] = refl
 values-length (l ∷ ls) = ap suc (values-length ls)
 
-close : (y : List ℕ) → Ends (41 ∷ y)
-close y = before refl refl
-
-comma : (y : List ℕ) → Ends (44 ∷ y)
-comma y = before refl refl
-
 runs-size : {x : List ℕ} {z : Size} (f : Format) (y : List ℕ) → SizeText x z → runValues false (x ++ y) ≡ values (sizeNumbers f z) ++ runValues false y
 runs-size f y (SizeText.pair {x = a} {y = b} {n = n} n′ m′) =
     let e : (ascii "(" ++ a ++ ascii "," ++ b ++ ascii ")") ++ y ≡ 40 ∷ (a ++ 44 ∷ (b ++ 41 ∷ y)) = simp append-assoc in
-    ap (runValues false) e ∙ runs-number n′ (comma (b ++ 41 ∷ y)) ∙ ap (λ (l : List ℕ). n ∷ l) (runs-number m′ (close y))
+    ap (runValues false) e ∙ runs-number n′ (comma-ends (b ++ 41 ∷ y)) ∙ ap (λ (l : List ℕ). n ∷ l) (runs-number m′ (close-ends y))
 runs-size f y (SizeText.single {x = a} n) =
     let e : (ascii "(" ++ a ++ ascii ")") ++ y ≡ 40 ∷ (a ++ 41 ∷ y) = simp append-assoc in
-    ap (runValues false) e ∙ runs-number n (close y)
+    ap (runValues false) e ∙ runs-number n (close-ends y)
 
 runs-input : {x : List ℕ} {i : Input} (f : Format) (y : List ℕ) → InputText x i → runValues false (x ++ y) ≡ values (inputNumbers f i) ++ runValues false y
 runs-input f y (InputText.no-key t) = runs-size f y t
 runs-input f y (InputText.with-key {x = a} {y = b} {k = k} n m) =
     let e : (ascii "(K=" ++ a ++ ascii ",D=" ++ b ++ ascii ")") ++ y ≡ 40 ∷ 75 ∷ 61 ∷ (a ++ 44 ∷ 68 ∷ 61 ∷ (b ++ 41 ∷ y)) = simp append-assoc in
-    ap (runValues false) e ∙ runs-number n (comma (68 ∷ 61 ∷ (b ++ 41 ∷ y))) ∙ ap (λ (l : List ℕ). k ∷ l) (runs-number m (close y))
+    ap (runValues false) e ∙ runs-number n (comma-ends (68 ∷ 61 ∷ (b ++ 41 ∷ y))) ∙ ap (λ (l : List ℕ). k ∷ l) (runs-number m (close-ends y))
 
 runs-parameter : {x : List ℕ} {p : Parameter} (f : Format) {y : List ℕ} → ParameterText x p → Ends y → runValues false (x ++ y) ≡ values (parameterNumbers f p) ++ runValues false y
 runs-parameter f {y} ParameterText.TC e = refl
@@ -141,25 +135,25 @@ runs-kind : {x : List ℕ} {k : Kind} {y : List ℕ} → KindText x k → Ends y
 runs-kind {y = y} (KindText.copies n) e = runs-number n e
 runs-kind {y = y} (KindText.packs {x = a} {y = b} {n = n} n′ m′) w =
     let e : (ascii "(P," ++ a ++ ascii "," ++ b ++ ascii ")") ++ y ≡ 40 ∷ 80 ∷ 44 ∷ (a ++ 44 ∷ (b ++ 41 ∷ y)) = simp append-assoc in
-    ap (runValues false) e ∙ runs-number n′ (comma (b ++ 41 ∷ y)) ∙ ap (λ (l : List ℕ). n ∷ l) (runs-number m′ (close y))
+    ap (runValues false) e ∙ runs-number n′ (comma-ends (b ++ 41 ∷ y)) ∙ ap (λ (l : List ℕ). n ∷ l) (runs-number m′ (close-ends y))
 runs-kind {y = y} (KindText.unpacks {x = a} {y = b} {n = n} n′ m′) w =
     let e : (ascii "(U," ++ a ++ ascii "," ++ b ++ ascii ")") ++ y ≡ 40 ∷ 85 ∷ 44 ∷ (a ++ 44 ∷ (b ++ 41 ∷ y)) = simp append-assoc in
-    ap (runValues false) e ∙ runs-number n′ (comma (b ++ 41 ∷ y)) ∙ ap (λ (l : List ℕ). n ∷ l) (runs-number m′ (close y))
+    ap (runValues false) e ∙ runs-number n′ (comma-ends (b ++ 41 ∷ y)) ∙ ap (λ (l : List ℕ). n ∷ l) (runs-number m′ (close-ends y))
 
 runs-start : {x : List ℕ} {s : Start} {y : List ℕ} → StartText x s → Ends y → runValues false (x ++ y) ≡ s .r ∷ runValues false y
 runs-start (StartText.of-data n) e = runs-number n e
 runs-start {y = y} (StartText.of-key {x = a} n) w =
     let e : (ascii "(K," ++ a ++ ascii ")") ++ y ≡ 40 ∷ 75 ∷ 44 ∷ (a ++ 41 ∷ y) = simp append-assoc in
-    ap (runValues false) e ∙ runs-number n (close y)
+    ap (runValues false) e ∙ runs-number n (close-ends y)
 
 runs-item : {x : List ℕ} {i : Item} {y : List ℕ} → ItemText x i → Ends y → runValues false (x ++ y) ≡ values (itemNumbers i) ++ runValues false y
 runs-item {y = y} (ItemText.aField {x = a} {y = b} {z = c} {s = s} {t = v} {k = k} n t m) w =
     let e : (a ++ ascii "," ++ b ++ ascii "," ++ c) ++ y ≡ a ++ 44 ∷ (b ++ 44 ∷ (c ++ y)) = simp append-assoc in
     let last : Limit = limit 1 4096 v in
-    let r2 : runValues false (b ++ 44 ∷ (c ++ y)) ≡ values (kindNumbers k) ++ runValues false (c ++ y) = runs-kind t (comma (c ++ y)) in
+    let r2 : runValues false (b ++ 44 ∷ (c ++ y)) ≡ values (kindNumbers k) ++ runValues false (c ++ y) = runs-kind t (comma-ends (c ++ y)) in
     let q : values (kindNumbers k) ++ (v ∷ runValues false y) ≡ values (kindNumbers k ++ (last ∷ [])) ++ runValues false y
     = sym (append-assoc (values (kindNumbers k)) (v ∷ []) (runValues false y)) ∙ ap (λ (l : List ℕ). l ++ runValues false y) (sym (values-append (kindNumbers k) (last ∷ []))) in
-    ap (runValues false) e ∙ runs-start n (comma (b ++ 44 ∷ (c ++ y)))
+    ap (runValues false) e ∙ runs-start n (comma-ends (b ++ 44 ∷ (c ++ y)))
     ∙ ap (λ (l : List ℕ). s .r ∷ l) (r2 ∙ ap (λ (l : List ℕ). values (kindNumbers k) ++ l) (runs-number m w) ∙ q)
 runs-item {y = y} ItemText.CV e = refl
 

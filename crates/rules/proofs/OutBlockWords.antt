@@ -17,14 +17,14 @@ use Rattle.rules.specs.Run.{fitAlone, fitting, outputs, outputBlocks}
 use Rattle.rules.specs.InWords.{OutputOf, Packed, EachBlock, no-input, nothing-left, something-left, BlocksOut}
 use Rattle.rules.specs.RunRows.{RecordIs, Holds}
 use Rattle.rules.specs.Accepted.{Accepted}
+use Rattle.rules.proofs.Lists.{map-joined}
 use Rattle.rules.proofs.AllLaws.{all-drop, all-imply}
 use Rattle.rules.proofs.ReelLaws.{all-joined}
 use Rattle.rules.proofs.FillLaws.{fits-true, filled-all, filled-packed, packed-filled}
-use Rattle.rules.proofs.BlocksOutcome.{taken-all}
-use Rattle.rules.proofs.FitOutcome.{all-map}
 use Rattle.rules.proofs.RunParts.{all-unmap, holds-bytes}
 use Rattle.rules.proofs.CopyLaws.{copy-blocks}
 use Rattle.rules.proofs.OutputWords.{Whole, outputs-told, outputs-once}
+use Rattle.rules.proofs.TakenLaws.{after-joined}
 
 -- ---- the records of good blocks
 
@@ -84,7 +84,7 @@ module _ (p : Plan) (z : p .zone < 16) (ok : Accepted p) where
   -- the output records of those from R on
   in-order : (recs : List (List (List ℕ))) → joined (outputs p recs) ≡ map (outRecord p) (drop (p .first - 1) (joined recs))
   unfolding takenFrom
-  in-order recs = all-map (outRecord p) (takenAfter (p .first - 1) recs) ∙ ap (map (outRecord p)) (taken-all (p .first - 1) recs)
+  in-order recs = sym (map-joined (outRecord p) (takenAfter (p .first - 1) recs)) ∙ ap (map (outRecord p)) (after-joined (p .first - 1) recs)
 
   abbrev limit : ℕ
   limit = blockLength (p .output)

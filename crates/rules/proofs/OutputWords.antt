@@ -8,7 +8,7 @@ use Prim.Native.Nat.{ℕ, zero, suc, _+_, _*_, _≤_, _<_}
 use native.Mathlib.Nat.{not-suc-le-zero}
 use native.Mathlib.Omega.{arith}
 use lib.ListN.{length, take, drop, getD, length-append, length-take, take-append-drop}
-use lib.Seq.{getD-take, take-at, drop-at, ext-getD}
+use lib.Seq.{take-at, drop-at, ext-getD}
 use Rattle.rules.specs.Base.{pairs}
 use Rattle.rules.specs.Places.{All, noMore, also, Both, none-left, both, Byte}
 use Rattle.rules.specs.Halves.{halves, Source, from, constant, blank, valueIn, froms, sources}
@@ -18,7 +18,7 @@ use Rattle.rules.specs.Accepted.{Accepted}
 use Rattle.rules.specs.InWords.{HalfTakes, SelectedOf, OutputOf}
 use Rattle.rules.proofs.AllLaws.{all-take, all-at}
 use Rattle.rules.proofs.SizeLaws.{length-halves, halves-small, halves-pairs, pairs-halves, all-outHalves, length-outHalves}
-use Rattle.rules.proofs.BytePlaces.{halves-take}
+use Rattle.rules.proofs.BytePlaces.{halves-first}
 use Rattle.rules.proofs.RecordLaws.{fits-of, length-first, length-fixed, halves-outHalves}
 use Rattle.rules.proofs.SourceSteps.{length-sources}
 use Rattle.rules.proofs.SourceWords.{taken-source, source-taken}
@@ -32,10 +32,6 @@ map-at f (x ∷ xs) (suc i) d e l = map-at f xs i d e (omega arith)
 all-froms : {P : Source → Type 0} (i n : ℕ) → ((j : ℕ) → j < i + n → P (from j)) → All P (froms i n)
 all-froms i zero h = noMore
 all-froms i (suc n) h = also (h i (omega arith)) (all-froms (suc i) n (λ j l. h j (omega arith)))
-
--- the halves of the first bytes are the first halves
-first-at : (n : ℕ) (s : List ℕ) (h : ℕ) → h < 2 * n → getD (halves s) h 0 ≡ getD (halves (take n s)) h 0
-first-at n s h l = sym (getD-take (2 * n) (halves s) h 0 l) ∙ ap (λ (x : List ℕ). getD x h 0) (sym (halves-take n s))
 
 -- what a record of a good block is: bytes, and with TF or TRF A's n or more of them
 pub record Whole (p : Plan) (r : List ℕ) : Type 0 where
@@ -70,7 +66,7 @@ module _ (p : Plan) (z : p .zone < 16) (ok : Accepted p) where
     unfolding sourcesOf sources inputHalves
     same-value =
         all-outHalves constant (λ c h. refl) (p .zone) z (recordLength (p .output)) (p .fields)
-        (all-froms 0 (2 * recordLength (p .input)) (λ j l. first-at (recordLength (p .input)) r j (omega arith)))
+        (all-froms 0 (2 * recordLength (p .input)) (λ j l. sym (halves-first (recordLength (p .input)) r j (omega arith))))
 
     length-all : length (sourcesOf p) ≡ 2 * recordLength (p .output)
     unfolding sourcesOf inputHalves
@@ -92,7 +88,7 @@ module _ (p : Plan) (z : p .zone < 16) (ok : Accepted p) where
 
     half-at : (h : ℕ) → h < 2 * recordLength (p .output) → getD (halves (outRecord p r)) h 0 ≡ valueIn (halves r) (getD (sourcesOf p) h none)
     half-at h l =
-        first-at (recordLength (p .output)) (outRecord p r) h l
+        sym (halves-first (recordLength (p .output)) (outRecord p r) h l)
         ∙ ap (λ (x : List ℕ). getD (halves x) h 0) first-of
         ∙ ap (λ (x : List ℕ). getD x h 0) (halves-pairs {hs = fixed} (omega (arith, length-whole)) (halves-outHalves (p .zone) z _ (p .fields) (halves-small (all-take (recordLength (p .input)) bytes))))
         ∙ value-at h l
@@ -125,7 +121,7 @@ module _ (p : Plan) (z : p .zone < 16) (ok : Accepted p) where
         at : (h : ℕ) → h < 2 * m → getD (halves (take m out)) h 0 ≡ getD fixed h 0
         at h l =
             let x = w .each h l in
-            sym (first-at m out h l) ∙ x .2 ∙ ap (valueIn (halves r)) (sym (named-once h l (x .0) (x .1))) ∙ sym (value-at h l)
+            halves-first m out h l ∙ x .2 ∙ ap (valueIn (halves r)) (sym (named-once h l (x .0) (x .1))) ∙ sym (value-at h l)
 
         long-first : length (halves (take m out)) ≡ 2 * m
         long-first = omega (arith, length-halves (take m out), length-take m out, w .wide)

@@ -20,6 +20,7 @@ use Rattle.rules.specs.RunRows.{RecordIs, ReelIs, GoodBlock, Holds, Give
 use Rattle.rules.specs.ShortBlocks.{FixedGood, NeverRefused, OneByOne, Under, ReadsBack, EachGives, RunGives}
 use Rattle.rules.specs.Accepted.{Accepted}
 use Rattle.rules.specs.InWords.{BlocksOut}
+use Rattle.rules.proofs.Lists.{full-length}
 use Rattle.rules.proofs.AllLaws.{all-imply}
 use Rattle.rules.proofs.AnswerLaws.{fine-unless}
 use Rattle.rules.proofs.AcceptedLaws.{accepted, zone-of}
@@ -62,10 +63,6 @@ fixed-good p t b = (to, back)
     n : ℕ
     n = recordLength (p .input)
 
-    some-record : (rs : List (List ℕ)) → (rs ≡ [] → ⊥) → 1 ≤ length rs
-    some-record [] o = absurd (o refl)
-    some-record (r ∷ rs) o = omega arith
-
     some-piece : (k : ℕ) → 1 ≤ k → map (dataOf b) (fixedFrom n 0 k) ≡ [] → ⊥
     some-piece zero l e = omega arith
     some-piece (suc k) l e = let z : suc (length (map (dataOf b) (fixedFrom n (0 + n) k))) ≡ 0 = ap length e in omega arith
@@ -73,7 +70,7 @@ fixed-good p t b = (to, back)
     to : GoodBlock p b → FixedGood p b
     to (rs, v) =
         let a : All (λ r. length r ≡ recordLength (p .input)) rs = subst (λ (f : Format). All (RecordIs f p) rs) t (v .records) in
-        ((length rs, some-record rs (v .some), ap length (v .is) ∙ ap (λ (f : Format). length (blockOf f rs)) t ∙ length-joined n a), v .most)
+        ((length rs, full-length rs (v .some), ap length (v .is) ∙ ap (λ (f : Format). length (blockOf f rs)) t ∙ length-joined n a), v .most)
 
     back : FixedGood p b → GoodBlock p b
     back ((k, l, e), m) =

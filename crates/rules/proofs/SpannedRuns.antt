@@ -18,12 +18,12 @@ use Rattle.rules.specs.Run.{Ran, housed, spannedOut, spannedRan, spanned
 use Rattle.rules.specs.RunRows.{ReelIs}
 use Rattle.rules.specs.Spanned.{Segment, segment, part, spelled, spanOf, spannedFrom, segmented, Joined, no-segment, ending, going, SpanIs, Spans}
 use Rattle.rules.specs.RunRows.{GivesSpanned}
+use Rattle.rules.proofs.Lists.{drop-less, length-full}
 use Rattle.rules.proofs.Tests.{and-left, and-right}
 use Rattle.rules.proofs.AllLaws.{all-imply, all-drop, all-head}
 use Rattle.rules.proofs.AnswerLaws.{fine-same, bind-fine, then-fine, unless-fine}
-use Rattle.rules.proofs.PartLaws.{drop-less}
 use Rattle.rules.proofs.BlockSizes.{all-map, all-with}
-use Rattle.rules.proofs.ReelLaws.{reel-blocks, reel-of, blocks-reel, all-blocks, length-reel, length-full}
+use Rattle.rules.proofs.ReelLaws.{reel-blocks, reel-of, blocks-reel, all-blocks, length-reel}
 use Rattle.rules.proofs.CodedWords.{length-spelled}
 use Rattle.rules.proofs.SpannedFill.{joined-data, segmented-spanned}
 use Rattle.rules.proofs.SpannedBlocks.{length-span, spanned-blocks}

@@ -19,13 +19,6 @@ use Rattle.rules.proofs.SpannedFill.{fill-good, fill-once, fill-left, f
 
 -- ---- the pieces of a block from a place on
 
-pub headedTo-short : (top low : ℕ) (b : List ℕ) (i : ℕ) → 4 ≤ low → length b < i + 4 → headedTo top low (drop i b) ≡ false
-headedTo-short top low b i l h = go (headedTo top low (drop i b)) refl
-  where
-    go : (t : Bool) → headedTo top low (drop i b) ≡ t → headedTo top low (drop i b) ≡ false
-    go false t = t
-    go true t = let w = headedTo-exactly top low (drop i b) .0 t in absurd (omega (arith, w .least, w .most, length-drop i b))
-
 unfoldable pub walkAt : ℕ → List ℕ → ℕ → Option (List Piece)
 walkAt top b i = walkFrom top (suc (length b)) i (drop i b)
 

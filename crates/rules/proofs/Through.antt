@@ -2,7 +2,7 @@
 -- that counts through reads what it reads, as it stands on its card, of its own part.
 use mathlib.Core.Path.{_≡_, refl, ap, sym, _∙_, subst}
 use mathlib.Core.Bool.{true, false, not, _||_, true≢false}
-use mathlib.Core.List.{List, [], _∷_, map, map-append}
+use mathlib.Core.List.{List, [], _∷_, map, map-map}
 use Prim.Native.Nat.{ℕ, suc, _+_, _-_, _/_, _%_, _≤_}
 use native.Mathlib.Nat.{zero-add, one-mul, mul-div-cancel, div-add-mod'}
 use native.Mathlib.Omega.{arith}
@@ -20,12 +20,12 @@ use Rattle.rules.specs.Plan.{recordLength, blockLength, joinedSize, keyL
 use Rattle.rules.specs.RecordParts.{fieldInput}
 use Rattle.rules.specs.Rows.{InputWithin, UtilityWithin, FieldWithin, Required, IsKeyed, Inside}
 use Rattle.rules.specs.Keys.{partOf, ownInput, throughField, throughItem, throughUtility, throughAsked}
+use Rattle.rules.proofs.Lists.{take-drop, map-joined, map-same}
 use Rattle.rules.proofs.Tests.{and-left, and-both}
 use Rattle.rules.proofs.AnswerLaws.{fine-bind, then-fine, fine-then, fine-unless, fine-each}
 use Rattle.rules.proofs.LimitLaws.{inside-exactly, required-exactly, no-keys, keys-exactly}
 use Rattle.rules.proofs.KeyLaws.{joined-within, Joined, Named}
 use Rattle.rules.proofs.AcceptedLaws.{Limited, limited-of, limits-utility, limits-fields, Combines, combines, key-fits, fields-joined}
-use Rattle.rules.proofs.FieldSteps.{take-drop}
 
 -- ---- the deck that counts through gives the same plan
 
@@ -40,24 +40,19 @@ module _ (key : ℕ) where
   data-through f = ap (λ (r : ℕ). record { r = r; kind = f .field .kind; t = f .field .t }) (zero-add _)
 
   through-once : (fs : List CardField) → map (through 0) (map (throughField key) fs) ≡ map (through key) fs
-  through-once [] = refl
-  through-once (f ∷ fs) = rw (data-through f, through-once fs)
+  through-once fs = map-map (through 0) (throughField key) fs ∙ map-same data-through fs
 
   cvs-through : (is : List Item) → cvs (map (throughItem key) is) ≡ cvs is
   cvs-through [] = refl
   cvs-through (field f ∷ is) = cvs-through is
   cvs-through (cv ∷ is) = ap suc (cvs-through is)
 
-  joined-through : (cards : List (List Item)) → joined (map (map (throughItem key)) cards) ≡ map (throughItem key) (joined cards)
-  joined-through [] = refl
-  joined-through (c ∷ cards) = rw (joined-through cards, map-append (throughItem key) c (joined cards))
-
 -- a deck with keys, and the deck without keys that counts through, give one plan
 pub counts-through : (zone : ℕ) (a : Asked) → assembled zone (throughAsked a) ≡ assembled zone a
 unfolding assembled throughAsked throughUtility
 counts-through zone a =
     let k = keyLength (a .utility .input) in
-    rw (joined-through k (a .cards), fields-through k (joined (a .cards)), cvs-through k (joined (a .cards)), through-once k (fieldsOf (joined (a .cards))))
+    rw (sym (map-joined (throughItem k) (a .cards)), fields-through k (joined (a .cards)), cvs-through k (joined (a .cards)), through-once k (fieldsOf (joined (a .cards))))
 
 -- ---- a field reads its own part
 
@@ -139,7 +134,7 @@ module _ (zone : ℕ) (a : Asked) (l : Limited a) (c : Combines zone a) where
 
   cards-fields : fieldsOf (joined (throughAsked a .cards)) ≡ map (throughField key) (fieldsOf (joined (a .cards)))
   unfolding throughAsked
-  cards-fields = ap fieldsOf (joined-through key (a .cards)) ∙ fields-through key (joined (a .cards))
+  cards-fields = ap fieldsOf (sym (map-joined (throughItem key) (a .cards))) ∙ fields-through key (joined (a .cards))
 
   limits-through : All (λ f. FieldWithin (f .field)) (fieldsOf (joined (throughAsked a .cards)))
   limits-through = rw cards-fields (within-data (a .utility .input) (recordLength (a .utility .output)) key (fieldsOf (joined (a .cards))) (fields-joined zone a l c))

@@ -16,8 +16,8 @@ use Rattle.rules.specs.Places.{All, noMore, Both, none-left, both}
 use Rattle.rules.specs.Reel.{blockCount, isReel, blocksOf}
 use Rattle.rules.specs.ReelPlaces.{offsetAt}
 use Rattle.rules.specs.Spanned.{Segment, part, segmentsIn, State, joinFrom, spannedFrom, Joined, no-segment, ending, going, Turns, no-turn}
+use Rattle.rules.proofs.Lists.{drop-less, mapped-append}
 use Rattle.rules.proofs.AllLaws.{all-append}
-use Rattle.rules.proofs.PartLaws.{drop-less}
 use Rattle.rules.proofs.AnswerLaws.{not-fine, fine-same, bind-fine}
 use Rattle.rules.proofs.Bounds.{parts-length}
 use Rattle.rules.proofs.ReelLaws.{header-is, length-blocks}
@@ -129,10 +129,6 @@ part-most s i = go (leb (4 * i + 12) (length s) && leb (offsetAt s (suc i)) (len
     go true = omega (arith, length-drop (offsetAt s i) (take (offsetAt s (suc i)) s), length-take (offsetAt s (suc i)) s)
     go false = omega arith
 
-parts-append : (xs ys : List Segment) → joined (map part (xs ++ ys)) ≡ joined (map part xs) ++ joined (map part ys)
-parts-append [] ys = refl
-parts-append (x ∷ xs) ys = ap (part x ++_) (parts-append xs ys) ∙ sym (append-assoc (part x) (joined (map part xs)) (joined (map part ys)))
-
 -- of the blocks behind
 abbrev Parts : List Segment → ℕ → Type 0
 Parts ss n = All (λ x. 1 ≤ length (part x)) ss × (length (joined (map part ss)) ≤ n)
@@ -142,7 +138,7 @@ later-parts g none-left = (noMore, omega arith)
 later-parts g (both {x = b} {y = ss} {xs = bs} {ys = sss} v w) =
     let k = later-parts g w in
     let f = from-parts (length b) b 4 ss (omega arith) (read-from g b ss v .0) in
-    (all-append (f .0) (k .0), omega (arith, f .1, k .1, ap length (parts-append ss (joined sss)), length-append (joined (map part ss)) (joined (map part (joined sss))), length-append b (joined bs)))
+    (all-append (f .0) (k .0), omega (arith, f .1, k .1, ap length (mapped-append part ss (joined sss)), length-append (joined (map part ss)) (joined (map part (joined sss))), length-append b (joined bs)))
 
 -- a block and those behind it lie in the reel
 blocks-few : (s : List ℕ) → isReel s ≡ true → (i : ℕ) → length (partAt s i) + length (joined (drop (suc i) (blocksOf s))) ≤ 65536
@@ -169,7 +165,7 @@ module _ {g : ℕ} {s : List ℕ} {v : Spot} {ss : List Segment} (k : Stands g s
       omega (
         arith,
         ap (λ (z : List Segment). length (joined (map part z))) (k .is),
-        ap length (parts-append (k .here) (joined (k .later))),
+        ap length (mapped-append part (k .here) (joined (k .later))),
         length-append (joined (map part (k .here))) (joined (map part (joined (k .later)))),
         here-parts .1,
         later-parts g (k .behind) .1,

@@ -8,7 +8,7 @@ use Prim.Native.Nat.{ℕ, _+_, _-_, _≤_, _<_, min}
 use native.Mathlib.Omega.{arith}
 use lib.ListN.{length, take, drop}
 use lib.Seq.{take-add, take-take}
-use Rattle.rules.proofs.PieceLaws.{slice-taken}
+use Rattle.rules.proofs.Lists.{slice-from}
 use Rattle.reels.specs.Header.{partAt}
 use Rattle.segments.specs.declared.Spot.{Spot}
 use Rattle.segments.specs.Spots.{passedBy, onData}
@@ -25,11 +25,8 @@ pub lent-same : (s : List ℕ) (v : Spot) (t : List ℕ) (u : Spot) (n : ℕ) (b
 lent-same s v t u n b c d e r k = (λ q. sym (lent-part s v n b d) ∙ k .0 q ∙ lent-part t u n c e, λ q. k .1 (lent-part s v n b d ∙ q ∙ sym (lent-part t u n c e)))
 
 -- bytes in the middle are those of the front that holds them
-middle : (done size n : ℕ) (x : List ℕ) → done + size ≤ n → n ≤ length x → take size (drop done x) ≡ drop done (take (done + size) (take n x))
-middle done size n x l m =
-    ap (λ (i : ℕ). take i (drop done x)) (let z : size ≡ done + size - done = omega arith in z)
-    ∙ sym (slice-taken done (done + size) x (omega arith) (omega arith))
-    ∙ ap (drop done) (sym (take-take (done + size) n x l))
+middle : (done size n : ℕ) (x : List ℕ) → done + size ≤ n → take size (drop done x) ≡ drop done (take (done + size) (take n x))
+middle done size n x l = sym (ap (drop done) (take-take (done + size) n x l) ∙ slice-from done size x)
 
 pub record Comparing (s : List ℕ) (v : Spot) (t : List ℕ) (u : Spot) (n : ℕ) (at there : Spot) (done : ℕ) : Type 0 where
   pub one : Streaming s v n at done
@@ -87,9 +84,9 @@ module _ {s : List ℕ} {v : Spot} {t : List ℕ} {u : Spot} {n : ℕ} {at there
                   λ z. absurd (true≢false (sym z)),
                   λ z.
                       absurd (true≢false (sym (w .1 (one-is g x a i
-                      ∙ middle done size n x (comparing-size .3) i
+                      ∙ middle done size n x (comparing-size .3)
                       ∙ ap (λ (c : List ℕ). drop done (take (done + size) c)) z
-                      ∙ sym (middle done size n y (comparing-size .3) j)
+                      ∙ sym (middle done size n y (comparing-size .3))
                       ∙ sym (other-is h y b j))) ∙ d)),
                 );
               }

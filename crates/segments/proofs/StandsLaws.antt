@@ -17,7 +17,7 @@ use Rattle.rules.specs.Reel.{blockCount, isReel, blocksOf}
 use Rattle.rules.specs.Blocks.{wordLength}
 use Rattle.rules.specs.ReelPlaces.{pieceAt}
 use Rattle.rules.specs.Spanned.{Segment, ends, part, segmentAt, segmentsIn}
-use Rattle.rules.proofs.PieceLaws.{slice-taken}
+use Rattle.rules.proofs.Lists.{slice-from, slice-part}
 use Rattle.rules.proofs.ReelLaws.{header-is, length-blocks}
 use Rattle.reels.specs.Header.{partAt}
 use Rattle.pieces.specs.Pieces.{found}
@@ -76,9 +76,7 @@ module _ (g : ℕ) (s : List ℕ) (e : isReel s ≡ true) where
               is = refl;
             };
         bytes =
-            slice-taken (i + 4) (i + 4 + (n - 4)) b (omega arith) (omega (arith, f .most, f .least))
-            ∙ ap (λ (k : ℕ). take k (drop (i + 4) b)) (let z : i + 4 + (n - 4) - (i + 4) ≡ n - 4 = omega arith in z)
-            ∙ sym (first-data b i);
+            slice-from (i + 4) (n - 4) b ∙ sym (first-data b i);
         ends = sym (first-ends b i);
         some = omega (arith, f .least);
         inside = omega (arith, f .most, f .least);
@@ -185,7 +183,7 @@ module _ {g : ℕ} {s : List ℕ} {v : Spot} {all : List ℕ} (k : Streams g s v
       let b = partAt s (v .block) in
       sym (ap (take n) (k .is)
       ∙ take-append-le n (slice (v .from) (v .to) b) (joined (map part (k .segments))) (omega (arith, length-slice (v .from) (v .to) b m))
-      ∙ ap (take n) (slice-taken (v .from) (v .to) b (k .stands .ordered) m)
+      ∙ ap (take n) (slice-part (v .from) (v .to) b (k .stands .ordered))
       ∙ take-take n (v .to - v .from) (drop (v .from) b) (omega arith))
 
   -- on to data

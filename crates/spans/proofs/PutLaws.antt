@@ -7,11 +7,12 @@ use Prim.Native.Nat.{ℕ, zero, suc, _+_, _-_, _≤_}
 use native.Mathlib.Omega.{arith}
 use lib.ListN.{length, take, drop, length-take, length-drop}
 use lib.Dec.{eqb}
-use lib.Seq.{length-take-le, take-take, take-add, drop-at}
+use lib.Seq.{length-take-le, take-take}
 use borrow.Rule.Slice.PartMut.{putMid}
 use Rattle.rules.specs.Halves.{over}
 use Rattle.rules.specs.Output.{lengthWord}
 use Rattle.rules.specs.Spanned.{codeOf, codedWord}
+use Rattle.rules.proofs.Lists.{slice-part}
 use Rattle.rules.proofs.SizeLaws.{length-over}
 use Rattle.rules.proofs.PlaceLaws.{over-behind}
 use Rattle.rules.proofs.LentParts.{rest-over}
@@ -82,12 +83,6 @@ module _ (m base : ℕ) where
   put-step k t first [] out l = absurd (omega arith)
   put-step k t first (b ∷ r) out l = refl
 
-drop-take : (n k : ℕ) (l : List ℕ) → n ≤ k → n ≤ length l → drop n (take k l) ≡ take (k - n) (drop n l)
-drop-take n k l h i =
-    ap (λ (j : ℕ). drop n (take j l)) (let z : k ≡ n + (k - n) = omega arith in z)
-    ∙ ap (drop n) (take-add n (k - n) l)
-    ∙ drop-at (take n l) (take (k - n) (drop n l)) n (length-take-le n l i)
-
 -- so many bytes of the record are left, from a spot on; what puts them makes the whole record
 pub record Puts (m base : ℕ) {s : List ℕ} {v : Spot} {size : ℕ} (y : Streaming s v size) (start : Tally) (old out : List ℕ) (at : Spot) (t : Tally) (first : Bool) (rest : ℕ) : Type 0 where
   pub left : List ℕ
@@ -128,7 +123,7 @@ module _ (m base : ℕ) {s : List ℕ} {v : Spot} {size : ℕ} (y : Streaming s 
             let x = puts-streaming (p .size) most in
             let same : cutOf m t (length r) ≡ p = ap (cutOf m t) long ∙ sym e in
             let front : take (p .size) r ≡ take (p .size) (w .left) = take-take (p .size) rest (w .left) most in
-            let back : drop (p .size) r ≡ take (rest - p .size) (drop (p .size) (w .left)) = drop-take (p .size) rest (w .left) most (omega (arith, w .enough)) in
+            let back : drop (p .size) r ≡ take (rest - p .size) (drop (p .size) (w .left)) = slice-part (p .size) rest (w .left) most in
             record {
               left = drop (p .size) (w .left);
               streams = h .streams x;

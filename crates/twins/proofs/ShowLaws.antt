@@ -10,11 +10,10 @@ use lib.Dec.{leb, eqb}
 use lib.ListN.{length, take, drop, getD}
 use borrow.Author.Tests.{eqb-true, eqb-false, eq-eqb, ne-eqb, le-leb, lt-leb}
 use Rattle.rules.specs.Answer.{Answer, fine, refuse, refusedAt, _>>=_, _>>_, unless}
-use Rattle.rules.specs.Grammar.{Format, Size, two, one}
 use Rattle.rules.specs.Halves.{bytes}
 use Rattle.rules.specs.Permitted.{permitted, choices}
 use Rattle.rules.specs.Plan.{Plan, PlanAnswer, planAnswer, bit, recordLength, inputHalves, allowed, lostAt, keeps}
-use Rattle.rules.specs.Rows.{SizeWithin, FieldWithin, Inside}
+use Rattle.rules.specs.Rows.{FieldWithin, Inside}
 use Rattle.rules.specs.Lent.{zoneF, plan}
 use Rattle.rules.specs.Twins.{listed, lowest, second, raised, firstTwin, secondTwin, twins, reasonBy, reason, Shown, shown, twinsInto, TwinsAnswer, twinsAnswer, twinsAfter}
 use Rattle.rules.proofs.AllLaws.{all-at}
@@ -23,6 +22,7 @@ use Rattle.rules.proofs.KeepingLaws.{lowest-passes, second-passes}
 use Rattle.rules.proofs.Twins.{lost-most}
 use Rattle.rules.proofs.TwinLaws.{lost-two, length-first, length-second, length-more, length-twins}
 use Rattle.rules.proofs.NextValue.{lost-next}
+use Rattle.rules.proofs.BlockSizes.{record-most}
 use Rattle.terms.specs.Meaning.{sizeOf, fieldOf, OneSize, noField, planIn}
 use Rattle.terms.specs.declared.Field.{Field}
 use Rattle.terms.specs.declared.Asked.{Asked}
@@ -42,11 +42,6 @@ use Rattle.twins.specs.Promise.{raisedIn, Values, neededFor, recordsIn, 
 use Rattle.twins.specs.declared.Twins.{Twins}
 
 -- ---- the fields of an accepted plan
-
--- A's and B's n are at most 4,096
-length-most : (f : Format) (s : Size) → SizeWithin f s → recordLength s ≤ 4096
-length-most f (two n m) w = w .0 .1
-length-most f (one g) w = omega arith
 
 module _ (x : Asked) (row : List ℕ) (fair : PlanFair x row) where
   abbrev p : Plan
@@ -68,8 +63,8 @@ module _ (x : Asked) (row : List ℕ) (fair : PlanFair x row) where
       let d = fieldOf noField in
       record {
         few = omega (arith, fair .accepted .few, fields-many (fieldsIn row) (fair .flat));
-        n-high = length-most (p .format) (p .input) (fair .accepted .input);
-        m-high = length-most (p .format) (p .output) (fair .accepted .output);
+        n-high = record-most (p .format) (p .input) (fair .accepted .input);
+        m-high = record-most (p .format) (p .output) (fair .accepted .output);
         each = λ k l.
             let here : k < length (fieldsIn row) = omega (arith, many-in row) in
             fair-field n m (fieldAt row k) (subst FieldWithin (field-in row d k l) (all-at d (fieldsIn row) (fair .accepted .limits) k here))

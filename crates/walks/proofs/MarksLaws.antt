@@ -2,7 +2,7 @@
 -- are taken; and the marks tell the blocks again, but for those of which no record is taken. By going along the blocks and their records.
 use mathlib.Core.Path.{_≡_, refl, ap, ap₂, sym, _∙_}
 use mathlib.Core.Bool.{Bool, true, false}
-use mathlib.Core.List.{List, [], _∷_, _++_, map, append-nil, append-assoc}
+use mathlib.Core.List.{List, [], _∷_, _++_, map, append-nil, append-assoc, map-append}
 use Prim.Native.Nat.{ℕ, zero, suc, _-_}
 use native.Mathlib.Omega.{arith}
 use lib.ListN.{length, drop, length-append}
@@ -11,14 +11,10 @@ use Rattle.rules.specs.Base.{joined}
 use Rattle.rules.specs.Places.{All, noMore, also}
 use Rattle.rules.specs.Blocks.{takenAfter, takenFrom}
 use Rattle.rules.specs.Output.{nonEmpty}
-use Rattle.rules.proofs.TakenLaws.{taken-first}
+use Rattle.rules.proofs.TakenLaws.{after-zero}
 use Rattle.walks.specs.Marks.{marked, markedAll, opened, takenMarks, openedFrom, blocksMarked, bytesOf, onMarked}
 
 -- ---- all records
-
-map-append : {A B : Type 0} (f : A → B) (xs ys : List A) → map f (xs ++ ys) ≡ map f xs ++ map f ys
-map-append f [] ys = refl
-map-append f (x ∷ xs) ys = ap (f x ∷_) (map-append f xs ys)
 
 module _ {A : Type 0} where
   pub marked-records : (begins : Bool) (rs : List A) → map bytesOf (marked begins rs) ≡ rs
@@ -64,14 +60,10 @@ pub opened-marked : (begins : Bool) (rs : List (List ℕ)) (recs : List (List (L
 opened-marked begins [] recs = opened-all recs
 opened-marked begins (r ∷ rs) recs = refl
 
-taken-all : (recs : List (List (List ℕ))) → takenAfter 0 recs ≡ recs
-unfolding takenFrom
-taken-all recs = taken-first recs
-
 -- from the k-th on, of some records of a block and those of further blocks
 dropped : (recs : List (List (List ℕ))) → ((j : ℕ) → opened (drop j (markedAll recs)) ≡ markedAll (takenAfter j recs)) → (k : ℕ) (begins : Bool) (rs : List (List ℕ))
     → opened (drop k (marked begins rs ++ markedAll recs)) ≡ marked true (drop k rs) ++ markedAll (takenAfter (k - length rs) recs)
-dropped recs ih zero begins rs = opened-marked begins rs recs ∙ rw (let z : 0 - length rs ≡ 0 = omega arith in z, taken-all recs)
+dropped recs ih zero begins rs = opened-marked begins rs recs ∙ rw (let z : 0 - length rs ≡ 0 = omega arith in z, after-zero recs)
 dropped recs ih (suc k) begins [] = ih (suc k) ∙ rw (let z : suc k - 0 ≡ suc k = omega arith in z)
 dropped recs ih (suc k) begins (r ∷ rs) = dropped recs ih k false rs ∙ rw (let z : suc k - suc (length rs) ≡ k - length rs = omega arith in z)
 

@@ -14,9 +14,9 @@ use Rattle.rules.specs.Reel.{blockCount, isReel}
 use Rattle.rules.specs.Blocks.{Piece, dataOf}
 use Rattle.rules.specs.Output.{cost}
 use Rattle.rules.specs.ReelPlaces.{offsetAt, pieceFrom, goodFrom, behind}
+use Rattle.rules.proofs.Lists.{slice-part}
 use Rattle.rules.proofs.HeaderSteps.{next-at}
 use Rattle.rules.proofs.ReelSteps.{offset-last}
-use Rattle.rules.proofs.PieceLaws.{slice-taken}
 use Rattle.rules.proofs.BlockWords.{headed-exactly, wordLength-at}
 use Rattle.rules.proofs.BlockSteps.{data-slice}
 use Rattle.reels.specs.Header.{partAt}
@@ -63,7 +63,7 @@ data-place s b a e x is m l =
     let k = x .size in
     let y : Piece = record { place = a + n; size = k; third = 0 } in
     data-slice b x
-    ∙ ap (λ (z : List ℕ). drop n (take (n + k) z)) (is ∙ slice-taken a e s (omega arith) m)
+    ∙ ap (λ (z : List ℕ). drop n (take (n + k) z)) (is ∙ slice-part a e s (omega arith))
     ∙ ap (drop n) (take-take (n + k) (e - a) (drop a s) (omega arith))
     ∙ sym (data-slice (drop a s) x)
     ∙ ap (take k) (drop-drop n a s)
@@ -72,7 +72,7 @@ data-place s b a e x is m l =
 -- the bytes of a part are those of the reel
 byte-there : (s b : List ℕ) (a e j : ℕ) → b ≡ slice a e s → a + length b ≡ e → e ≤ length s → j < length b → getD b j 0 ≡ getD s (a + j) 0
 byte-there s b a e j is ends most l =
-    ap (λ (z : List ℕ). getD z j 0) (is ∙ slice-taken a e s (omega arith) most)
+    ap (λ (z : List ℕ). getD z j 0) (is ∙ slice-part a e s (omega arith))
     ∙ getD-take (e - a) (drop a s) j 0 (omega arith)
     ∙ getD-drop a s j 0
 

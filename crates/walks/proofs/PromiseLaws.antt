@@ -6,10 +6,10 @@ use Prim.Native.Nat.{ℕ, _+_, _-_}
 use native.Mathlib.Omega.{arith}
 use lib.ListN.{length, take, drop}
 use lib.Seq.{slice, length-slice}
-use Rattle.rules.proofs.PieceLaws.{slice-taken}
 use Rattle.rules.specs.Base.{joined}
 use Rattle.rules.specs.Plan.{Plan}
 use Rattle.rules.specs.Accepted.{Accepted}
+use Rattle.rules.proofs.Lists.{slice-part}
 use Rattle.pieces.specs.declared.Form.{Form}
 use Rattle.reels.specs.declared.ReelRead.the-variants.{Read}
 use Rattle.pieces.specs.Form.{FormIs}
@@ -39,7 +39,7 @@ module _ {form : Form} {s : List ℕ} {w : Walk} {r : RecordRead} (x : Told form
 
     -- the record as it is lent, `&s[start..start + size]`, and its length
     pub lent : take (start + size - start) (drop start s) ≡ slice start (start + size) s
-    lent = sym (slice-taken start (start + size) s (omega arith) (inside .ends))
+    lent = sym (slice-part start (start + size) s (omega arith))
 
     pub lent-length : length (slice start (start + size) s) ≡ size
     lent-length = length-slice start (start + size) s (inside .ends) ∙ (let z : start + size - start ≡ size = omega arith in z)

@@ -7,7 +7,7 @@ use lib.ListN.{length, length-append}
 use Rattle.rules.specs.Base.{joined}
 use Rattle.rules.specs.Grammar.{Format, ff, fv, fu, fsp}
 use Rattle.rules.specs.Output.{lengthWord, framed, blockOf, cost, total}
-use Rattle.rules.proofs.PartLaws.{joined-append}
+use Rattle.rules.proofs.Lists.{joined-last}
 use Rattle.rules.proofs.BlockWords.{lengthWord-four}
 use Rattle.rules.proofs.BlockLaws.{length-block}
 use Rattle.rules.proofs.FitSteps.{framed-append}
@@ -47,10 +47,10 @@ block-parts fu rs = refl
 block-parts fsp rs = refl
 
 pub body-snoc : (f : Format) (rs : List (List ℕ)) (r : List ℕ) → bodyOf f (rs ++ (r ∷ [])) ≡ bodyOf f rs ++ pieceOf f r
-body-snoc ff rs r = joined-append rs (r ∷ []) ∙ ap (joined rs ++_) (append-nil r)
+body-snoc ff rs r = joined-last rs r
 body-snoc fv rs r = framed-append rs (r ∷ []) ∙ ap (framed rs ++_) (append-nil (lengthWord (length r + 4) ++ r))
-body-snoc fu rs r = joined-append rs (r ∷ []) ∙ ap (joined rs ++_) (append-nil r)
-body-snoc fsp rs r = joined-append rs (r ∷ []) ∙ ap (joined rs ++_) (append-nil r)
+body-snoc fu rs r = joined-last rs r
+body-snoc fsp rs r = joined-last rs r
 
 -- the sizes of a block, by its records and by its bytes
 pub total-body : (f : Format) (rs : List (List ℕ)) → total (cost f) (cost f) rs ≡ cost f + length (bodyOf f rs)

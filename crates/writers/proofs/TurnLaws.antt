@@ -6,12 +6,11 @@ use mathlib.Core.List.{List, _∷_}
 use Prim.Native.Nat.{ℕ, _+_, _-_, _≤_}
 use native.Mathlib.Omega.{arith}
 use lib.ListN.{length, take, drop}
-use Rattle.rules.specs.Grammar.{Format, Size, two, one}
-use Rattle.rules.specs.Plan.{recordLength, isTC, isFS}
-use Rattle.rules.specs.Rows.{SizeWithin}
+use Rattle.rules.specs.Plan.{isTC, isFS}
 use Rattle.rules.specs.Blocks.{leastData, takenFrom}
 use Rattle.rules.specs.Output.{outRecord}
 use Rattle.rules.proofs.MeasureLaws.{cost-high}
+use Rattle.rules.proofs.BlockSizes.{record-most}
 use Rattle.terms.specs.declared.Task.{Task}
 use Rattle.terms.specs.declared.Format.the-variants.{FU, FS}
 use Rattle.terms.specs.Meaning.{formatOf}
@@ -27,10 +26,6 @@ use Rattle.tasks.proofs.LengthLaws.{form-given, out-length}
 use Rattle.fixed.specs.Promise.{Ready}
 use Rattle.fillings.proofs.GatheredLaws.{outs}
 use Rattle.fixed.proofs.ReadyLaws.{marksIn, input-small}
-
-record-most : (f : Format) (z : Size) → SizeWithin f z → recordLength z ≤ 4096
-record-most f (two n m) w = w .0 .1
-record-most f (one g) w = omega arith
 
 -- the record as it is lent, and its length
 pub record-long : {form : Form} {s : List ℕ} {w : Walk} {read : RecordRead} (t : Told form s w read) {start size : ℕ} {begins : Bool} {next : Walk} (e : read ≡ Record start size begins next)

@@ -16,8 +16,8 @@ use Rattle.rules.specs.Places.{All}
 use Rattle.rules.specs.Deck.{fsCard}
 use Rattle.rules.specs.Grammar.{item}
 use Rattle.rules.specs.Words.{worded}
+use Rattle.rules.proofs.Lists.{slice-part}
 use Rattle.rules.proofs.AllLaws.{all-tail}
-use Rattle.rules.proofs.LineLaws.{slice-part}
 use Rattle.rows.specs.Kept.{rowOf}
 use Rattle.rows.proofs.RowLaws.{length-row}
 use Rattle.lines.specs.Meaning.{IsCard}
