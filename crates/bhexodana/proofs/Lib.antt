@@ -1,3 +1,4 @@
+pub mod EntryArrays
 pub mod Rows
 pub mod PlanLaws
 pub mod RunLaws

@@ -24,7 +24,7 @@ use types.Run.{look, init, forget, stop, from, load, addr, of-opd, and-then, no-
 use types.Part.{agg}
 use types.SemTy.{cells, Arr}
 use sound.WpLaws.{FmC, fmOf, WpFn-mono}
-use denote.RattleType.{owns}
+use denote.RattleType.{RattleType, owns}
 use denote.Laws.{Is, shows}
 use denote.Memory.{mem}
 use denote.Builtin.{u8, usize, ArrayOf}
@@ -49,7 +49,8 @@ use Rattle.bhexodana.specs.Promise.{PlannedInto}
 use Rattle.bhexodana.specs.declared.Planned.{Planned}
 use Rattle.terms.specs.declared.Entry.{Entry}
 use Rattle.answers.specs.declared.plan.Lent.{Lent}
-use Rattle.answers.proofs.Rows.{count, R, Rows, rows, slice, pvals, pval, ptells, ptyped, apart, together, to-field}
+use Rattle.bhexodana.proofs.EntryArrays.{R, slice, pvals, pval}
+use Rattle.bhexodana.proofs.EntryArrays as E
 use Rattle.bhexodana.proofs.Planned as N
 use Rattle.bhexodana.proofs.Planned.Laws as N′
 use Rattle.answers.proofs.plan.Lent as F
@@ -62,6 +63,13 @@ use Rattle.answers.proofs.plan.lend.Key.{name as #answers·plan·lend}
 use Rattle.answers.proofs.plan.lend as lend
 use Rattle.answers.proofs.plan.lend.Statement as stated
 use Rattle.answers.proofs.plan.lend.Code as code
+
+-- the array's length
+abbrev count : ℕ
+count = 70
+
+abbrev Rows : RattleType
+Rows = E.Rows count
 
 abbrev stayed : Stays (lend.ended .signature .params) (lend.ended .kept)
 stayed = (stay-dropped (shrSliceOf (0 ∷ []) tt (plain (λ _. u8))) yes, (stay-dropped (ArrayOf (plain (λ _. R)) (λ _. tt) count) yes, (stay-dropped (plain (λ _. usize)) yes, tt)))
@@ -142,7 +150,7 @@ module _ {M : Type 1} (𝓤 : URA M) (H : Heap 𝓤) (A : Atoms 𝓤) (W : Given
 
     -- the struct's relation, put together of its fields': as a field, the array stands at the list of the tuples
     is-f : Is F.the-row f (out ∷ [])
-    is-f = ((LL.vals N.the-type N′.the-laws r, (pval (zs ++ rest) ∷ [], tt)), (refl, (is-ans, (to-field (zs ++ rest) (pvals (zs ++ rest)) is-arr, tt))))
+    is-f = ((LL.vals N.the-type N′.the-laws r, (pval (zs ++ rest) ∷ [], tt)), (refl, (is-ans, (E.to-field count (zs ++ rest) (pvals (zs ++ rest)) is-arr, tt))))
 
     exits : length zs ≡ n → Says r zs → ent 𝓤 (⋆ 𝓤 H A (‵ (flft κ q) ∷ [])) (Post out)
     exits len e =
@@ -158,14 +166,14 @@ module _ {M : Type 1} (𝓤 : URA M) (H : Heap 𝓤) (A : Atoms 𝓤) (W : Given
         qed W ((‵ (flft κ q) ⊛ ‵ ftrue) ∷ ‵ (owns (ShrSlice (named 0) κ u8 ∷ Rows ∷ usize ∷ []) a av) ∷ []) ∵ enter ! C Λ code.function (d ∷ pval ys ∷ vint w64 n ∷ []) _ $
         alloc1 ! (λ l₀. alloc1 ! (λ l₁. alloc1 ! (λ l₂. alloc1 ! (λ l₃. alloc1 ! (λ l₄. alloc1 ! (λ l₅. alloc1 ! (λ l₆. alloc1 ! (λ l₇. alloc1 ! (λ l₈. alloc0 ! $ params1 ! $
         -- [_8 0; _7 2; _6 4; _5 6; _4 8; _3 10; _2 12; _1 14; _0 16; the token 18; what the parameters own 19]
-        pass1 ! (init ! 14 refl (shr-slice-lawful 𝓤 H A W (named 0) κ u8 .typed deck (d ∷ []) gd .0)) $ pass1 ! (init ! 12 refl (ptyped 𝓤 H A W ys _ is)) $ pass1 ! (init ! 10 refl (tt, record { fits = gn })) $ pass0 ! $
-        assigns ! (of-opd ! (load ! (from ! (stop !)) (look ! 12 refl))) (from ! (stop !)) (init ! 8 refl (ptyped 𝓤 H A W ys _ is)) $
+        pass1 ! (init ! 14 refl (shr-slice-lawful 𝓤 H A W (named 0) κ u8 .typed deck (d ∷ []) gd .0)) $ pass1 ! (init ! 12 refl (E.ptyped count 𝓤 H A W ys _ is)) $ pass1 ! (init ! 10 refl (tt, record { fits = gn })) $ pass0 ! $
+        assigns ! (of-opd ! (load ! (from ! (stop !)) (look ! 12 refl))) (from ! (stop !)) (init ! 8 refl (E.ptyped count 𝓤 H A W ys _ is)) $
         assigns ! (addr ! (from ! (stop !))) (from ! (stop !)) (init ! 4 refl (tt, tt)) $
         assigns ! (agg ! (and-then ! (load ! (from ! (stop !)) (look ! 4 refl)) (and-then ! (load ! (from ! (stop !)) (look ! 10 refl)) (no-more !)))) (from ! (stop !)) (init ! 2 refl (tt, (tt, (record { fits = gn }, tt)))) $
         rewrite ! 2 (λ (m : ℕ). ‵ (fat fullShare (slice erased) l₇ 0 (sliceVal (l₄, 0) m))) (sym fore-long) refl $
         move ! (18 ∷ 19 ∷ []) $ move ! (1 ∷ []) $ fsplit ! $
         -- [the deck; the others; the token; _8 3; _7 5; _6 7; _5 9; _4 11; _3 13; _2 15; _1 17; _0 19]
-        move ! (11 ∷ []) $ use1 W (‵ (row R fullShare ys l₄ 0)) (apart 𝓤 H A W ys l₄ is) $ use1 W (‵ (cells (mem R) ys l₄ 0)) (whole-in 𝓤 H A W R ys l₄ 0) $
+        move ! (11 ∷ []) $ use1 W (‵ (row R fullShare ys l₄ 0)) (E.apart count 𝓤 H A W ys l₄ is) $ use1 W (‵ (cells (mem R) ys l₄ 0)) (whole-in 𝓤 H A W R ys l₄ 0) $
         -- the array is cut
         rewrite ! 0 (λ (zs : List Entry). ‵ (cells (mem R) zs l₄ 0)) (sym (take-append-drop n ys)) refl $
         use1 W (‵ (cells (mem R) fore l₄ 0) ⊛ ‵ (cells (mem R) rest l₄ (at 0 (mem R .size) k))) (cut-app 𝓤 H A (mem R) fore rest l₄ 0) $ split ! $
@@ -191,10 +199,10 @@ module _ {M : Type 1} (𝓤 : URA M) (H : Heap 𝓤) (A : Atoms 𝓤) (W : Given
         rewrite ! 6 (λ (m : ℕ). ‵ (cells (mem R) rest l₄ (at 0 (mem R .size) m))) (sym len) refl $
         move ! (0 ∷ 6 ∷ []) $ use2 W (‵ (cells (mem R) (ws .1 .0 ++ rest) l₄ 0)) (join-app 𝓤 H A (mem R) (ws .1 .0) rest l₄ 0) $
         use1 W (‵ (row R fullShare (ws .1 .0 ++ rest) l₄ 0)) (whole-out 𝓤 H A W R (ws .1 .0 ++ rest) l₄ 0) $
-        use1 W (given (Is (Rows) (ws .1 .0 ++ rest) (pval (ws .1 .0 ++ rest) ∷ [])) (‵ (fat fullShare rows l₄ 0 (pval (ws .1 .0 ++ rest))))) (together 𝓤 H A W (ws .1 .0 ++ rest) l₄ (same-len n ys (ws .1 .0) len ∙ long)) $ learn ! (λ is-arr.
+        use1 W (given (Is (Rows) (ws .1 .0 ++ rest) (pval (ws .1 .0 ++ rest) ∷ [])) (‵ (fat fullShare (E.rows count) l₄ 0 (pval (ws .1 .0 ++ rest))))) (E.together count 𝓤 H A W (ws .1 .0 ++ rest) l₄ (same-len n ys (ws .1 .0) len ∙ long)) $ learn ! (λ is-arr.
         -- [_4; true; the deck's token; the result; true; true; the others; _8 7; _7 9; _6 11; _5 13; dies 4 15; _3 16; _2 18; _1 20; _0 22]
         let is-ans : Is N.the-row r (LL.vals N.the-type N′.the-laws r) = subst (Is N.the-row r) (LL.tells N.the-type N′.the-laws r (v ∷ []) is₀) is₀ in
-        assigns ! (of-opd ! (load ! (from ! (stop !)) (look ! 0 refl))) (from ! (stop !)) (init ! 7 refl (ptyped 𝓤 H A W (ws .1 .0 ++ rest) _ is-arr)) $
+        assigns ! (of-opd ! (load ! (from ! (stop !)) (look ! 0 refl))) (from ! (stop !)) (init ! 7 refl (E.ptyped count 𝓤 H A W (ws .1 .0 ++ rest) _ is-arr)) $
         assigns ! (agg ! (and-then ! (load ! (from ! (stop !)) (look ! 13 refl)) (and-then ! (load ! (from ! (stop !)) (look ! 7 refl)) (no-more !)))) (from ! (stop !)) (init ! 22 refl (LL.lawful F.the-type F′.the-laws 𝓤 H A W .typed (f r (ws .1 .0) is-ans is-arr) _ (is-f r (ws .1 .0) is-ans is-arr) .0)) $
         returns ! (look ! 22 refl) $ forget ! 0 refl $ forget ! 7 refl $ forget ! 9 refl $ forget ! 11 refl $ forget ! 13 refl $ forget ! 16 refl $ forget ! 18 refl $ forget ! 20 refl $ forget ! 22 refl $
         keep ! (22 ∷ 23 ∷ 20 ∷ 21 ∷ 18 ∷ 19 ∷ 16 ∷ 17 ∷ 0 ∷ 15 ∷ 13 ∷ 14 ∷ 11 ∷ 12 ∷ 9 ∷ 10 ∷ 7 ∷ 8 ∷ 2 ∷ []) $
@@ -203,7 +211,7 @@ module _ {M : Type 1} (𝓤 : URA M) (H : Heap 𝓤) (A : Atoms 𝓤) (W : Given
 module _ {M : Type 1} (𝓤 : URA M) (H : Heap 𝓤) (A : Atoms 𝓤) (W : Given 𝓤 H A) (at-mem : Memory → SProp 𝓤) (run : Routine → Fun 𝓤) where
   lend-walks : (C : Calls 𝓤 H) (Λ : Loops 𝓤 H) → FmC 𝓤 H (W .laws) C → Triple 𝓤 (C #bhexodana·bhx-plan-into) (Into 𝓤 H A at-mem run) → Walks 𝓤 H A lend.ended stayed (WpFn 𝓤 H C Λ code.function) (lend.clauses 𝓤 H A at-mem run)
   lend-walks C Λ fm known = walked 𝓤 H A lend.ended stayed (lend.clauses 𝓤 H A at-mem run) (WpFn 𝓤 H C Λ code.function)
-      (λ κs. (slice-vals, (pvals, (uint-vals w64, tt)))) (λ κs. (shr-slice-tells (named 0) (κs .0) u8, (ptells, (uint-tells w64, tt))))
+      (λ κs. (slice-vals, (pvals, (uint-vals w64, tt)))) (λ κs. (shr-slice-tells (named 0) (κs .0) u8, (E.ptells count, (uint-tells w64, tt))))
       (λ κs qs bounds a g are. needs 𝓤 (a .1 .1 .0 ≤ count) _ (λ pre. walk 𝓤 H A W at-mem run (κs .0) (qs .0) (a .0) (a .1 .0) (a .1 .1 .0) (are .0) (are .1 .0) (are .1 .1 .0 .1) pre C Λ fm known))
 
   goes : AllGo 𝓤 H A W 1 (lend.signature .params) (lend.ended .kept) stayed
