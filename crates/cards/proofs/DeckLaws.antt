@@ -15,7 +15,7 @@ use Rattle.rules.specs.Order.{Operands, operandsOf}
 use Rattle.rules.specs.Grammar.{Item, item, fsOperand}
 use Rattle.rules.specs.Words.{Worded, worded, partsOf, fsWords, valuesOf}
 use Rattle.rules.specs.Asked.{itemsFrom}
-use Rattle.rules.proofs.Lists.{slice-from}
+use Rattle.rules.proofs.Lists.{slice-from, slice-part}
 use Rattle.rules.proofs.AllLaws.{all-head}
 use Rattle.rules.proofs.AnswerLaws.{bind-fine}
 use Rattle.rules.proofs.OrderOutcome.{order-fine}
@@ -34,6 +34,12 @@ use Rattle.cards.specs.Deck.{cardsIn, fsFirst, OperandAt, Operandless, F
 slice-within : (a e f t : ℕ) (l : List ℕ) → a + t ≤ e → slice f t (slice a e l) ≡ slice (a + f) (a + t) l
 slice-within a e f t l h =
     ap (drop f) (sym (slice-from a t (take e l)) ∙ ap (drop a) (take-take (a + t) e l h)) ∙ drop-drop f a (take (a + t) l)
+
+-- what is said of the list that a card's operand is lent as, `&deck[from..to]`
+pub lent-list : (card : ℕ) (t : Taken) (deck : List ℕ) (from to : ℕ) → from ≤ to → (r : ListRead) (row : List ℕ)
+    → ListSays card 7 7 t (take (to - from) (drop from deck)) (listOf "/" (worded item) (take (to - from) (drop from deck))) r row
+    → ListSays card 7 7 t (slice from to deck) (listOf "/" (worded item) (slice from to deck)) r row
+lent-list card t deck from to h r row = subst (λ (o : List ℕ). ListSays card 7 7 t o (listOf "/" (worded item) o) r row) (sym (slice-part from to deck h))
 
 -- ---- the card at a place
 

@@ -26,7 +26,7 @@ use Rattle.lines.specs.Meaning.{IsCard}
 use Rattle.cards.specs.declared.ListRead.{ListRead}
 use Rattle.cards.specs.declared.CardAt.{CardAt}
 use Rattle.cards.specs.declared.DeckRead.{DeckRead}
-use Rattle.cards.specs.Selected.{Taken, ListSays}
+use Rattle.cards.specs.Selected.{Taken, ListSays, withWords}
 use Rattle.cards.specs.Deck.{cardsIn, fsFirst, OperandAt, Operandless, CardAtSays, FsFine}
 use Rattle.cards.specs.Promise.{Accepts, DeckSays, InOrder, cardOfField}
 use Rattle.cards.proofs.CardAt as card-type
@@ -67,34 +67,31 @@ reading card o os cs e =
     let g = grammatical-fine card beforeFS o (fsOperand o) (w .0) (w .1) in
     record { items = w .0; others = x .0; are = sym (fine-same (w .0 ∷ x .0) cs (x .2)); left = g .0; reads = g .1; next = x .1 }
 
--- its fields are counted
-counts : (card : ℕ) (t : Taken) (o : List ℕ) (is : List Item) (left : List ℕ) → fsOperand o ≡ read is left → t .0 .count ≤ 64 → (r : ListRead) (row : List ℕ)
-    → ListSays card (suc beforeFS) (suc beforeFS) t o (listOf "/" (worded item) o) r row → r .noted .count ≡ min 64 (t .0 .count + manyFields is)
+-- what is noted of it is that of its words
+noted-words : (card : ℕ) (t : Taken) (o : List ℕ) (is : List Item) (left : List ℕ) → fsOperand o ≡ read is left → (r : ListRead) (row : List ℕ)
+    → ListSays card (suc beforeFS) (suc beforeFS) t o (listOf "/" (worded item) o) r row → (ws : List (Worded Item)) × (r .noted ≡ withWords card (suc beforeFS) ws t .0) × (valuesOf ws ≡ is)
 unfolding fsOperand
-counts card t o is left e l r row says = go (listOf "/" (worded item) o) refl says
+noted-words card t o is left e r row says = go (listOf "/" (worded item) o) refl says
   where
-    go : (x : Read (List (Worded Item))) → listOf "/" (worded item) o ≡ x → ListSays card (suc beforeFS) (suc beforeFS) t o x r row → r .noted .count ≡ min 64 (t .0 .count + manyFields is)
-    go (read ws more) q (u, m, w) =
-        let p : read (valuesOf ws) more ≡ read is left = sym (sym (list-plain "/" item o) ∙ ap plainRead q) ∙ e in
-        let v : valuesOf ws ≡ is = cc in
-        ap (λ n. n .count) m ∙ words-many card (suc beforeFS) ws t l ∙ ap (λ (c : List Item). min 64 (t .0 .count + manyFields c)) v
+    go : (x : Read (List (Worded Item))) → listOf "/" (worded item) o ≡ x → ListSays card (suc beforeFS) (suc beforeFS) t o x r row
+        → (ws : List (Worded Item)) × (r .noted ≡ withWords card (suc beforeFS) ws t .0) × (valuesOf ws ≡ is)
+    go (read ws more) q (u, m, w) = let p : read (valuesOf ws) more ≡ read is left = sym (sym (list-plain "/" item o) ∙ ap plainRead q) ∙ e in (ws, m, cc)
     go (stopped more) q s =
         let p : stopped more ≡ read is left = sym (sym (list-plain "/" item o) ∙ ap plainRead q) ∙ e in
         let z : _≡_ {A = ℕ} 0 1 = cc in
         absurd (omega arith)
 
+-- its fields are counted
+counts : (card : ℕ) (t : Taken) (o : List ℕ) (is : List Item) (left : List ℕ) → fsOperand o ≡ read is left → t .0 .count ≤ 64 → (r : ListRead) (row : List ℕ)
+    → ListSays card (suc beforeFS) (suc beforeFS) t o (listOf "/" (worded item) o) r row → r .noted .count ≡ min 64 (t .0 .count + manyFields is)
+counts card t o is left e l r row says =
+    let w = noted-words card t o is left e r row says in
+    ap (λ n. n .count) (w .1) ∙ words-many card (suc beforeFS) (w .0) t l ∙ ap (λ (c : List Item). min 64 (t .0 .count + manyFields c)) (w .2)
+
 -- and the key stays
 holds-key : (card : ℕ) (t : Taken) (o : List ℕ) (is : List Item) (left : List ℕ) → fsOperand o ≡ read is left → (r : ListRead) (row : List ℕ)
     → ListSays card (suc beforeFS) (suc beforeFS) t o (listOf "/" (worded item) o) r row → r .noted .key ≡ t .0 .key
-unfolding fsOperand
-holds-key card t o is left e r row says = go (listOf "/" (worded item) o) refl says
-  where
-    go : (x : Read (List (Worded Item))) → listOf "/" (worded item) o ≡ x → ListSays card (suc beforeFS) (suc beforeFS) t o x r row → r .noted .key ≡ t .0 .key
-    go (read ws more) q (u, m, w) = ap (λ n. n .key) m ∙ words-key card (suc beforeFS) ws t
-    go (stopped more) q s =
-        let p : stopped more ≡ read is left = sym (sym (list-plain "/" item o) ∙ ap plainRead q) ∙ e in
-        let z : _≡_ {A = ℕ} 0 1 = cc in
-        absurd (omega arith)
+holds-key card t o is left e r row says = let w = noted-words card t o is left e r row says in ap (λ n. n .key) (w .1) ∙ words-key card (suc beforeFS) (w .0) t
 
 -- ---- card by card
 

@@ -134,6 +134,9 @@ module _ (s : List ℕ) (part : Part) (f : Field) (p : Places) (n : ℕ) (e : It
       cells : p ≡ placesIn (numberColumns false 0 (take n s))
       cells = e .2
 
+      four : All (λ k. k < length (take n s)) (fieldPlaces Pack p) → length (take n s) ≡ n → (p .r < n) × (p .input < n) × (p .output < n) × (p .t < n)
+      four (also a (also b (also c (also d e)))) l = (omega arith, omega arith, omega arith, omega arith)
+
       go : (k : Kind) → f .kind ≡ k → All (λ k. k < length (take n s)) (fieldPlaces (f .kind) p) → length (take n s) ≡ n → (p .r < n) × (p .input < n) × (p .output < n) × (p .t < n)
       go Copy q a l =
           let same : p ≡ placesIn (fieldPlaces Copy p) = cells ∙ ap placesIn (item-places s part f p n e ∙ ap (λ (k : Kind). fieldPlaces k p) q) in
@@ -143,13 +146,7 @@ module _ (s : List ℕ) (part : Part) (f : Field) (p : Places) (n : ℕ) (e : It
           three : All (λ k. k < length (take n s)) (fieldPlaces Copy p) → p .output ≡ p .input → length (take n s) ≡ n → (p .r < n) × (p .input < n) × (p .output < n) × (p .t < n)
           three (also a (also b (also c d))) o l = (omega arith, omega arith, omega arith, omega arith)
       go Pack q a l = four (subst (λ (k : Kind). All (λ k. k < length (take n s)) (fieldPlaces k p)) q a) l
-        where
-          four : All (λ k. k < length (take n s)) (fieldPlaces Pack p) → length (take n s) ≡ n → (p .r < n) × (p .input < n) × (p .output < n) × (p .t < n)
-          four (also a (also b (also c (also d e)))) l = (omega arith, omega arith, omega arith, omega arith)
       go Unpack q a l = four (subst (λ (k : Kind). All (λ k. k < length (take n s)) (fieldPlaces k p)) q a) l
-        where
-          four : All (λ k. k < length (take n s)) (fieldPlaces Unpack p) → length (take n s) ≡ n → (p .r < n) × (p .input < n) × (p .output < n) × (p .t < n)
-          four (also a (also b (also c (also d e)))) l = (omega arith, omega arith, omega arith, omega arith)
 
   -- as many as have limits
   many : (column : ℕ) → length (numberColumns false column (take n s)) ≡ length (itemNumbers (field (cardField part f)))

@@ -97,23 +97,23 @@ module _ (cs : List (List Item)) (c : List Item) where
     one-more : manyFields (c ++ (field f ∷ [])) ≡ manyFields c + 1
     one-more = ap length (fields-append c (field f ∷ [])) ∙ length-append (fieldsOf c) (f ∷ [])
 
-    -- what the field's numbers do not touch
-    record Counted (x : Noted) : Type 0 where
-      keyed : x .keyed ≡ n .keyed
+    -- what the field's numbers do not touch, and the card k of the first field that is taken from the key
+    record Counted (x : Noted) (k : ℕ) : Type 0 where
+      keyed : x .keyed ≡ k
       count : x .count ≡ min 64 (length (allFields (with-more (field f))))
       over : noted 6 (x .«sixty_fifth») ≡ upTo 6 64 manyFields 0 2 (with-more (field f))
       cv : x .cv ≡ n .cv
       twice : x .«second_cv» ≡ n .«second_cv»
       beyond : x .beyond ≡ n .beyond
 
-    tells-counted : Counted (counted n card)
+    tells-counted : Counted (counted n card) (n .keyed)
     unfolding counted
     tells-counted = go (ltb (n .count) 64) refl
       where
         total-more : total manyFields (with-more (field f)) ≡ length (allFields with-last) + 1
         total-more = total-fields (with-more (field f)) ∙ many
 
-        go : (t : Bool) → ltb (n .count) 64 ≡ t → Counted (counted n card)
+        go : (t : Bool) → ltb (n .count) 64 ≡ t → Counted (counted n card) (n .keyed)
         go true e =
             let l : n .count < 64 = ltb-true (n .count) 64 e in
             rw e (record {
@@ -139,15 +139,10 @@ module _ (cs : List (List Item)) (c : List Item) where
     keys-more : keysOn (c ++ (field f ∷ [])) ≡ keysOn c + keyFields (f ∷ [])
     keys-more = ap keyFields (fields-append c (field f ∷ [])) ∙ keys-append (fieldsOf c) (f ∷ [])
 
-    record Named (x : Noted) : Type 0 where
-      count : x .count ≡ min 64 (length (allFields (with-more (field f))))
-      over : noted 6 (x .«sixty_fifth») ≡ upTo 6 64 manyFields 0 2 (with-more (field f))
-      cv : x .cv ≡ n .cv
-      keyed : x .keyed ≡ keyCard 2 (with-more (field f))
-      twice : x .«second_cv» ≡ n .«second_cv»
-      beyond : x .beyond ≡ n .beyond
+    abbrev Named : Noted → Type 0
+    Named x = Counted x (keyCard 2 (with-more (field f)))
 
-    tells-named : (x : Noted) → Counted x → Named (keyNoted x card (f .part))
+    tells-named : (x : Noted) → Counted x (n .keyed) → Named (keyNoted x card (f .part))
     tells-named x p = go (f .part) refl
       where
         go : (q : Part) → f .part ≡ q → Named (keyNoted x card q)

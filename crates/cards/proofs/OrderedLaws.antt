@@ -2,14 +2,14 @@
 -- refusals 4 to 7 leave. The cards of an accepted deck are in order, and what it asks for was read of them.
 use mathlib.Core.Path.{_≡_, refl, ap, sym, _∙_, subst}
 use mathlib.Core.Logic.{_⊎_, ⊎-elim}
-use mathlib.Core.List.{List, [], _∷_, _++_, map}
+use mathlib.Core.List.{List, [], _∷_, _++_, map, map-map, map-id}
 use mathlib.Core.Option.{some}
 use Prim.Native.Nat.{ℕ, suc, _+_, _-_, _≤_}
 use native.Mathlib.Omega.{arith}
 use denote.Enum.Declared.{tagOf}
 use lib.ListN.{length, drop}
 use lib.Seq.{slice}
-use Rattle.rules.specs.Places.{All, noMore, also, Found, Both, none-left, both}
+use Rattle.rules.specs.Places.{All, noMore, also, Found, Both}
 use Rattle.rules.specs.Answer.{Refusal, Answer, fine, refuse, refused, refusedAt, _>>=_}
 use Rattle.rules.specs.Reader.{Read, read, stopped, listOf}
 use Rattle.rules.specs.Deck.{Card, uCard, fsCard, endCard}
@@ -21,7 +21,8 @@ use Rattle.rules.specs.Asked.{grammatical, itemsFrom, Cards, cardsOf, Asked as 
 use Rattle.rules.proofs.AnswerLaws.{not-fine, fine-same, refuse-same, bind-fine, fine-bind, then-fine}
 use Rattle.rules.proofs.Given.{Outcome, found-low}
 use Rattle.rules.proofs.GrammarLaws.{u-exactly, u-left, fs-exactly, fs-left}
-use Rattle.rules.proofs.CardsOutcome.{both-map, Stops, items-outcome, items-fine, read-text}
+use Rattle.rules.proofs.CardsOutcome.{Stops, items-outcome, items-fine, read-text}
+use Rattle.rules.proofs.AllLaws.{both-map, both-first, both-length, both-maps, all-map}
 use Rattle.rules.proofs.ColumnSteps.{grammatical-at}
 use Rattle.rules.proofs.WordedLaws.{fs-worded}
 use Rattle.rules.proofs.WordColumns.{plainRead, list-plain}
@@ -50,16 +51,12 @@ items-refused os x e =
     let o = subst (Outcome 3 (λ p. Found (λ o. Stops (fsOperand o)) p 2 os)) e (items-outcome 2 os) in
     (o .0, found-low (o .1))
 
-both-length : {A B : Type 0} {P : A → B → Type 0} {xs : List A} {ys : List B} → Both P xs ys → length xs ≡ length ys
-both-length none-left = refl
-both-length (both p b) = ap suc (both-length b)
-
 -- the parts of FS cards that could be read: their numbers, and the items that they are
 values-of : (os : List (List ℕ)) (cs : List (List Item)) → Both FsText os cs → All (All Fair) (map fsWords os) × (map valuesOf (map fsWords os) ≡ cs)
-values-of [] [] none-left = (noMore, refl)
-values-of (o ∷ os) (c ∷ cs) (both t b) =
-    let w = values-of os cs b in
-    (also (words-fair o c t) (w .0), (λ i. fs-worded o c t .1 i ∷ w .1 i))
+values-of os cs b = (
+  all-map fsWords (both-first words-fair b),
+  map-map valuesOf fsWords os ∙ both-maps (λ o. valuesOf (fsWords o)) (λ c. c) (λ o c t. fs-worded o c t .1) b ∙ map-id cs,
+)
 
 -- ---- the deck
 

@@ -2,8 +2,8 @@
 -- its column, is what was noted. Where nothing is refused, what was noted is what the cards ask for.
 use mathlib.Core.Path.{_≡_, refl, ap, sym, _∙_, subst}
 use mathlib.Core.Bool.{Bool, true, false, cond, true≢false}
-use mathlib.Core.List.{List, [], _∷_, map}
-use Prim.Native.Nat.{ℕ, zero, suc, _+_, _≤_}
+use mathlib.Core.List.{List, [], map}
+use Prim.Native.Nat.{ℕ, zero, suc, _≤_}
 use native.Mathlib.Omega.{arith}
 use lib.Dec.{eqb}
 use lib.ListN.{length}
@@ -14,7 +14,7 @@ use Rattle.rules.specs.Answer.{Answer, fine, refused, refusedAt, located, _>>=_
 use Rattle.rules.specs.Order.{Operands}
 use Rattle.rules.specs.Grammar.{Format, ff, fv, fu, fsp, plain, Parameter, Item}
 use Rattle.rules.specs.Texts.{ParameterText, UText, FsText}
-use Rattle.rules.specs.Words.{Worded, uWords, fsWords, valuesOf, againColumn, numberColumns, Limit, outsideColumn, firstOf, outsideAmong}
+use Rattle.rules.specs.Words.{Worded, uWords, fsWords, valuesOf, againColumn, numberColumns, Limit, outsideColumn, outsideAmong}
 use Rattle.rules.specs.Asked.{Cards, letter, distinct, sameLetter, cvs, upTo, cvColumn, once, given, Utility, complete, fieldLimits, utilityLimits, parameterNumbers, fieldColumn, limits, Asked as RuleAsked}
 use Rattle.rules.specs.Plan.{joinedSize, keyLength}
 use Rattle.rules.specs.Keys.{throughUtility}
@@ -107,9 +107,7 @@ once-order zero zero column later v a h = h refl
 
 -- numbers with the same limits
 outside-same : {A : Type 0} (f g : A → List Limit) → ((a : A) → f a ≡ g a) → (c : ℕ) (ws : List (Worded A)) → outsideAmong f c ws ≡ outsideAmong g c ws
-outside-same f g h c [] = refl
-outside-same f g h c (w ∷ ws) =
-    λ i. firstOf (outsideColumn (numberColumns false c (w .text)) (h (w .value) i)) (outside-same f g h (c + suc (length (w .text))) ws i)
+outside-same f g h c ws = λ i. outsideAmong (λ a. h a i) c ws
 
 module _ (os : Operands) (p : Parameters) (o : Outside) (ws : List (Worded Parameter)) (t : UText (os .u) (valuesOf ws)) (same : uWords (os .u) ≡ ws)
     (n : Notes (suc (os .before)) p ws) (nums : NotesOutside (suc (os .before)) o ws) (s : Taken) (is : s ≡ withCards 2 (map fsWords (os .fs)) (noSelection (keyOf (p .input))))

@@ -17,8 +17,8 @@ use Rattle.rules.specs.Halves.{Field as RuleField}
 use Rattle.rules.specs.Asked.{Utility, Asked as RuleAsked, fieldsOf, cvs}
 use Rattle.rules.specs.Keys.{throughUtility}
 use Rattle.rules.specs.Plan.{isTC, isTF, isTR, isFF, isFV, isFU, isFS, selects, numbers, wanted, recordLength, blockLength, whole, equal, roomy, combinations, sound, joinedSize, keyLength, through, isKeyed, keyFits, keyFields, cardFits, inside, insidePart, inputHalves, barrenHalf, combined, assembled, Plan}
-use Rattle.rules.proofs.AllLaws.{all-at, all-imply}
-use Rattle.rules.proofs.BlockSizes.{all-map, size-least, record-most}
+use Rattle.rules.proofs.AllLaws.{all-at, all-imply, all-map}
+use Rattle.rules.proofs.BlockSizes.{size-least, record-most}
 use Rattle.rules.proofs.KeyLaws.{joined-within, Named}
 use Rattle.rules.proofs.AcceptedLaws.{key-fits}
 use Rattle.rules.proofs.AnswerLaws.{fine-then, then-fine, fine-unless, each-fine, then-assoc}

@@ -14,8 +14,7 @@ use Rattle.rules.specs.Halves.{over, Field}
 use Rattle.rules.specs.Plan.{selects}
 use Rattle.rules.specs.EvenRecords.{Even}
 use Rattle.rules.proofs.Lists.{map-same, map-own}
-use Rattle.rules.proofs.AllLaws.{all-imply}
-use Rattle.rules.proofs.BlockSizes.{all-map}
+use Rattle.rules.proofs.AllLaws.{all-imply, all-map}
 use Rattle.rules.proofs.BlockLaws.{length-joined}
 use Rattle.rules.proofs.LentParts.{rest-over}
 use Rattle.rules.proofs.EvenLaws.{Next, even-size, even-count, even-next, even-end}

@@ -5,11 +5,10 @@ use mathlib.Core.Bool.{false}
 use mathlib.Core.List.{List}
 use Prim.Native.Nat.{ℕ, _≤_, _<_}
 use native.Mathlib.Omega.{arith}
-use lib.ListN.{length, take, drop}
+use lib.ListN.{take, drop}
 use Rattle.rules.specs.Reader.{Reader, number}
 use Rattle.rules.specs.Halves.{Kind as RuleKind, inputSize, outputSize}
 use Rattle.rules.specs.Grammar.{Size as RuleSize, two, one, Input as RuleInput, plain, keyed, Parameter as RuleParameter, modeIs, formatIs, inputIs, outputIs, rewindIn, rewindOut, firstIs, Item, field, cv, Start, parameter, item}
-use Rattle.rules.specs.Places.{All}
 use Rattle.rules.specs.Words.{numberColumns}
 use Rattle.rules.specs.Texts.{SizeText, InputText, ParameterText, KindText, StartText, ItemText}
 use Rattle.rules.proofs.ReaderLaws.{Within, within-read, within-number}
@@ -26,9 +25,9 @@ use Rattle.readers.specs.declared.UParameter.{UParameter}
 use Rattle.readers.specs.declared.ParameterRead.the-variants.{IsParameter}
 use Rattle.readers.specs.declared.Places.{Places}
 use Rattle.readers.specs.declared.ItemRead.the-variants.{IsField, IsCV}
+pub use Rattle.readers.proofs.NumberPlaces.{places-inside}
 use Rattle.terms.proofs.FieldLaws.{input-of, output-of}
 use Rattle.readers.proofs.OnlyOne.{taken-once}
-use Rattle.readers.proofs.NumberPlaces.{all-inside}
 use Rattle.readers.proofs.TextPlaces.{parameter-numbers, item-numbers}
 
 -- ---- a byte or more
@@ -141,7 +140,3 @@ parameter-places s u second n r = parameter-numbers s n u second (r .0) (r .1)
 
 pub item-places : (s : List ℕ) (part : Part) (f : Field) (p : Places) (n : ℕ) → ItemSays s (IsField part f p n) → numberColumns false 0 (take n s) ≡ fieldPlaces (f .kind) p
 item-places s part f p n r = item-numbers s part f p n (r .0) (r .2)
-
--- every place of a number lies inside the text
-pub places-inside : (x : List ℕ) → All (λ p. p < length x) (numberColumns false 0 x)
-places-inside = all-inside

@@ -160,5 +160,6 @@ places-below t k (b ∷ x) = go (isDigit b && not t) (subst (λ (n : ℕ). All (
     go true a = also {x = k} (omega arith) a
     go false a = a
 
-pub all-inside : (x : List ℕ) → All (λ p. p < length x) (numberColumns false 0 x)
-all-inside x = subst (λ (n : ℕ). All (λ p. p < n) (numberColumns false 0 x)) (let z : 0 + length x ≡ length x = omega arith in z) (places-below false 0 x)
+-- every place of a number lies inside the text
+pub places-inside : (x : List ℕ) → All (λ p. p < length x) (numberColumns false 0 x)
+places-inside x = subst (λ (n : ℕ). All (λ p. p < n) (numberColumns false 0 x)) (let z : 0 + length x ≡ length x = omega arith in z) (places-below false 0 x)

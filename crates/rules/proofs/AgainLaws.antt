@@ -1,8 +1,8 @@
 -- Refusal 4's column: the first part that stands again is found, and there is one where two are alike. By going along the parts with those seen.
-use mathlib.Core.Path.{_≡_, refl, ap, ap₂, sym, _∙_, subst}
+use mathlib.Core.Path.{_≡_, refl, ap, sym, _∙_, subst}
 use mathlib.Core.Logic.{_⊎_, inl, inr, _↔_}
 use mathlib.Core.Bool.{Bool, true, false, cond, true≢false, false≢true}
-use mathlib.Core.List.{List, [], _∷_, _++_, map}
+use mathlib.Core.List.{List, [], _∷_, _++_, map, map-id}
 use Prim.Native.Nat.{ℕ, zero, suc, _+_, _≤_, _<_}
 use native.Mathlib.Omega.{arith}
 use lib.Dec.{leb}
@@ -17,6 +17,7 @@ use Rattle.rules.specs.Asked.{letter, sameLetter, cvs, sameCV, cvColumn,
 use Rattle.rules.specs.Texts.{FsText}
 use Rattle.rules.specs.Rows.{Alike, Twice, again, after}
 use Rattle.rules.specs.ColumnRows.{FsParts, Again, this-one, later-one, BothCV, both-CV, CVOn, this-card, later-card, Lowest}
+use Rattle.rules.proofs.AllLaws.{both-made, both-first, both-maps}
 use Rattle.rules.proofs.AnswerLaws.{refuse-same}
 use Rattle.rules.proofs.WordedLaws.{fs-parts, fs-worded}
 use Rattle.rules.proofs.AcceptedLaws.{cvs-append}
@@ -133,12 +134,10 @@ cv-on-low (later-card h) = omega (arith, cv-on-low h)
 
 -- the words of the cards
 pub words-of : {fs : List (List ℕ)} {cards : List (List Item)} → Both FsText fs cards → Both FsParts fs (map fsWords fs)
-words-of none-left = none-left
-words-of (both {x = o} {y = is} t b) = both (fs-worded o is t .0) (words-of b)
+words-of b = both-made fsWords (both-first (λ o is t. fs-worded o is t .0) b)
 
 pub of-words : {fs : List (List ℕ)} {cards : List (List (Worded Item))} → Both FsParts fs cards → map fsWords fs ≡ cards
-of-words none-left = refl
-of-words (both {x = o} {y = ws} t b) = ap₂ _∷_ (fs-parts o ws t) (of-words b)
+of-words {cards = cards} b = both-maps fsWords (λ ws. ws) fs-parts b ∙ map-id cards
 
 -- the card that is refused has its column
 pub cv-column : (seen : List Item) (i : ℕ) (fs : List (List ℕ)) (cards : List (List Item)) → Both FsText fs cards → cvs seen ≤ 1 → (r : Refusal)

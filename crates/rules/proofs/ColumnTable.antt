@@ -30,7 +30,7 @@ use Rattle.rules.specs.ColumnRows.{At3, UParts, FsParts, Again, CVOn, At
 use Rattle.rules.proofs.AnswerLaws.{refuse-same}
 use Rattle.rules.proofs.Given.{found-low}
 use Rattle.rules.proofs.ParameterOutcome.{twice-of, complete-fine, complete-same}
-use Rattle.rules.proofs.CardsOutcome.{both-same}
+use Rattle.rules.proofs.AllLaws.{both-same}
 use Rattle.rules.proofs.GrammarLaws.{u-once, fs-once, u-right, fs-right}
 use Rattle.rules.proofs.ScanLaws.{made-refused}
 use Rattle.rules.proofs.ColumnSteps.{lowest-once}

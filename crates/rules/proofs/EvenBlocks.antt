@@ -15,10 +15,9 @@ use Rattle.rules.specs.Reel.{word, firstOffset, offsets, isReel, blocksO
 use Rattle.rules.specs.Blocks.{takenAfter}
 use Rattle.rules.specs.Output.{nonEmpty}
 use Rattle.rules.specs.EvenRecords.{endsBehind, countBehind}
-use Rattle.rules.proofs.AllLaws.{all-drop}
+use Rattle.rules.proofs.AllLaws.{all-drop, all-map}
 use Rattle.rules.proofs.WordLaws.{unwords}
 use Rattle.rules.proofs.ReelLaws.{nexts, nexts-cut, header-is}
-use Rattle.rules.proofs.BlockSizes.{all-map}
 use Rattle.rules.proofs.BlockLaws.{length-joined}
 use Rattle.rules.proofs.EvenLaws.{EvenBlock, even-size}
 

@@ -9,7 +9,7 @@ use Prim.Native.Nat.{ℕ, zero, suc, _+_, _-_, _*_, _/_, _%_, _≤_}
 use native.Mathlib.Nat.{suc-mul, zero-mul, div-add-mod', mul-div-cancel}
 use native.Mathlib.Omega.{arith}
 use lib.Dec.{eqb}
-use lib.ListN.{length, take, drop}
+use lib.ListN.{length, take, drop, length-map}
 use lib.Seq.{drop-nil, take-at, drop-at, drop-drop, drop-append-add}
 use borrow.Author.Tests.{eqb-true}
 use Rattle.rules.specs.Base.{joined}
@@ -24,13 +24,13 @@ use Rattle.rules.specs.Run.{fitting, outputs}
 use Rattle.rules.specs.RunRows.{RecordIs}
 use Rattle.rules.specs.Accepted.{Accepted}
 use Rattle.rules.specs.EvenRecords.{Even}
-use Rattle.rules.proofs.Lists.{joined-append}
-use Rattle.rules.proofs.AllLaws.{all-append, all-drop, all-head, all-tail, all-imply}
-use Rattle.rules.proofs.BlockSizes.{all-map, Reads, reads-exactly}
+use Rattle.rules.proofs.Lists.{joined-append, full-length}
+use Rattle.rules.proofs.AllLaws.{all-append, all-drop, all-head, all-tail, all-imply, both-second, both-map, all-map}
+use Rattle.rules.proofs.BlockSizes.{Reads, reads-exactly}
 use Rattle.rules.proofs.AnswerLaws.{reads-fine}
 use Rattle.rules.proofs.BlockLaws.{fixed-back, length-joined}
 use Rattle.rules.proofs.ReelLaws.{joined-blocks}
-use Rattle.rules.proofs.TakenLaws.{taken-joined}
+use Rattle.rules.proofs.TakenLaws.{taken-joined, after-each}
 use Rattle.rules.proofs.Never.{Taken, taken-drop, all-fit}
 
 -- the first of some records of n bytes, and the others
@@ -98,15 +98,11 @@ module _ (p : Plan) (t : p .format ≡ ff) where
       found : piecesIn ff n b ≡ some (w .pieces)
       found = ap (λ (f : Format). piecesIn f n b) (sym t) ∙ w .found
 
-      any : (xs : List Piece) → (xs ≡ [] → ⊥) → 1 ≤ length (map (dataOf b) xs)
-      any [] o = absurd (o refl)
-      any (x ∷ xs) o = omega arith
-
       made : (length b ≡ length b / n * n) → fixedFrom n 0 (length b / n) ≡ w .pieces → EvenBlock n b (map (dataOf b) (w .pieces))
       made c i =
           let k = fixed-back b n 0 (length b / n) c in
           subst (λ (xs : List Piece). (xs ≡ [] → ⊥) → EvenBlock n b (map (dataOf b) xs)) i
-          (λ o. record { even = record { is = k .0; each = all-map (dataOf b) (k .1) }; some = any _ o }) (w .sizes .any)
+          (λ o. record { even = record { is = k .0; each = all-map (dataOf b) (k .1) }; some = omega (arith, full-length _ o, length-map (fixedFrom n 0 (length b / n)) (dataOf b)) }) (w .sizes .any)
 
       go : (q : Bool) → eqb (length b % n) 0 ≡ q → EvenBlock n b rs × (length b ≤ blockLength (p .input))
       go false q = absurd (Option·none-ne-some (w .pieces) (rw q at found))
@@ -118,11 +114,7 @@ module _ (p : Plan) (t : p .format ≡ ff) where
 
   -- each block is its records
   pub blocks-even : (i : ℕ) (bs : List (List ℕ)) (recs : List (List (List ℕ))) → recordsFrom p i bs ≡ fine recs → Both (EvenBlock (recordLength (p .input))) bs recs
-  blocks-even i bs recs e = go (reads-fine 12 (recordsIn p) i bs recs e)
-    where
-      go : {bs : List (List ℕ)} {recs : List (List (List ℕ))} → Both (λ b rs. recordsIn p b ≡ some rs) bs recs → Both (EvenBlock (recordLength (p .input))) bs recs
-      go none-left = none-left
-      go (both {x = b} {y = rs} d h) = both (read-fixed b rs d .0) (go h)
+  blocks-even i bs recs e = both-map (λ b rs d. read-fixed b rs d .0) (reads-fine 12 (recordsIn p) i bs recs e)
 
   joined-even : {bs : List (List ℕ)} {recs : List (List (List ℕ))} → Both (EvenBlock (recordLength (p .input))) bs recs → Even (recordLength (p .input)) (joined bs) (joined recs)
   joined-even none-left = record { is = refl; each = noMore }
@@ -153,8 +145,7 @@ module _ (p : Plan) (t : p .format ≡ ff) where
       }
 
   blocks-taken : (k : ℕ) {bs : List (List ℕ)} {recs : List (List (List ℕ))} → Both (λ b rs. recordsIn p b ≡ some rs) bs recs → All (Taken p) (takenAfter k recs)
-  blocks-taken k none-left = noMore
-  blocks-taken k (both {x = b} {y = rs} e h) = also (taken-drop p k rs (taken-fixed b rs e)) (blocks-taken (k - length rs) h)
+  blocks-taken k h = after-each (taken-drop p) k (both-second taken-fixed h)
 
   -- each output fits
   pub outputs-fit : Accepted p → (i : ℕ) (bs : List (List ℕ)) (recs : List (List (List ℕ))) → recordsFrom p i bs ≡ fine recs

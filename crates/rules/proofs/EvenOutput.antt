@@ -9,7 +9,7 @@ use native.Mathlib.Omega.{arith}
 use lib.ListN.{length, length-map}
 use Rattle.rules.specs.Base.{joined}
 use Rattle.rules.specs.Answer.{fine}
-use Rattle.rules.specs.Places.{All, noMore, also, Both, none-left, both}
+use Rattle.rules.specs.Places.{All, Both}
 use Rattle.rules.specs.Grammar.{Mode, tc, tf, tr, trf, Format, ff}
 use Rattle.rules.specs.Reel.{word, blockCount, firstOffset, offsets, isReel, blocksOf, ends}
 use Rattle.rules.specs.Plan.{Plan, isTC, isTF, recordLength, blockLength}
@@ -19,8 +19,8 @@ use Rattle.rules.specs.Run.{outputs, outputBlocks}
 use Rattle.rules.specs.Accepted.{Accepted}
 use Rattle.rules.specs.EvenRecords.{stepped, endsBehind, countBehind}
 use Rattle.rules.proofs.Lists.{joined-append, map-joined}
-use Rattle.rules.proofs.AllLaws.{all-imply}
-use Rattle.rules.proofs.BlockSizes.{all-map, size-least}
+use Rattle.rules.proofs.AllLaws.{all-imply, both-second, all-map}
+use Rattle.rules.proofs.BlockSizes.{size-least}
 use Rattle.rules.proofs.BlockLaws.{length-joined}
 use Rattle.rules.proofs.WordLaws.{unwords}
 use Rattle.rules.proofs.ReelLaws.{header-is, nexts, ends-words}
@@ -94,8 +94,7 @@ module _ (p : Plan) (ok : Accepted p) (t : p .format ≡ ff) (s : List ℕ) (r :
     none-since = omega (arith, first-is, zero-mul n)
 
     outs-all : {bs : List (List ℕ)} {rs : List (List (List ℕ))} → Both (EvenBlock n) bs rs → All (All (λ x. length (outRecord p x) ≡ w)) rs
-    outs-all none-left = noMore
-    outs-all (both v h) = also (all-imply (fixed-output p ok t) (v .even .each)) (outs-all h)
+    outs-all h = both-second (λ b rs v. all-imply (fixed-output p ok t) (v .even .each)) h
 
     -- a block for each input block that ends behind that place
     pub each-count : length (outputBlocks p recs) ≡ countBehind from (offsets s)

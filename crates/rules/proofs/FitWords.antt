@@ -11,8 +11,7 @@ use Rattle.rules.specs.Grammar.{tf}
 use Rattle.rules.specs.Plan.{Plan}
 use Rattle.rules.specs.Accepted.{Accepted}
 use Rattle.rules.specs.RunRows.{Exceeds, TooLong, Overfills}
-use Rattle.rules.proofs.AllLaws.{all-head, all-left, all-right, all-append, all-drop}
-use Rattle.rules.proofs.ReelLaws.{all-joined}
+use Rattle.rules.proofs.AllLaws.{all-head, all-left, all-right, all-append, all-drop, all-joined}
 use Rattle.rules.proofs.Given.{found-with}
 use Rattle.rules.proofs.Overfull.{OutExceeds}
 use Rattle.rules.proofs.FitOutcome.{Exceeding}

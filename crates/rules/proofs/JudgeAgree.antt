@@ -172,10 +172,7 @@ module _ (q : List ℕ → List ℕ → Bool) where
 
 pub apart-same : (q q′ : List ℕ → List ℕ → Bool) → ((o t : List ℕ) → q o t ≡ q′ o t) → (i : ℕ) (outs others : List (List ℕ))
     → firstApart q i outs others ≡ firstApart q′ i outs others
-apart-same q q′ h i [] [] = refl
-apart-same q q′ h i [] (t ∷ others) = refl
-apart-same q q′ h i (o ∷ outs) [] = refl
-apart-same q q′ h i (o ∷ outs) (t ∷ others) = rw (h o t, apart-same q q′ h (suc i) outs others)
+apart-same q q′ h i outs others = λ j. firstApart (λ o t. h o t j) i outs others
 
 -- ---- by a plan: record n, from 1, stands at place n - 1
 

@@ -11,7 +11,7 @@ use lib.ListN.{drop}
 use borrow.Author.Tests.{ltb-true, ltb-false, eqb-true, eqb-false}
 use Rattle.rules.specs.Base.{joined}
 use Rattle.rules.specs.Answer.{Answer, fine, refuse, refusalOf, placeOf, columnOf, _>>=_}
-use Rattle.rules.specs.Places.{All, noMore, also, Both, Byte}
+use Rattle.rules.specs.Places.{All, Both, Byte}
 use Rattle.rules.specs.Grammar.{Mode, tc, tf, tr, trf}
 use Rattle.rules.specs.Plan.{Plan, planOf, isTC, isFS, blockLength}
 use Rattle.rules.specs.Run.{Ran, outBlocks, ranOf, housed, convert, runOf, outputBlocks}
@@ -24,9 +24,9 @@ use Rattle.rules.specs.Lent.{zoneF}
 use Rattle.rules.specs.Judge.{isFilling, planToJudge, underB, foreign, recordsRead, ourRecords, theirRecords, agrees, firstApart, judgement, judgeOf, judge, JudgeAnswer, judgeAnswer}
 use Rattle.rules.specs.JudgeWords.{Compares, Stands, AgreeAt, True, FirstApart, RowJudge, JudgeSays, Judging}
 use Rattle.rules.proofs.AnswerLaws.{not-fine, fine-same, bind-fine, fine-bind}
-use Rattle.rules.proofs.AllLaws.{all-drop}
+use Rattle.rules.proofs.AllLaws.{all-drop, all-joined, all-imply}
 use Rattle.rules.proofs.AcceptedLaws.{accepted, zone-of}
-use Rattle.rules.proofs.ReelLaws.{all-joined, all-blocks, reel-blocks}
+use Rattle.rules.proofs.ReelLaws.{all-blocks, reel-blocks}
 use Rattle.rules.proofs.PlanTable.{plan-asks, asks-once}
 use Rattle.rules.proofs.SaidLaws.{answered}
 use Rattle.rules.proofs.TwinOnce.{answered-once}
@@ -48,8 +48,7 @@ taken-whole : (p : Plan) → Accepted p → (s : List ℕ) → All Byte s → (t
 taken-whole p ok s a taken t = subst (All (Whole p)) (sym (t .from-R)) (all-drop (p .first - 1) (of (t .gives)))
   where
     bytes-only : isFS (p .format) ≡ true → {rs : List (List ℕ)} → All (All Byte) rs → All (Whole p) rs
-    bytes-only f noMore = noMore
-    bytes-only f (also b bs) = also (record { bytes = b; long = λ e. absurd (true≢false (sym e ∙ not-selects p ok f)) }) (bytes-only f bs)
+    bytes-only f bs = all-imply (λ r b. record { bytes = b; long = λ e. absurd (true≢false (sym e ∙ not-selects p ok f)) }) bs
 
     of : {rs : List (List ℕ)} → Records p s rs → All (Whole p) rs
     of (of-blocks o g) = all-joined (holds-whole p ok (subst (All (All Byte)) (reel-blocks s (g .0) (g .1)) (all-blocks s a)) (g .2))

@@ -6,7 +6,7 @@ use Prim.Native.Nat.{ℕ, zero, suc, _+_, _-_, _≤_}
 use native.Mathlib.Omega.{arith}
 use lib.ListN.{length, take, drop, length-append, take-append-drop}
 use lib.Seq.{slice, length-take-le, take-nil, take-take, drop-append-le}
-use Rattle.rules.specs.Base.{every, joined}
+use Rattle.rules.specs.Base.{every, isEmpty, joined}
 
 module _ {A : Type 0} where
   -- ---- none and some
@@ -21,6 +21,10 @@ module _ {A : Type 0} where
 
   pub length-full : (xs : List A) → 1 ≤ length xs → xs ≡ [] → ⊥
   length-full xs l e = let z : length xs ≡ 0 = ap length e in omega arith
+
+  pub not-empty : (xs : List A) → (xs ≡ [] → ⊥) → isEmpty xs ≡ false
+  not-empty [] f = absurd (f refl)
+  not-empty (x ∷ xs) f = refl
 
   -- ---- parts
 

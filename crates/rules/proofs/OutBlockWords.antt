@@ -8,7 +8,7 @@ use Prim.Native.Nat.{ℕ, suc, _+_, _-_, _≤_, _<_}
 use native.Mathlib.Omega.{arith}
 use lib.ListN.{length, drop}
 use Rattle.rules.specs.Base.{joined}
-use Rattle.rules.specs.Places.{All, noMore, also, Both, none-left, both, Byte}
+use Rattle.rules.specs.Places.{All, noMore, also, Both, Byte}
 use Rattle.rules.specs.Grammar.{Mode, tc, tf, tr, trf, Format, ff, fv, fu}
 use Rattle.rules.specs.Plan.{Plan, selects, recordLength, blockLength}
 use Rattle.rules.specs.Blocks.{takenAfter, takenFrom}
@@ -17,11 +17,10 @@ use Rattle.rules.specs.Run.{fitAlone, fitting, outputs, outputBlocks}
 use Rattle.rules.specs.InWords.{OutputOf, Packed, EachBlock, no-input, nothing-left, something-left, BlocksOut}
 use Rattle.rules.specs.RunRows.{RecordIs, Holds}
 use Rattle.rules.specs.Accepted.{Accepted}
+use Rattle.rules.proofs.BlockLaws.{bytes-records}
 use Rattle.rules.proofs.Lists.{map-joined}
-use Rattle.rules.proofs.AllLaws.{all-drop, all-imply}
-use Rattle.rules.proofs.ReelLaws.{all-joined}
+use Rattle.rules.proofs.AllLaws.{all-drop, all-imply, both-second, both-with, all-with, all-unmap, all-joined}
 use Rattle.rules.proofs.FillLaws.{fits-true, filled-all, filled-packed, packed-filled}
-use Rattle.rules.proofs.RunParts.{all-unmap, holds-bytes}
 use Rattle.rules.proofs.CopyLaws.{copy-blocks}
 use Rattle.rules.proofs.OutputWords.{Whole, outputs-told, outputs-once}
 use Rattle.rules.proofs.TakenLaws.{after-joined}
@@ -36,15 +35,10 @@ module _ (p : Plan) (ok : Accepted p) where
   long-enough fu e r w t = absurd (false≢true (sym (ap selects (ok .required .FU-with-TC e)) ∙ t))
 
   whole-records : {rs : List (List ℕ)} → All (RecordIs (p .format) p) rs → All (All Byte) rs → All (Whole p) rs
-  whole-records noMore noMore = noMore
-  whole-records (also {x = r} w ws) (also b bs) = also (record { bytes = b; long = long-enough (p .format) refl r w }) (whole-records ws bs)
-
-  whole-blocks : {bs : List (List ℕ)} {recs : List (List (List ℕ))} → Holds p bs recs → All (All (All Byte)) recs → All (All (Whole p)) recs
-  whole-blocks none-left noMore = noMore
-  whole-blocks (both v h) (also b bs) = also (whole-records (v .records) b) (whole-blocks h bs)
+  whole-records ws bs = all-imply (λ r w. record { bytes = w .1; long = long-enough (p .format) refl r (w .0) }) (all-with ws bs)
 
   pub holds-whole : {bs : List (List ℕ)} {recs : List (List (List ℕ))} → All (All Byte) bs → Holds p bs recs → All (All (Whole p)) recs
-  holds-whole a h = whole-blocks h (holds-bytes p ok a h)
+  holds-whole a h = both-second (λ b rs w. w) (both-with (λ b rs bytes v. whole-records (v .records) (bytes-records p ok b rs bytes v)) a h)
 
 module _ (p : Plan) (z : p .zone < 16) (ok : Accepted p) where
   -- ---- TF

@@ -16,7 +16,7 @@ use Rattle.rules.specs.Plan.{Plan, selects, recordLength, inputHalves, s
 use Rattle.rules.specs.Output.{outRecord}
 use Rattle.rules.specs.Accepted.{Accepted}
 use Rattle.rules.specs.InWords.{HalfTakes, SelectedOf, OutputOf}
-use Rattle.rules.proofs.AllLaws.{all-take, all-at}
+use Rattle.rules.proofs.AllLaws.{all-take, all-at, both-made, all-imply}
 use Rattle.rules.proofs.SizeLaws.{length-halves, halves-small, halves-pairs, pairs-halves, all-outHalves, length-outHalves}
 use Rattle.rules.proofs.BytePlaces.{halves-first}
 use Rattle.rules.proofs.RecordLaws.{fits-of, length-first, length-fixed, halves-outHalves}
@@ -153,8 +153,7 @@ module _ (p : Plan) (z : p .zone < 16) (ok : Accepted p) where
   -- ---- of some records
 
   pub outputs-told : {rs : List (List ℕ)} → All (Whole p) rs → Both (OutputOf p) rs (map (outRecord p) rs)
-  outputs-told noMore = none-left
-  outputs-told (also {x = r} w ws) = both (output-told r w) (outputs-told ws)
+  outputs-told ws = both-made (outRecord p) (all-imply output-told ws)
 
   pub outputs-once : {rs outs : List (List ℕ)} → All (Whole p) rs → Both (OutputOf p) rs outs → outs ≡ map (outRecord p) rs
   outputs-once noMore none-left = refl

@@ -3,14 +3,14 @@
 use mathlib.Core.Path.{_≡_, refl, ap, sym, _∙_, subst}
 use mathlib.Core.Logic.{_↔_}
 use mathlib.Core.Bool.{Bool, true, false}
-use mathlib.Core.List.{List, [], _∷_, _++_, map}
+use mathlib.Core.List.{List, _++_, map}
 use Prim.Native.Nat.{ℕ, _+_, _-_, _≤_, _<_}
 use native.Mathlib.Omega.{arith}
 use lib.ListN.{length, take, drop, length-append, length-drop, length-map}
 use lib.Seq.{take-at, drop-at}
 use borrow.Author.Tests.{leb-true}
 use Rattle.rules.specs.Answer.{Refusal, Answer, fine, refuse, refusedAt, refusalOf, placeOf, columnOf}
-use Rattle.rules.specs.Places.{All, Both, none-left, both, Byte}
+use Rattle.rules.specs.Places.{All, Both, Byte}
 use Rattle.rules.specs.Halves.{Kind, copy, pack, unpack, inputSize, outputSize}
 use Rattle.rules.specs.Base.{joined}
 use Rattle.rules.specs.Grammar.{Parameter, Part, inData, inKey, CardField, Item}
@@ -25,6 +25,7 @@ use Rattle.rules.specs.RunRows.{RunWrites, in-blocks, in-segments, RowIn
 use Rattle.rules.specs.Accepted.{Accepted}
 use Rattle.rules.specs.Lent.{zoneF, plan, planInto, Entry, kindNumber, partNumber, entryOf, cardFields, tableAfter, run, runAnswer, outputAfter}
 use Rattle.rules.specs.Said.{PlanSays, KindIs, PartIs, EntryIs, TableSays, Wrote, RunSays}
+use Rattle.rules.proofs.AllLaws.{both-made, all-of}
 use Rattle.rules.proofs.AnswerLaws.{fine-same, refuse-same, not-fine, bind-fine, then-fine, unless-fine}
 use Rattle.rules.proofs.AcceptedLaws.{accepted, zone-of}
 use Rattle.rules.proofs.AskedTable.{says-same, asked-says}
@@ -113,8 +114,7 @@ part-is inData = refl
 part-is inKey = refl
 
 entries-are : (fs : List CardField) → Both EntryIs fs (map entryOf fs)
-entries-are [] = none-left
-entries-are (f ∷ fs) = both (record { kind = kind-is (f .field .kind); part = part-is (f .part); r = refl; t = refl }) (entries-are fs)
+entries-are fs = both-made entryOf (all-of (λ f. record { kind = kind-is (f .field .kind); part = part-is (f .part); r = refl; t = refl }) fs)
 
 -- the fields on the cards of a deck that has a plan: as many as the plan has, and those that the deck says
 module _ (deck : List ℕ) (p : Plan) (e : planOf zoneF deck ≡ fine p) where

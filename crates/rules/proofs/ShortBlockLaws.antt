@@ -21,19 +21,18 @@ use Rattle.rules.specs.ShortBlocks.{FixedGood, NeverRefused, OneByOne, U
 use Rattle.rules.specs.Accepted.{Accepted}
 use Rattle.rules.specs.InWords.{BlocksOut}
 use Rattle.rules.proofs.Lists.{full-length}
-use Rattle.rules.proofs.AllLaws.{all-imply}
+use Rattle.rules.proofs.AllLaws.{all-imply, both-first, both-second, both-made, both-length, all-map, all-of}
 use Rattle.rules.proofs.AnswerLaws.{fine-unless}
 use Rattle.rules.proofs.AcceptedLaws.{accepted, zone-of}
 use Rattle.rules.proofs.ReelLaws.{all-blocks, reel-blocks, reel-is}
-use Rattle.rules.proofs.BlockSizes.{all-map}
 use Rattle.rules.proofs.BlockLaws.{fixed-back, length-joined}
 use Rattle.rules.proofs.BlocksOutcome.{holds-of, reads-give}
 use Rattle.rules.proofs.TakenLaws.{taken-first}
 use Rattle.rules.proofs.PieceLaws.{refused-block}
 use Rattle.rules.proofs.RunColumns.{refuses-fine, refuses-each, refuses-by}
 use Rattle.rules.proofs.RunParts.{gives-read, bad-block, blocked-all, Finished, finished, the-run}
-use Rattle.rules.proofs.Never.{all-of, never-of, holds-taken, fixed-outputs, fixed-block}
-use Rattle.rules.proofs.CopyLaws.{holds-length, copies}
+use Rattle.rules.proofs.Never.{never-of, holds-taken, fixed-outputs, fixed-block}
+use Rattle.rules.proofs.CopyLaws.{copies}
 use Rattle.rules.proofs.OutBlockWords.{holds-whole, blocks-told}
 use Rattle.rules.proofs.FullBlocks.{full-blocks}
 use Rattle.rules.proofs.ReadBack.{read-back, read-only}
@@ -41,8 +40,7 @@ use Rattle.rules.proofs.ReadBack.{read-back, read-only}
 module _ (p : Plan) where
   -- blocks that hold records are good
   pub holds-good : {bs : List (List ℕ)} {recs : List (List (List ℕ))} → Holds p bs recs → All (GoodBlock p) bs
-  holds-good none-left = noMore
-  holds-good (both {y = rs} v h) = also (rs, v) (holds-good h)
+  holds-good h = both-first (λ b rs v. (rs, v)) h
 
   -- and good blocks hold records
   pub good-holds : {bs : List (List ℕ)} → All (GoodBlock p) bs → (recs : List (List (List ℕ))) × Holds p bs recs
@@ -99,7 +97,7 @@ module _ (zone : ℕ) (deck : List ℕ) (p : Plan) (e : planOf zone deck ≡ fin
       (λ recs f. (refuses-each _ 13 _ _ _ (λ q z. omega arith), refuses-each _ 14 _ _ _ (λ q z. omega arith))))
 
   good-gives : (s : List ℕ) (bs : List (List ℕ)) → ReelIs s bs → All (GoodBlock p) bs → (recs : List (List (List ℕ))) × Gives p s recs × (length recs ≡ length bs)
-  good-gives s bs r a = let w = good-holds p a in (w .0, (bs, r, w .1), holds-length p (w .1))
+  good-gives s bs r a = let w = good-holds p a in (w .0, (bs, r, w .1), sym (both-length (w .1)))
 
   good-never : (s : List ℕ) (bs : List (List ℕ)) → ReelIs s bs → All (GoodBlock p) bs → NeverRefused zone deck s 12
   good-never s bs r a = let w = good-gives s bs r a in reel-never s (w .0) (w .1) 12 (omega arith)
@@ -135,18 +133,13 @@ nonEmpty-map f [] = refl
 nonEmpty-map f ([] ∷ bs) = nonEmpty-map f bs
 nonEmpty-map f ((r ∷ b) ∷ bs) = ap (map f (r ∷ b) ∷_) (nonEmpty-map f bs)
 
--- a list and what is made of each element
-made-each : {A B : Type 0} {P : A → B → Type 0} (f : A → B) {xs : List A} → All (λ x. P x (f x)) xs → Both P xs (map f xs)
-made-each f noMore = none-left
-made-each f (also h a) = both h (made-each f a)
-
 each-gives : (p : Plan) → Accepted p → p .mode ≡ tf → {bs : List (List ℕ)} {recs : List (List (List ℕ))} → Holds p bs recs → EachGives p recs (outputBlocks p recs)
 unfolding takenFrom
 each-gives p ok m {bs} {recs} h =
     record {
-      records = onto (made-each (map (outRecord p)) (all-of (λ rs. length-map rs (outRecord p)) left));
-      sizes = λ t. onto (made-each (map (outRecord p)) (all-imply (size t) (blocked-all tf p taken)));
-      all = λ f. ap (λ (n : ℕ). nonEmpty (takenFrom n recs)) f ∙ ap nonEmpty (taken-first recs) ∙ nonEmpty-same (some-each h);
+      records = onto (both-made (map (outRecord p)) (all-of (λ rs. length-map rs (outRecord p)) left));
+      sizes = λ t. onto (both-made (map (outRecord p)) (all-imply (size t) (blocked-all tf p taken)));
+      all = λ f. ap (λ (n : ℕ). nonEmpty (takenFrom n recs)) f ∙ ap nonEmpty (taken-first recs) ∙ nonEmpty-same (both-second (λ b rs v. v .some) h);
     }
   where
     left : List (List (List ℕ))
@@ -160,10 +153,6 @@ each-gives p ok m {bs} {recs} h =
 
     size : p .format ≡ ff → (rs : List (List ℕ)) → All (RecordIs (p .format) p) rs → length (blockOf (p .format) (map (outRecord p) rs)) ≡ length rs * recordLength (p .output)
     size t rs a = fixed-block p ok t (recordLength (p .output)) (fixed-outputs p ok t a) ∙ ap (λ (k : ℕ). k * recordLength (p .output)) (length-map rs (outRecord p))
-
-    some-each : {bs : List (List ℕ)} {recs : List (List (List ℕ))} → Holds p bs recs → All (λ rs. rs ≡ [] → ⊥) recs
-    some-each none-left = noMore
-    some-each (both v h) = also (v .some) (some-each h)
 
 -- ---- a finished run
 

@@ -11,11 +11,11 @@ use lib.ListN.{length, drop}
 use borrow.Author.Tests.{lt-ltb, ltb-true}
 use Rattle.rules.specs.Base.{joined, every}
 use Rattle.rules.specs.Answer.{fine, refusedAt}
-use Rattle.rules.specs.Places.{All, noMore, also, Byte, Both, none-left, both}
+use Rattle.rules.specs.Places.{All, noMore, also, Byte}
 use Rattle.rules.specs.Grammar.{tc}
 use Rattle.rules.specs.Plan.{Plan, planOf, isTC, isFS, blockLength}
 use Rattle.rules.specs.Output.{converts, permits, lengthWord}
-use Rattle.rules.specs.Spanned.{Segment, part, code, codedWord, spelled, spanOf, spannedFrom, Joined, no-segment, ending, going, SpanIs, Spans}
+use Rattle.rules.specs.Spanned.{Segment, part, code, codedWord, spelled, spanOf, spannedFrom, Joined, no-segment, ending, going, Spans}
 use Rattle.rules.specs.Taken.{Takes, of-spans}
 use Rattle.rules.specs.Reel.{isReel, blocksOf}
 use Rattle.rules.specs.Run.{Ran, spannedRun, runOf}
@@ -23,11 +23,10 @@ use Rattle.rules.specs.RunRows.{GivesSpanned}
 use Rattle.rules.specs.Accepted.{Accepted}
 use Rattle.rules.specs.ShortBlocks.{NeverRefused}
 use Rattle.rules.proofs.Tests.{and-both, and-left, and-right, within-of, within-low, within-high, all-every, every-all}
-use Rattle.rules.proofs.AllLaws.{all-imply, all-drop, all-append, all-left, all-right}
+use Rattle.rules.proofs.AllLaws.{all-imply, all-drop, all-append, all-left, all-right, both-second, both-with, all-with, all-joined}
 use Rattle.rules.proofs.AnswerLaws.{fine-unless}
 use Rattle.rules.proofs.ReelLaws.{reel-blocks, reel-is, all-blocks}
 use Rattle.rules.proofs.AcceptedLaws.{accepted}
-use Rattle.rules.proofs.BlockSizes.{all-with}
 use Rattle.rules.proofs.Never.{permits-other}
 use Rattle.rules.proofs.RunParts.{the-span}
 use Rattle.rules.proofs.RunColumns.{Refuses, refuses-unless, refuses-spans, refuses-fine, refuses-spanned}
@@ -55,14 +54,10 @@ unfolding spanOf
 span-opens ss a = a
 
 pub spans-bytes : (g : ℕ) {bs rs : List (List ℕ)} → All (All Byte) bs → Spans g bs rs → All (All Byte) rs
-spans-bytes g a w = joined-bytes (w .joins) (parts a (w .blocks))
+spans-bytes g a w = joined-bytes (w .joins) (all-joined (both-second (λ b ss p. p) (both-with (λ b ss h v. span-parts ss (subst (All Byte) (v .is) h)) a (w .blocks))))
   where
     span-parts : (ss : List Segment) → All Byte (spanOf ss) → All (λ s. All Byte (part s)) ss
     span-parts ss a = spelled-parts ss (all-right (lengthWord (length (spelled ss) + 4)) (spelled ss) (span-opens ss a))
-
-    parts : {bs : List (List ℕ)} {sss : List (List Segment)} → All (All Byte) bs → Both (SpanIs g) bs sss → All (λ s. All Byte (part s)) (joined sss)
-    parts noMore none-left = noMore
-    parts (also {x = b} h a) (both {y = ss} v k) = all-append (span-parts ss (subst (All Byte) (v .is) h)) (parts a k)
 
 -- a reel that gives records is read
 pub gives-read : (g : ℕ) → g < 65536 → (s : List ℕ) (rs : List (List ℕ)) → GivesSpanned g s rs

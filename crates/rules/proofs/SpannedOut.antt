@@ -2,11 +2,11 @@
 -- blocks that have no records by themselves.
 use mathlib.Core.Path.{_≡_, refl, ap, sym, _∙_, subst}
 use mathlib.Core.Bool.{true, false, true≢false}
-use mathlib.Core.List.{List, [], _∷_, map}
+use mathlib.Core.List.{List, [], map}
 use Prim.Native.Nat.{ℕ, _-_, _≤_}
 use native.Mathlib.Omega.{arith}
 use lib.ListN.{length, drop}
-use Rattle.rules.specs.Places.{All, also, none-left, both}
+use Rattle.rules.specs.Places.{All, none-left, both}
 use Rattle.rules.specs.Rows.{IsOne, one-number, SizeWithin}
 use Rattle.rules.specs.Grammar.{Mode, tc, tf, tr, trf, Format, fsp, Size}
 use Rattle.rules.specs.Plan.{Plan, isTC, isFS, selects, blockLength}
@@ -14,6 +14,7 @@ use Rattle.rules.specs.Spanned.{spanOf, Spans}
 use Rattle.rules.specs.Run.{spannedOut}
 use Rattle.rules.specs.RunRows.{RecordIs, Holds, SpansOut, left, filled}
 use Rattle.rules.specs.Accepted.{Accepted}
+use Rattle.rules.proofs.BlockLaws.{no-record}
 use Rattle.rules.proofs.AllLaws.{all-imply, all-drop}
 use Rattle.rules.proofs.LimitLaws.{is-FS}
 use Rattle.rules.proofs.BlockSizes.{size-most}
@@ -76,8 +77,4 @@ module _ (p : Plan) (ok : Accepted p) (t : isFS (p .format) ≡ true) where
 
   pub none-held : {bs : List (List ℕ)} {recs : List (List (List ℕ))} → Holds p bs recs → recs ≡ []
   none-held none-left = refl
-  none-held (both {y = rs} v h) = absurd (nothing rs (v .some) (subst (λ (f : Format). All (RecordIs f p) rs) (is-FS (p .format) t) (v .records)))
-    where
-      nothing : (rs : List (List ℕ)) → (rs ≡ [] → ⊥) → All (RecordIs fsp p) rs → ⊥
-      nothing [] o a = o refl
-      nothing (r ∷ rs) o (also h a) = h
+  none-held (both {y = rs} v h) = absurd (no-record p (subst (λ (f : Format). All (RecordIs f p) rs) (is-FS (p .format) t) (v .records)) (v .some))

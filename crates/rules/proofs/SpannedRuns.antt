@@ -18,11 +18,10 @@ use Rattle.rules.specs.Run.{Ran, housed, spannedOut, spannedRan, spanned
 use Rattle.rules.specs.RunRows.{ReelIs}
 use Rattle.rules.specs.Spanned.{Segment, segment, part, spelled, spanOf, spannedFrom, segmented, Joined, no-segment, ending, going, SpanIs, Spans}
 use Rattle.rules.specs.RunRows.{GivesSpanned}
-use Rattle.rules.proofs.Lists.{drop-less, length-full}
+use Rattle.rules.proofs.Lists.{drop-less, length-full, full-length}
 use Rattle.rules.proofs.Tests.{and-left, and-right}
-use Rattle.rules.proofs.AllLaws.{all-imply, all-drop, all-head}
+use Rattle.rules.proofs.AllLaws.{all-imply, all-drop, all-head, both-second, all-map, all-with, all-joined}
 use Rattle.rules.proofs.AnswerLaws.{fine-same, bind-fine, then-fine, unless-fine}
-use Rattle.rules.proofs.BlockSizes.{all-map, all-with}
 use Rattle.rules.proofs.ReelLaws.{reel-blocks, reel-of, blocks-reel, all-blocks, length-reel}
 use Rattle.rules.proofs.CodedWords.{length-spelled}
 use Rattle.rules.proofs.SpannedFill.{joined-data, segmented-spanned}
@@ -63,15 +62,7 @@ finished-span copies g m first room s x e =
 module _ (g m : ℕ) (low : 9 ≤ g) (high : g < 65536) (low′ : 9 ≤ m) (high′ : m < 65536) where
   -- the records of a reel have data, of at most 32,752 bytes
   pub spans-data : (bs rs : List (List ℕ)) → Spans g bs rs → All (λ r. (1 ≤ length r) × (length r ≤ 32752)) rs
-  spans-data bs rs w = all-with (joined-data (w .joins) (parts (w .blocks))) (w .most)
-    where
-      all-onto : {P : Segment → Type 0} {xs ys : List Segment} → All P xs → All P ys → All P (xs ++ ys)
-      all-onto noMore b = b
-      all-onto (also p a) b = also p (all-onto a b)
-
-      parts : {bs : List (List ℕ)} {sss : List (List Segment)} → Both (SpanIs g) bs sss → All (λ s. 1 ≤ length (part s)) (joined sss)
-      parts none-left = noMore
-      parts (both v h) = all-onto (v .parts) (parts h)
+  spans-data bs rs w = all-with (joined-data (w .joins) (all-joined (both-second (λ b ss v. v .parts) (w .blocks)))) (w .most)
 
   module _ (first room : ℕ) (s : List ℕ) (a : All Byte s) (x : Ran) where
     -- the records of the input
@@ -135,10 +126,6 @@ length-joins (ending {fresh = f} {d = d} {ss = ss} {rs = rs} j) = omega (arith, 
 length-joins (going {fresh = f} {d = d} {ss = ss} {r = r} {rs = rs} j) =
     omega (arith, length-joins j, length-spelled (segment f false d) ss, length-append (d ++ r) (joined rs), length-append d r, length-append r (joined rs))
 
-some-one : (ss : List Segment) → (ss ≡ [] → ⊥) → 1 ≤ length ss
-some-one [] o = absurd (o refl)
-some-one (s ∷ ss) o = omega arith
-
 length-blocks : (g : ℕ) {bs : List (List ℕ)} {sss : List (List Segment)} → Both (SpanIs g) bs sss
     → (length (joined bs) ≡ 4 * length bs + length (spelled (joined sss))) × (length bs ≤ length (joined sss)) × (5 * length (joined sss) ≤ length (spelled (joined sss)))
 length-blocks g none-left = (refl, omega arith, omega arith)
@@ -147,7 +134,7 @@ length-blocks g (both {x = b} {y = ss} {xs = bs} {ys = sss} v h) =
     let n = length-append ss (joined sss) in
     let q = ap length (spelled-append ss (joined sss)) ∙ length-append (spelled ss) (spelled (joined sss)) in (
       omega (arith, k .0, length-append b (joined bs), ap length (v .is), length-span ss),
-      omega (arith, k .1, some-one ss (v .some)),
+      omega (arith, k .1, full-length ss (v .some)),
       omega (arith, k .2, with-data (v .parts)),
     )
   where

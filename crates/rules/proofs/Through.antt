@@ -11,7 +11,7 @@ use lib.ListN.{take, drop}
 use lib.Seq.{drop-drop}
 use borrow.Author.Tests.{eq-eqb}
 use Rattle.rules.specs.Base.{isEmpty, joined}
-use Rattle.rules.specs.Places.{All, noMore, also}
+use Rattle.rules.specs.Places.{All}
 use Rattle.rules.specs.Answer.{fine}
 use Rattle.rules.specs.Grammar.{Mode, tf, Format, ff, Size, two, Input, plain, keyed, Part, inData, inKey, CardField, Item, field, cv}
 use Rattle.rules.specs.Halves.{inputSize}
@@ -20,6 +20,7 @@ use Rattle.rules.specs.Plan.{recordLength, blockLength, joinedSize, keyL
 use Rattle.rules.specs.RecordParts.{fieldInput}
 use Rattle.rules.specs.Rows.{InputWithin, UtilityWithin, FieldWithin, Required, IsKeyed, Inside}
 use Rattle.rules.specs.Keys.{partOf, ownInput, throughField, throughItem, throughUtility, throughAsked}
+use Rattle.rules.proofs.AllLaws.{all-map, all-unmap, all-imply, all-both, all-with}
 use Rattle.rules.proofs.Lists.{take-drop, map-joined, map-same}
 use Rattle.rules.proofs.Tests.{and-left, and-both}
 use Rattle.rules.proofs.AnswerLaws.{fine-bind, then-fine, fine-then, fine-unless, fine-each}
@@ -107,8 +108,7 @@ module _ (f : Format) (i : Input) (s : Size) (key : ℕ) where
   card-through c e = rw (cvs-through key c, fields-through key c, no-key key (fieldsOf c), and-left (isFV f || eqb (cvs c) 0) _ e) refl
 
   cards-through : {cards : List (List Item)} → All (λ c. cardFits f i c ≡ true) cards → All (λ c. cardFits f (plain s) c ≡ true) (map (map (throughItem key)) cards)
-  cards-through noMore = noMore
-  cards-through (also {x = c} e a) = also (card-through c e) (cards-through a)
+  cards-through a = all-map (map (throughItem key)) (all-imply card-through a)
 
 empty-map : {A B : Type 0} (g : A → B) (xs : List A) → isEmpty (map g xs) ≡ isEmpty xs
 empty-map g [] = refl
@@ -116,12 +116,10 @@ empty-map g (x ∷ xs) = refl
 
 module _ (i : Input) (b key : ℕ) where
   within-data : (fs : List CardField) → All (Joined i b) (map (through key) fs) → All (λ f. FieldWithin (f .field)) (map (throughField key) fs)
-  within-data [] noMore = noMore
-  within-data (f ∷ fs) (also j a) = also (j .within) (within-data fs a)
+  within-data fs a = all-map (throughField key) (all-imply (λ f j. j .within) (all-unmap (through key) fs a))
 
   inside-data : (fs : List CardField) → All (Joined i b) (map (through key) fs) → All (λ f. inside (recordLength (joinedSize i)) b (f .field) ≡ true) (map (throughField key) fs)
-  inside-data [] noMore = noMore
-  inside-data (f ∷ fs) (also j a) = also (inside-exactly _ b (through key f) .1 (j .inside)) (inside-data fs a)
+  inside-data fs a = all-map (throughField key) (all-imply (λ f j. inside-exactly _ b (through key f) .1 (j .inside)) (all-unmap (through key) fs a))
 
 module _ (zone : ℕ) (a : Asked) (l : Limited a) (c : Combines zone a) where
   abbrev key : ℕ
@@ -175,17 +173,11 @@ module _ (zone : ℕ) (a : Asked) (l : Limited a) (c : Combines zone a) where
   -- each field of its cards reads just its own part
   pub fields-own : All (λ f. (r : List ℕ) → fieldInput (through (keyLength (a .utility .input)) f) r ≡ ownInput (keyLength (a .utility .input)) f r) (fieldsOf (joined (a .cards)))
   unfolding insidePart
-  fields-own = go (limits-fields a l) (c .insides) (key-fits (a .utility .format) (a .utility .input) (a .cards) (c .cards-fit))
-    where
-      i : Input
-      i = a .utility .input
-
-      go : {fs : List CardField} → All (λ f. FieldWithin (f .field)) fs → All (λ f. insidePart i (a .utility .output) f ≡ true) fs → All (Named i) fs
-          → All (λ f. (r : List ℕ) → fieldInput (through (keyLength i) f) r ≡ ownInput (keyLength i) f r) fs
-      go noMore noMore noMore = noMore
-      go (also {x = f} w ws) (also e es) (also n ns) =
-          let b = recordLength (a .utility .output) in
-          also (λ r. reads-own f i b r (w .r .0) (inside-exactly (partLength i (f .part)) b (f .field) .0 e) n) (go ws es ns)
+  fields-own =
+      let i = a .utility .input in
+      let b = recordLength (a .utility .output) in
+      all-both (λ f w n r. reads-own f i b r (w .0 .r .0) (inside-exactly (partLength i (f .part)) b (f .field) .0 (w .1)) n) (all-with (limits-fields a l) (c .insides))
+      (key-fits (a .utility .format) i (a .cards) (c .cards-fit))
 
   -- and with keys and TF a block of B holds one record
   pub keyed-one : IsKeyed (a .utility .input) → a .utility .mode ≡ tf → blockLength (a .utility .output) ≡ recordLength (a .utility .output)

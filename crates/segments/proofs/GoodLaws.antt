@@ -1,9 +1,9 @@
 -- A reel that is read by the rules: its first spot stands before all records. Block by block each record's segments are found in turn; a reel has one list of
 -- records, whatever its blocks may be long. And what is left from a spot on lies in the reel, so that it is at most 65,536 bytes, each segment with a byte or more.
-use mathlib.Core.Path.{_≡_, refl, ap, ap₂, sym, _∙_, subst}
+use mathlib.Core.Path.{_≡_, refl, ap, sym, _∙_, subst}
 use mathlib.Core.Bool.{Bool, true, false, cond, _&&_}
 use mathlib.Core.List.{List, [], _∷_, _++_, map, append-assoc}
-use mathlib.Core.Option.{Option, none, some, Option·some-injective}
+use mathlib.Core.Option.{Option, none, Option·some-injective}
 use Prim.Native.Nat.{ℕ, zero, suc, _+_, _-_, _*_, _≤_}
 use native.Mathlib.Omega.{arith}
 use lib.Dec.{ltb, leb}
@@ -15,53 +15,32 @@ use Rattle.rules.specs.Answer.{fine}
 use Rattle.rules.specs.Places.{All, noMore, Both, none-left, both}
 use Rattle.rules.specs.Reel.{blockCount, isReel, blocksOf}
 use Rattle.rules.specs.ReelPlaces.{offsetAt}
-use Rattle.rules.specs.Spanned.{Segment, part, segmentsIn, State, joinFrom, spannedFrom, Joined, no-segment, ending, going, Turns, no-turn}
+use Rattle.rules.specs.Spanned.{Segment, part, spannedFrom, Joined, no-segment, ending, going, Turns}
+use Rattle.rules.proofs.SpannedRead.{gathered, read-held, Reads}
 use Rattle.rules.proofs.Lists.{drop-less, mapped-append}
-use Rattle.rules.proofs.AllLaws.{all-append}
-use Rattle.rules.proofs.AnswerLaws.{not-fine, fine-same, bind-fine}
+use Rattle.rules.proofs.AllLaws.{all-append, both-map, both-same}
 use Rattle.rules.proofs.Bounds.{parts-length}
 use Rattle.rules.proofs.ReelLaws.{header-is, length-blocks}
 use Rattle.rules.proofs.ReelSteps.{offset-first, offset-last}
-use Rattle.rules.proofs.SpannedTurns.{read-turns, turns-append, turns-once, turns-exactly}
+use Rattle.rules.proofs.SpannedTurns.{turns-once, turns-exactly}
 use Rattle.reels.specs.Header.{partAt}
 use Rattle.reels.proofs.HeaderLaws.{part-step, words-missing}
 use Rattle.segments.specs.declared.Spot.{Spot}
 use Rattle.segments.specs.Spots.{firstSpot, bytesAt}
 use Rattle.segments.specs.Promise.{GoodSpans, Stands, Streams, Before}
 use Rattle.segments.proofs.SegmentLaws.{end-from, from-parts, read-from}
-use Rattle.segments.proofs.StandsLaws.{Reads, bytes-length}
+use Rattle.segments.proofs.StandsLaws.{bytes-length}
 
 -- ---- the segments of all blocks
 
 pub read-spans : (g i : ℕ) (now : Option (List ℕ)) (bs : List (List ℕ)) (recs : List (List (List ℕ))) → spannedFrom g i now bs ≡ fine recs
     → (sss : List (List Segment)) × Both (Reads g) bs sss × Turns now (joined sss) (joined recs) none
-read-spans g i none [] recs e = ([], none-left, subst (λ (z : List (List (List ℕ))). Turns none [] (joined z) none) (fine-same [] recs e) no-turn)
-read-spans g i (some c) [] recs e = absurd (not-fine _ recs e)
-read-spans g i now (b ∷ bs) recs e = go (λ mid m f. read-spans g (suc i) mid bs m f) (segmentsIn g b) refl
-  where
-    Found : Option (List ℕ) → List (List ℕ) → List (List (List ℕ)) → Type 0
-    Found now bs recs = (sss : List (List Segment)) × Both (Reads g) bs sss × Turns now (joined sss) (joined recs) none
-
-    added : (ss : List Segment) → segmentsIn g b ≡ some ss → (x : State) (m : List (List (List ℕ))) → x .0 ∷ m ≡ recs → Turns now ss (x .0) (x .1) → Found (x .1) bs m → Found now (b ∷ bs) recs
-    added ss s x m q v (sss, w, u) = (ss ∷ sss, both s w, subst (λ (z : List (List (List ℕ))). Turns now (ss ++ joined sss) (joined z) none) q (turns-append v u))
-
-    turn : ((mid : Option (List ℕ)) (m : List (List (List ℕ))) → spannedFrom g (suc i) mid bs ≡ fine m → Found mid bs m) → (ss : List Segment) → segmentsIn g b ≡ some ss
-        → (o : Option State) → joinFrom now ss ≡ o → Found now (b ∷ bs) recs
-    turn ih ss s none t = absurd (not-fine _ recs (rw (s, t) at e))
-    turn ih ss s (some x) t =
-        let w = bind-fine (spannedFrom g (suc i) (x .1) bs) (λ more. fine (x .0 ∷ more)) recs (rw (s, t) at e) in
-        added ss s x (w .0) (fine-same (x .0 ∷ w .0) recs (w .2)) (read-turns now ss x t) (ih (x .1) (w .0) (w .1))
-
-    go : ((mid : Option (List ℕ)) (m : List (List (List ℕ))) → spannedFrom g (suc i) mid bs ≡ fine m → Found mid bs m) → (o : Option (List Segment)) → segmentsIn g b ≡ o
-        → Found now (b ∷ bs) recs
-    go ih none s = absurd (not-fine _ recs (rw s at e))
-    go ih (some ss) s = turn ih ss s (joinFrom now ss) refl
+read-spans g i now bs recs e = gathered (Reads g) (read-held g i now bs recs e)
 
 -- one list of segments
 reads-same : (g g′ : ℕ) {bs : List (List ℕ)} {sss sss′ : List (List Segment)} → Both (Reads g) bs sss → Both (Reads g′) bs sss′ → sss ≡ sss′
-reads-same g g′ none-left none-left = refl
-reads-same g g′ (both {x = b} {y = ss} v w) (both {y = ss′} v′ w′) =
-    ap₂ _∷_ (Option·some-injective ss ss′ (sym (read-from g b ss v .0) ∙ read-from g′ b ss′ v′ .0)) (reads-same g g′ w w′)
+reads-same g g′ w w′ =
+    both-same (λ b ss ss′ v v′. Option·some-injective ss ss′ (sym v ∙ v′)) (both-map (λ b ss v. read-from g b ss v .0) w) (both-map (λ b ss v. read-from g′ b ss v .0) w′)
 
 pub good-same : {g g′ : ℕ} {s : List ℕ} {recs recs′ : List (List (List ℕ))} → GoodSpans g s recs → GoodSpans g′ s recs′ → joined recs ≡ joined recs′
 good-same {g} {g′} {s} {recs} {recs′} a b =

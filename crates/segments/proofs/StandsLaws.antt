@@ -16,7 +16,8 @@ use Rattle.rules.specs.Places.{Both, none-left, both}
 use Rattle.rules.specs.Reel.{blockCount, isReel, blocksOf}
 use Rattle.rules.specs.Blocks.{wordLength}
 use Rattle.rules.specs.ReelPlaces.{pieceAt}
-use Rattle.rules.specs.Spanned.{Segment, ends, part, segmentAt, segmentsIn}
+use Rattle.rules.specs.Spanned.{Segment, ends, part, segmentAt}
+use Rattle.rules.proofs.SpannedRead.{Reads}
 use Rattle.rules.proofs.Lists.{slice-from, slice-part}
 use Rattle.rules.proofs.ReelLaws.{header-is, length-blocks}
 use Rattle.reels.specs.Header.{partAt}
@@ -29,9 +30,6 @@ use Rattle.segments.specs.Spots.{segmentRead, readAt, nextOf, passedBy, 
 use Rattle.segments.specs.Promise.{segmentsFrom, Stands, Streams}
 use Rattle.segments.proofs.SegmentLaws.{from-end, from-first, first-data, first-ends, read-from}
 use Rattle.segments.proofs.SpotLaws.{read-is, next-here, next-later, on-here, on-next}
-
-abbrev pub Reads : ℕ → List ℕ → List Segment → Type 0
-Reads g b xs = segmentsIn g b ≡ some xs
 
 -- ---- the next segment
 

@@ -8,7 +8,6 @@ use native.Mathlib.Omega.{arith}
 use lib.ListN.{length, drop, length-append}
 use lib.Seq.{drop-nil}
 use Rattle.rules.specs.Base.{joined}
-use Rattle.rules.specs.Places.{All, noMore, also}
 use Rattle.rules.specs.Blocks.{takenAfter, takenFrom}
 use Rattle.rules.specs.Output.{nonEmpty}
 use Rattle.rules.proofs.TakenLaws.{after-zero}
@@ -33,11 +32,6 @@ module _ {A : Type 0} where
   all-length [] = refl
   all-length (rs ∷ more) =
       omega (arith, length-append (marked true rs) (markedAll more), length-append rs (joined more), marked-length true rs, all-length more)
-
-  -- what holds of every record holds of every marked one
-  pub all-marked : {P : A → Type 0} (marks : List (Bool × A)) → All P (map bytesOf marks) → All (λ m. P (bytesOf m)) marks
-  all-marked [] noMore = noMore
-  all-marked (m ∷ marks) (also p a) = also p (all-marked marks a)
 
 module _ {A B : Type 0} (f : A → B) where
   marked-map : (begins : Bool) (rs : List A) → marked begins (map f rs) ≡ map (onMarked f) (marked begins rs)

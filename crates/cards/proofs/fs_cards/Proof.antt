@@ -9,14 +9,9 @@ use native.Mathlib.Omega.{arith}
 use denote.Ref.{now}
 use denote.Enum.Declared.{tagOf}
 use lib.ListN.{length, drop}
-use lib.Seq.{slice}
 use borrow.Author.Needs.{needs}
-use Rattle.rules.specs.Reader.{listOf}
 use Rattle.rules.specs.Places.{All}
 use Rattle.rules.specs.Deck.{fsCard}
-use Rattle.rules.specs.Grammar.{item}
-use Rattle.rules.specs.Words.{worded}
-use Rattle.rules.proofs.Lists.{slice-part}
 use Rattle.rules.proofs.AllLaws.{all-tail}
 use Rattle.rows.specs.Kept.{rowOf}
 use Rattle.rows.proofs.RowLaws.{length-row}
@@ -24,10 +19,10 @@ use Rattle.lines.specs.Meaning.{IsCard}
 use Rattle.cards.specs.declared.CardAt.{CardAt}
 use Rattle.cards.specs.declared.CardAt.the-variants.{UAt, FsAt, NoOperand}
 use Rattle.cards.specs.declared.Noted.{Noted}
-use Rattle.cards.specs.Selected.{Taken, nothingNoted, ListSays, noSelection}
+use Rattle.cards.specs.Selected.{Taken, nothingNoted, noSelection}
 use Rattle.cards.specs.Deck.{cardsIn, fsFirst, OperandAt, CardAtSays, FsSaid}
 use Rattle.cards.proofs.ListedLaws.{key-kept}
-use Rattle.cards.proofs.DeckLaws.{Selecting, selecting-start, selecting-none, selecting-u, selecting-stop, selecting-more}
+use Rattle.cards.proofs.DeckLaws.{Selecting, selecting-start, selecting-none, selecting-u, selecting-stop, selecting-more, lent-list}
 use Rattle.cards.proofs.CardAt as card-type
 use Rattle.cards.proofs.fs_cards.Statement.{statement}
 use Rattle.cards.proofs.fs_cards.Tie as tie
@@ -96,20 +91,6 @@ list-requires c κs =
     let h = is-fs (c .before .before .before) in
     (l .inv .0, omega arith, omega (arith, h .upto), l .inv .2)
 
--- what the two functions gave of it
-told : (c : tie.After-list Inv-loop μ-loop)
-    → ListSays (c .before .before .before .before .before .before .before .loop .card) 7 7
-    (c .before .before .before .before .before .before .before .loop .noted, c .before .before .before .before .before .before .before .loop .row)
-    (slice (c .before .before .before .before .found .given .0 .0) (c .before .before .before .before .found .given .0 .1 .0) (now (c .before .before .before .before .before .before .before .before .before .before .args .deck)))
-    (listOf "/" (worded item) (slice (c .before .before .before .before .found .given .0 .0) (c .before .before .before .before .found .given .0 .1 .0) (now (c .before .before .before .before .before .before .before .before .before .before .args .deck))))
-    (c .list .result) (c .list .last .1 .1 .1 .1 .0)
-told c =
-    let f = c .before .before .before .before in
-    let l = f .before .before .before .loop in
-    let g = f .found .given .0 in
-    subst (λ (o : List ℕ). ListSays (l .card) 7 7 (l .noted, l .row) o (listOf "/" (worded item) o) (c .list .result) (c .list .last .1 .1 .1 .1 .0))
-    (sym (slice-part (g .0) (g .1 .0) (now (f .before .before .before .before .before .before .args .deck)) (is-fs f .from))) (c .list .ensures .1)
-
 returns-2 : tie.Need-returns-2 Inv-loop μ-loop
 returns-2 c =
     let f = c .before .before .before .before .before .before in
@@ -117,7 +98,8 @@ returns-2 c =
     let a = f .before .before .before .before .before .before .args in
     let g = f .found .given .0 in
     let r = c .before .before .list in
-    (r .ensures .0, selecting-stop (now (a .deck)) (a .from) (a .key) (l .noted, l .row) (l .card) (l .at) (l .inv .3) (g .0) (g .1 .0) (g .1 .1 .0) (is-fs f) (r .result) (r .last .1 .1 .1 .1 .0) (told (c .before .before)) (c .if1 .taken) _)
+    let told = lent-list (l .card) (l .noted, l .row) (now (a .deck)) (g .0) (g .1 .0) (is-fs f .from) (r .result) (r .last .1 .1 .1 .1 .0) (r .ensures .1) in
+    (r .ensures .0, selecting-stop (now (a .deck)) (a .from) (a .key) (l .noted, l .row) (l .card) (l .at) (l .inv .3) (g .0) (g .1 .0) (g .1 .1 .0) (is-fs f) (r .result) (r .last .1 .1 .1 .1 .0) told (c .if1 .taken) _)
 
 add-card : tie.Need-add-card Inv-loop μ-loop
 add-card c = let f = c .before .before .before .before .before .before in let h = is-fs f in let low = f .before .before .before .loop .inv .3 .low in omega (arith, h .on, h .within)
@@ -131,12 +113,13 @@ loop-again c =
     let l = f .before .before .before .loop in
     let a = f .before .before .before .before .before .before .args in
     let g = f .found .given .0 in
-    let r = c .before .before .list in (
+    let r = c .before .before .list in
+    let told = lent-list (l .card) (l .noted, l .row) (now (a .deck)) (g .0) (g .1 .0) (is-fs f .from) (r .result) (r .last .1 .1 .1 .1 .0) (r .ensures .1) in (
       r .ensures .0,
       all-tail (subst (All IsCard) (is-fs f .is) (l .inv .1)),
-      omega (arith, key-kept (l .card) (l .noted, l .row) _ (r .result) _ (told (c .before .before)) (c .if1 .left), l .inv .2),
+      omega (arith, key-kept (l .card) (l .noted, l .row) _ (r .result) _ told (c .if1 .left), l .inv .2),
       rw (add-one (l .card))
-          (selecting-more (now (a .deck)) (a .from) (a .key) (l .noted, l .row) (l .card) (l .at) (l .inv .3) (g .0) (g .1 .0) (g .1 .1 .0) (is-fs f) (r .result) (r .last .1 .1 .1 .1 .0) (told (c .before .before)) (c .if1 .left)),
+          (selecting-more (now (a .deck)) (a .from) (a .key) (l .noted, l .row) (l .card) (l .at) (l .inv .3) (g .0) (g .1 .0) (g .1 .1 .0) (is-fs f) (r .result) (r .last .1 .1 .1 .1 .0) told (c .if1 .left)),
     )
 
 pub fs-cards-spec : {M : Type 1} → statement M
