@@ -1,7 +1,7 @@
 // What a plan answers, and what it leaves of a table of which a part was lent, as words of a line.
 use crate::digest;
 use crate::say;
-use bhexodana::Planned;
+use plans::Planned;
 use terms::Entry;
 ghost use mathlib.Core.Path.{_≡_};
 ghost use Prim.Native.Nat.{_≤_, _<_};

@@ -42,12 +42,13 @@ use Rattle.terms.specs.declared.Entry.{Entry}
 use Rattle.terms.proofs.Entries.{entries-hold}
 use Rattle.outcomes.specs.declared.Ran.{Ran}
 use Rattle.outcomes.specs.Promise.{ranStruct, runNumbers}
+use Rattle.plans.specs.declared.Planned.{Planned}
+use Rattle.plans.specs.Promise.{numbersOf}
 use Rattle.twins.specs.declared.Twins.{Twins}
 use Rattle.twins.specs.Promise.{twinsNumbers}
 use Rattle.verdicts.specs.declared.Judged.{Judged}
 use Rattle.verdicts.specs.Promise.{judgedOf, judgeNumbers}
-use Rattle.bhexodana.specs.Promise.{numbersOf, PlanOf, PlannedInto, RanInto, TwinsInto, JudgedAs}
-use Rattle.bhexodana.specs.declared.Planned.{Planned}
+use Rattle.bhexodana.specs.Promise.{PlanOf, PlannedInto, RanInto, TwinsInto, JudgedAs}
 
 -- ---- one outcome only
 

@@ -8,33 +8,22 @@ use Rattle.terms.specs.Meaning.{entryMeans, entryFor}
 use Rattle.terms.specs.declared.Entry.{Entry}
 use Rattle.terms.proofs.Entries.{entries-back}
 use Rattle.plans.specs.Promise.{filledFor}
-use Rattle.plans.specs.declared.Filled.{Filled}
+use Rattle.plans.specs.declared.TablePlan.{TablePlan}
 use Rattle.plans.proofs.FilledLaws.{table-after, into-own, store-fits}
-use Rattle.bhexodana.specs.Promise.{PlannedInto, fillingOf}
-use Rattle.bhexodana.specs.declared.Filling.{Filling}
-use Rattle.bhexodana.specs.declared.Planned.{Planned}
+use Rattle.bhexodana.specs.Promise.{PlannedInto}
 
--- the struct of what plans answers
-abbrev pub fillingFrom : Filled → Filling
-fillingFrom p =
-    record {
-      answer = record { refusal = p .refusal; place = p .place; column = p .column; keeping = p .keeping; lost = p .lost; fields = p .fields };
-      entries = p .entries;
-      store = p .store;
-    }
-
-pub filling-is : (deck : List ℕ) (room : ℕ) (p : Filled) → p ≡ filledFor deck (planInto room deck)
-    → (fillingFrom p ≡ fillingOf deck room) × (p .store ≤ 64) × (p .store ≤ room)
-unfolding fillingOf
-filling-is deck room p e =
-    let w = store-fits room deck in
-    (ap fillingFrom e, subst (λ (z : Filled). z .store ≤ 64) (sym e) (w .0), subst (λ (z : Filled). z .store ≤ room) (sym e) (w .1))
+-- no more is stored than there is, and than the table has
+pub stored-fits : (deck : List ℕ) (room : ℕ) (p : TablePlan) → p ≡ filledFor deck (planInto room deck) → (p .store ≤ 64) × (p .store ≤ room)
+stored-fits deck room p e = subst (λ (z : TablePlan). (z .store ≤ 64) × (z .store ≤ room)) (sym e) (store-fits room deck)
 
 -- the promise of the exported function, from what is stored
-pub planned-into : (deck : List ℕ) (before : List Entry) (r : Planned) (after : List Entry)
-    → r ≡ fillingOf deck (length before) .answer
-    → after ≡ take (fillingOf deck (length before) .store) (fillingOf deck (length before) .entries) ++ drop (fillingOf deck (length before) .store) before
-    → PlannedInto deck before r after
-unfolding fillingOf
-planned-into deck before r after e f =
-    record { answer = e; table = sym (entries-back after) ∙ ap (map entryFor) (ap (map entryMeans) f ∙ table-after deck (planInto (length before) deck) (λ p e. into-own (length before) deck p e) before) }
+pub planned-into : (deck : List ℕ) (before : List Entry) (p : TablePlan) (after : List Entry) → p ≡ filledFor deck (planInto (length before) deck)
+    → after ≡ take (p .store) (p .entries) ++ drop (p .store) before → PlannedInto deck before (p .answer) after
+planned-into deck before p after e f =
+    let x = planInto (length before) deck in
+    let is : after ≡ take (filledFor deck x .store) (filledFor deck x .entries) ++ drop (filledFor deck x .store) before
+    = f ∙ ap (λ (z : TablePlan). take (z .store) (z .entries) ++ drop (z .store) before) e in
+    record {
+      answer = ap (λ (z : TablePlan). z .answer) e;
+      table = sym (entries-back after) ∙ ap (map entryFor) (ap (map entryMeans) is ∙ table-after deck x (λ q w. into-own (length before) deck q w) before);
+    }

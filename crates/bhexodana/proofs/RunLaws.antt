@@ -12,7 +12,7 @@ use Rattle.terms.specs.Meaning.{planIn}
 use Rattle.rows.specs.Kept.{fieldsIn}
 use Rattle.rows.specs.Fair.{PlanFair}
 use Rattle.plans.specs.Promise.{Plans}
-use Rattle.plans.specs.declared.Planned.{Planned}
+use Rattle.plans.specs.declared.DeckPlan.{DeckPlan}
 use Rattle.plans.proofs.FilledLaws.{refused-plan, accepted-plan, plan-is, plan-fair, row-holds}
 
 -- the plan is asked first
@@ -20,14 +20,14 @@ run-plan : (room : ℕ) (deck s : List ℕ) (x : Answer Plan) → plan deck ≡ 
 unfolding run runOf plan
 run-plan room deck s x e = ap (λ (y : Answer Plan). y >>= λ p. conversion room p s) e
 
-module _ (deck : List ℕ) (r : Planned) (row : List ℕ) (w : Plans deck r row) where
-  pub run-refused : (r .refusal ≡ 0 → ⊥) → (room : ℕ) (s : List ℕ) → run room deck s ≡ refusedAt (r .refusal) (r .place) (r .column)
+module _ (deck : List ℕ) (r : DeckPlan) (row : List ℕ) (w : Plans deck r row) where
+  pub run-refused : (r .answer .refusal ≡ 0 → ⊥) → (room : ℕ) (s : List ℕ) → run room deck s ≡ refusedAt (r .answer .refusal) (r .answer .place) (r .answer .column)
   unfolding _>>=_
   run-refused h room s =
       let q = refused-plan deck r row w h in
       run-plan room deck s (refuse (q .0)) (q .1) ∙ (λ i. refuse (record { number = sym (q .2) i; place = sym (q .3) i; column = sym (q .4) i }))
 
-  module _ (z : r .refusal ≡ 0) where
+  module _ (z : r .answer .refusal ≡ 0) where
     abbrev end : ℕ
     end = 5 * r .asked .count
 

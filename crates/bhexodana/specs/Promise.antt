@@ -3,32 +3,20 @@ use mathlib.Core.Path.{_≡_}
 use mathlib.Core.List.{List, map}
 use Prim.Native.Nat.{ℕ}
 use lib.ListN.{length}
-use Rattle.rules.specs.Plan.{PlanAnswer, planAnswer}
+use Rattle.rules.specs.Plan.{planAnswer}
 use Rattle.rules.specs.Lent.{plan, planInto, tableAfter, run, runAnswer, outputAfter}
 use Rattle.rules.specs.Twins.{twinsInto, twinsAnswer, twinsAfter}
 use Rattle.rules.specs.Judge.{judge, judgeAnswer}
 use Rattle.terms.specs.Meaning.{entryMeans, entryFor}
 use Rattle.terms.specs.declared.Entry.{Entry}
-use Rattle.plans.specs.Promise.{tableOf, stored}
+use Rattle.plans.specs.declared.Planned.{Planned}
+use Rattle.plans.specs.Promise.{plannedOf}
 use Rattle.outcomes.specs.declared.Ran.{Ran}
 use Rattle.outcomes.specs.Promise.{ranStruct}
 use Rattle.twins.specs.declared.Twins.{Twins}
 use Rattle.twins.specs.Promise.{twinsOf}
 use Rattle.verdicts.specs.declared.Judged.{Judged}
 use Rattle.verdicts.specs.Promise.{judgedOf}
-use Rattle.bhexodana.specs.declared.Filling.{Filling}
-use Rattle.bhexodana.specs.declared.Planned.{Planned}
-
--- ---- numbers
-
--- the six numbers of a plan
-abbrev pub plannedOf : PlanAnswer → Planned
-plannedOf n = record { refusal = n .refusal; place = n .place; column = n .column; keeping = n .keeping; lost = n .lost; fields = n .fields }
-
-abbrev pub numbersOf : Planned → PlanAnswer
-numbersOf r = record { refusal = r .refusal; place = r .place; column = r .column; keeping = r .keeping; lost = r .lost; fields = r .fields }
-
--- ---- the promises
 
 -- bhx_plan
 abbrev pub PlanOf : List ℕ → Planned → Type 0
@@ -52,14 +40,3 @@ pub record TwinsInto (deck before : List ℕ) (r : Twins) (after : List ℕ) : T
 -- bhx_judge
 abbrev pub JudgedAs : List ℕ → List ℕ → List ℕ → Judged → Type 0
 JudgedAs deck ours theirs r = r ≡ judgedOf (judgeAnswer (judge deck ours theirs))
-
--- ---- for the private functions
-
--- what is answered for a table of so many entries, and what goes into it
-unfoldable pub fillingOf : List ℕ → ℕ → Filling
-fillingOf deck room =
-    record {
-      answer = plannedOf (planAnswer (planInto room deck));
-      entries = tableOf (stored deck (planInto room deck));
-      store = length (stored deck (planInto room deck));
-    }

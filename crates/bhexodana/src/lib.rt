@@ -1,6 +1,7 @@
 // What users call: the plan of a deck, the plan into a table that the caller lends, the run of a deck over a reel, the twins of a deck, and whether a reel from
 // elsewhere is a true conversion. Exported for C and Fortran.
 use outcomes::Ran;
+use plans::Planned;
 use terms::Entry;
 use twins::Twins;
 use verdicts::Judged;
@@ -8,45 +9,7 @@ ghost use mathlib.Core.Path.{_≡_};
 ghost use mathlib.Core.List.{_++_};
 ghost use Prim.Native.Nat.{_≤_};
 ghost use lib.ListN.{length, take, drop};
-ghost use Rattle.bhexodana.specs.Promise.{PlanOf, PlannedInto, RanInto, TwinsInto, JudgedAs, fillingOf};
-
-// What a plan answers: refusal, place, column, 1 for keeping or 0, lost place or 0, field count.
-#[repr(C)]
-pub struct Planned {
-    pub refusal: usize,
-    pub place: usize,
-    pub column: usize,
-    pub keeping: usize,
-    pub lost: usize,
-    pub fields: usize,
-}
-
-// What is answered, the entries, and how many of them go into the table.
-struct Filling {
-    answer: Planned,
-    entries: [Entry; 64],
-    store: usize,
-}
-
-// The plan of a deck for a table of so many entries.
-fn fill(deck: &[u8], room: usize) -> Filling
-    ensures { λ r. ⌜ (r ≡ fillingOf (now (deck .entry)) room) × (r .store ≤ 64) × (r .store ≤ room) ⌝ }
-{
-    let p = plans::plan_for(deck, room);
-    let entries = p.entries;
-    Filling {
-        answer: Planned {
-            refusal: p.refusal,
-            place: p.place,
-            column: p.column,
-            keeping: p.keeping,
-            lost: p.lost,
-            fields: p.fields,
-        },
-        entries,
-        store: p.store,
-    }
-}
+ghost use Rattle.bhexodana.specs.Promise.{PlanOf, PlannedInto, RanInto, TwinsInto, JudgedAs};
 
 // The first `count` entries go into the lent table, and the others stay.
 fn store(table: &mut [Entry], entries: [Entry; 64], count: usize)
@@ -67,14 +30,7 @@ pub extern "C" fn bhx_plan(deck: &[u8]) -> Planned
 {
     let mut row = [0u16; 320];
     let p = plans::plan_deck(deck, &mut row);
-    Planned {
-        refusal: p.refusal,
-        place: p.place,
-        column: p.column,
-        keeping: p.keeping,
-        lost: p.lost,
-        fields: p.fields,
-    }
+    p.answer
 }
 
 // The plan of a deck, stored into a table that the caller lends. A refusal changes no entry.
@@ -82,7 +38,7 @@ pub extern "C" fn bhx_plan(deck: &[u8]) -> Planned
 pub extern "C" fn bhx_plan_into(deck: &[u8], table: &mut [Entry]) -> Planned
     ensures { λ r. ⌜ PlannedInto (now (deck .entry)) (now (table .entry)) r (now (table .exit)) ⌝ }
 {
-    let p = fill(deck, table.len());
+    let p = plans::plan_for(deck, table.len());
     let entries = p.entries;
     store(table, entries, p.store);
     p.answer
@@ -95,8 +51,8 @@ pub extern "C" fn bhx_run(deck: &[u8], reel: &[u8], out: &mut [u8]) -> Ran
 {
     let mut row = [0u16; 320];
     let p = plans::plan_deck(deck, &mut row);
-    if p.refusal != 0 {
-        return outcomes::refused(p.refusal, p.place, p.column);
+    if p.answer.refusal != 0 {
+        return outcomes::refused(p.answer.refusal, p.answer.place, p.answer.column);
     }
     let asked = p.asked;
     let end = 5 * asked.count;

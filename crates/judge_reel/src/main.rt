@@ -9,7 +9,7 @@ mod verdict;
 fn say_refused(deck: &[u8], refusal: usize, place: usize, column: usize) {
     let mut row = [0u16; 320];
     let plan = plans::plan_deck(deck, &mut row);
-    if refusal == 8 && (plan.refusal != 8 || plan.place != place) {
+    if refusal == 8 && (plan.answer.refusal != 8 || plan.answer.place != place) {
         notices::say(
             b"refused by 8, at card 1: a reel from elsewhere is judged with TR or TRF alone, and this deck has TC or TF\n",
         );
@@ -22,7 +22,7 @@ fn say_refused(deck: &[u8], refusal: usize, place: usize, column: usize) {
 fn explain(deck: &[u8], apart: usize, ours: &[u8], theirs: &[u8]) {
     let mut row = [0u16; 320];
     let plan = plans::plan_deck(deck, &mut row);
-    if plan.refusal != 0 {
+    if plan.answer.refusal != 0 {
         return;
     }
     if apart == 0 {

@@ -6,7 +6,7 @@ use crate::difference;
 use crate::gathered;
 use notices::number;
 use notices::say;
-use plans::Planned;
+use plans::DeckPlan;
 use terms::Asked;
 
 // Says so many of what has this name.
@@ -20,7 +20,7 @@ fn say_many(count: usize, name: &[u8]) {
 }
 
 // Says that theirs is true, and what the plan loses: where it loses, other inputs may have the same conversion.
-pub(crate) fn yes(plan: Planned, theirs: &[u8]) {
+pub(crate) fn yes(plan: DeckPlan, theirs: &[u8]) {
     let asked = plan.asked;
     let task = tasks::task_of(asked);
     let mut nothing = gathered::record_room();

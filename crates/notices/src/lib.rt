@@ -9,7 +9,7 @@ mod reel;
 pub use field::field_on_card;
 use libc::STDERR_FILENO;
 use libc::STDOUT_FILENO;
-use plans::Planned;
+use plans::DeckPlan;
 
 // Words on standard error.
 pub fn say(text: &[u8]) {
@@ -97,11 +97,11 @@ fn lost(n: usize, key: usize, place: usize) {
 }
 
 // What an accepted plan loses, if it loses anything.
-pub fn loss(plan: Planned) {
-    if plan.keeping == 0 {
+pub fn loss(plan: DeckPlan) {
+    if plan.answer.keeping == 0 {
         let asked = plan.asked;
         let input = asked.input;
-        lost(terms::record_length(input), asked.key, plan.lost);
+        lost(terms::record_length(input), asked.key, plan.answer.lost);
         say(b"'./bhexodana twins DECK' shows two such records\n");
     }
 }

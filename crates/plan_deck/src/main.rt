@@ -11,11 +11,11 @@ fn refused(deck: &[u8], refusal: usize, place: usize, column: usize) {
 fn whole(deck: &[u8]) {
     let mut row = [0u16; 320];
     let p = plans::plan_deck(deck, &mut row);
-    if p.refusal != 0 {
-        refused(deck, p.refusal, p.place, p.column);
+    if p.answer.refusal != 0 {
+        refused(deck, p.answer.refusal, p.answer.place, p.answer.column);
         return;
     }
-    notices::line(&[0, 0, p.keeping, p.lost]);
+    notices::line(&[0, 0, p.answer.keeping, p.answer.lost]);
     notices::loss(p);
 }
 

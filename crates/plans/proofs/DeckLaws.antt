@@ -19,21 +19,21 @@ use Rattle.rows.specs.Kept.{rowOf}
 use Rattle.judges.specs.Promise.{planned, judgedOf, Says, Asks}
 use Rattle.judges.proofs.JudgeLaws.{fields-same, plan-same}
 use Rattle.cards.specs.Promise.{nothingAsked}
-use Rattle.plans.specs.Promise.{refusedWith, plannedBy, numbersIn, Holds, HoldsFor, Plans}
-use Rattle.plans.specs.declared.Planned.{Planned}
+use Rattle.plans.specs.Promise.{plannedOf, refusedDeck, plannedBy, Holds, HoldsFor, Plans}
+use Rattle.plans.specs.declared.DeckPlan.{DeckPlan}
 
 -- ---- a deck that is refused by 1 to 7
 
-pub refused-deck : (deck : List ℕ) (q : Refusal) (row : List ℕ) → askedOf deck ≡ refuse q → row ≡ rowOf [] → Plans deck (refusedWith (q .number) (q .place) (q .column)) row
+pub refused-deck : (deck : List ℕ) (q : Refusal) (row : List ℕ) → askedOf deck ≡ refuse q → row ≡ rowOf [] → Plans deck (refusedDeck (q .number) (q .place) (q .column)) row
 unfolding plan
 refused-deck deck q row e none =
     let r = deck-refused zoneF deck q e in
-    record { numbers = ap planAnswer (sym r); held = subst (λ (z : Answer Plan). HoldsFor deck z nothingAsked row) (sym r) (refl, none) }
+    record { numbers = ap (λ (z : Answer Plan). plannedOf (planAnswer z)) (sym r); held = subst (λ (z : Answer Plan). HoldsFor deck z nothingAsked row) (sym r) (refl, none) }
 
 -- ---- a deck that asks for something
 
 -- the numbers of the verdict are those that the rules answer
-numbers-by : (x : Asked) (q : Answer Plan) → ((p : Plan) → q ≡ fine p → x .count ≡ length (p .fields)) → numbersIn (plannedBy x (judgedOf q)) ≡ planAnswer q
+numbers-by : (x : Asked) (q : Answer Plan) → ((p : Plan) → q ≡ fine p → x .count ≡ length (p .fields)) → plannedBy x (judgedOf q) .answer ≡ plannedOf (planAnswer q)
 unfolding judgedOf _>>=_
 numbers-by x (refuse r) many = refl
 numbers-by x (fine p) many = rw (many p refl)
@@ -60,8 +60,8 @@ module _ (deck : List ℕ) (a : RuleAsked) (asks : askedOf deck ≡ fine a) (x :
   many : (p : Plan) → planned zoneF a ≡ fine p → x .count ≡ length (p .fields)
   many p e = many-laid x a m ∙ ap length (row-fields p e)
 
-  numbers-are : (r : Planned) → r ≡ plannedBy x (judgedOf (planned zoneF a)) → numbersIn r ≡ planAnswer (plan deck)
-  numbers-are r e = ap numbersIn e ∙ numbers-by x (planned zoneF a) many ∙ ap planAnswer (sym is-planned)
+  numbers-are : (r : DeckPlan) → r ≡ plannedBy x (judgedOf (planned zoneF a)) → r .answer ≡ plannedOf (planAnswer (plan deck))
+  numbers-are r e = ap (λ (s : DeckPlan). s .answer) e ∙ numbers-by x (planned zoneF a) many ∙ ap (λ (z : Answer Plan). plannedOf (planAnswer z)) (sym is-planned)
 
   -- accepted, and the row holds its fields
   held : (row : List ℕ) → row ≡ rowOf fs → (p : Plan) → planned zoneF a ≡ fine p → Holds deck p x row
@@ -73,23 +73,23 @@ module _ (deck : List ℕ) (a : RuleAsked) (asks : askedOf deck ≡ fine a) (x :
         means = λ b w. subst (Means x) (fine-same a b (sym asks ∙ w)) m;
       }
 
-  pub asked-kept : (row : List ℕ) → row ≡ rowOf fs → (r : Planned) → r ≡ plannedBy x (judgedOf (planned zoneF a)) → r .refusal ≡ 0 → Plans deck r row
+  pub asked-kept : (row : List ℕ) → row ≡ rowOf fs → (r : DeckPlan) → r ≡ plannedBy x (judgedOf (planned zoneF a)) → r .answer .refusal ≡ 0 → Plans deck r row
   unfolding plan judgedOf _>>=_
   asked-kept row full r e z = record { numbers = numbers-are r e; held = go (planned zoneF a) refl }
     where
       go : (q : Answer Plan) → planned zoneF a ≡ q → HoldsFor deck (plan deck) (r .asked) row
       go (fine p) w =
-          let i : r .asked ≡ x = ap (λ (s : Planned). s .asked) (e ∙ ap (λ (z : Answer Plan). plannedBy x (judgedOf z)) w) in
+          let i : r .asked ≡ x = ap (λ (s : DeckPlan). s .asked) (e ∙ ap (λ (z : Answer Plan). plannedBy x (judgedOf z)) w) in
           subst (λ (z : Answer Plan). HoldsFor deck z (r .asked) row) (sym (is-planned ∙ w)) (subst (λ (y : Asked). Holds deck p y row) (sym i) (held row full p w))
-      go (refuse q) w = absurd (never-0 zoneF deck q (is-planned ∙ w) (sym (ap (λ (s : Planned). s .refusal) (e ∙ ap (λ (z : Answer Plan). plannedBy x (judgedOf z)) w)) ∙ z))
+      go (refuse q) w = absurd (never-0 zoneF deck q (is-planned ∙ w) (sym (ap (λ (s : DeckPlan). s .answer .refusal) (e ∙ ap (λ (z : Answer Plan). plannedBy x (judgedOf z)) w)) ∙ z))
 
   -- refused, and the row is cleared
-  pub asked-refused : (row : List ℕ) → row ≡ rowOf [] → (r : Planned) → r ≡ plannedBy x (judgedOf (planned zoneF a)) → (r .refusal ≡ 0 → ⊥) → Plans deck r row
+  pub asked-refused : (row : List ℕ) → row ≡ rowOf [] → (r : DeckPlan) → r ≡ plannedBy x (judgedOf (planned zoneF a)) → (r .answer .refusal ≡ 0 → ⊥) → Plans deck r row
   unfolding plan judgedOf _>>=_
   asked-refused row none r e n = record { numbers = numbers-are r e; held = go (planned zoneF a) refl }
     where
       go : (q : Answer Plan) → planned zoneF a ≡ q → HoldsFor deck (plan deck) (r .asked) row
-      go (fine p) w = absurd (n (ap (λ (s : Planned). s .refusal) (e ∙ ap (λ (z : Answer Plan). plannedBy x (judgedOf z)) w)))
+      go (fine p) w = absurd (n (ap (λ (s : DeckPlan). s .answer .refusal) (e ∙ ap (λ (z : Answer Plan). plannedBy x (judgedOf z)) w)))
       go (refuse q) w =
           subst (λ (z : Answer Plan). HoldsFor deck z (r .asked) row) (sym (is-planned ∙ w))
-          (ap (λ (s : Planned). s .asked) (e ∙ ap (λ (z : Answer Plan). plannedBy x (judgedOf z)) w), none)
+          (ap (λ (s : DeckPlan). s .asked) (e ∙ ap (λ (z : Answer Plan). plannedBy x (judgedOf z)) w), none)

@@ -36,34 +36,43 @@ use Rattle.rows.specs.Fair.{PlanFair}
 use Rattle.rows.proofs.RowLaws.{fields-back, flat-front, length-row}
 use Rattle.combinations.specs.Promise.{FieldsFair}
 use Rattle.combinations.proofs.CombineLaws.{asked-fair}
-use Rattle.plans.specs.Promise.{numbersIn, Holds, HoldsFor, Plans, onCard, tableOf, notFilled, filledFor}
+use Rattle.plans.specs.Promise.{plannedOf, numbersOf, refusedPlan, Holds, HoldsFor, Plans, onCard, tableOf, notFilled, filledFor}
+use Rattle.plans.specs.declared.DeckPlan.{DeckPlan}
 use Rattle.plans.specs.declared.Planned.{Planned}
-use Rattle.plans.specs.declared.Filled.{Filled}
+use Rattle.plans.specs.declared.TablePlan.{TablePlan}
 use Rattle.plans.proofs.DeckLaws.{row-fields}
 
 -- ---- what the numbers say
 
-module _ (deck : List ℕ) (r : Planned) (row : List ℕ) (w : Plans deck r row) where
+-- they say all that the rules answer
+pub plan-told : (x : PlanAnswer) → numbersOf (plannedOf x) ≡ x
+plan-told x = refl
+
+-- what is answered of a plan
+abbrev answered : Answer Plan → Planned
+answered x = plannedOf (planAnswer x)
+
+module _ (deck : List ℕ) (r : DeckPlan) (row : List ℕ) (w : Plans deck r row) where
   -- refused, with the number, the place and the column
-  pub refused-plan : (r .refusal ≡ 0 → ⊥)
-      → (q : Refusal) × (plan deck ≡ refuse q) × (r .refusal ≡ q .number) × (r .place ≡ q .place) × (r .column ≡ q .column)
+  pub refused-plan : (r .answer .refusal ≡ 0 → ⊥)
+      → (q : Refusal) × (plan deck ≡ refuse q) × (r .answer .refusal ≡ q .number) × (r .answer .place ≡ q .place) × (r .answer .column ≡ q .column)
   refused-plan h = go (plan deck) refl
     where
       go : (x : Answer Plan) → plan deck ≡ x
-          → (q : Refusal) × (plan deck ≡ refuse q) × (r .refusal ≡ q .number) × (r .place ≡ q .place) × (r .column ≡ q .column)
+          → (q : Refusal) × (plan deck ≡ refuse q) × (r .answer .refusal ≡ q .number) × (r .answer .place ≡ q .place) × (r .answer .column ≡ q .column)
       go (refuse q) e =
-          let n = w .numbers ∙ ap planAnswer e in
-          (q, e, ap (λ (n : PlanAnswer). n .refusal) n, ap (λ (n : PlanAnswer). n .place) n, ap (λ (n : PlanAnswer). n .column) n)
-      go (fine p) e = absurd (h (ap (λ (n : PlanAnswer). n .refusal) (w .numbers ∙ ap planAnswer e)))
+          let n = w .numbers ∙ ap answered e in
+          (q, e, ap (λ (n : Planned). n .refusal) n, ap (λ (n : Planned). n .place) n, ap (λ (n : Planned). n .column) n)
+      go (fine p) e = absurd (h (ap (λ (n : Planned). n .refusal) (w .numbers ∙ ap answered e)))
 
   -- accepted, with the plan's own numbers
-  pub accepted-plan : r .refusal ≡ 0 → (p : Plan) × (plan deck ≡ fine p) × (numbersIn r ≡ planAnswer (fine p)) × Holds deck p (r .asked) row
+  pub accepted-plan : r .answer .refusal ≡ 0 → (p : Plan) × (plan deck ≡ fine p) × (r .answer ≡ plannedOf (planAnswer (fine p))) × Holds deck p (r .asked) row
   unfolding plan
   accepted-plan z = go (plan deck) refl
     where
-      go : (x : Answer Plan) → plan deck ≡ x → (p : Plan) × (plan deck ≡ fine p) × (numbersIn r ≡ planAnswer (fine p)) × Holds deck p (r .asked) row
-      go (refuse q) e = absurd (never-0 zoneF deck q e (sym (ap (λ (n : PlanAnswer). n .refusal) (w .numbers ∙ ap planAnswer e)) ∙ z))
-      go (fine p) e = (p, e, w .numbers ∙ ap planAnswer e, subst (λ (x : Answer Plan). HoldsFor deck x (r .asked) row) e (w .held))
+      go : (x : Answer Plan) → plan deck ≡ x → (p : Plan) × (plan deck ≡ fine p) × (r .answer ≡ plannedOf (planAnswer (fine p))) × Holds deck p (r .asked) row
+      go (refuse q) e = absurd (never-0 zoneF deck q e (sym (ap (λ (n : Planned). n .refusal) (w .numbers ∙ ap answered e)) ∙ z))
+      go (fine p) e = (p, e, w .numbers ∙ ap answered e, subst (λ (x : Answer Plan). HoldsFor deck x (r .asked) row) e (w .held))
 
 -- ---- a field that counts through, on its card again
 
@@ -149,7 +158,7 @@ unfolding plan
 row-holds deck p e x row h = let few = accepted zoneF deck p e .few in (few, ap length (h .fields) ∙ length-row (p .fields) few)
 
 -- whatever is planned, the row has its 320 numbers
-pub plans-long : (deck : List ℕ) (r : Planned) (row : List ℕ) → Plans deck r row → length row ≡ 320
+pub plans-long : (deck : List ℕ) (r : DeckPlan) (row : List ℕ) → Plans deck r row → length row ≡ 320
 plans-long deck r row w = go (plan deck) refl (w .held)
   where
     go : (x : Answer Plan) → plan deck ≡ x → HoldsFor deck x (r .asked) row → length row ≡ 320
@@ -163,43 +172,41 @@ card-count deck p e = card-fields deck p e
 
 -- ---- what is filled in
 
-module _ (room : ℕ) (deck : List ℕ) (r : Planned) (row : List ℕ) (w : Plans deck r row) where
-  pub filled-refused : (r .refusal ≡ 0 → ⊥) → notFilled (r .refusal) (r .place) (r .column) ≡ filledFor deck (planInto room deck)
+module _ (room : ℕ) (deck : List ℕ) (r : DeckPlan) (row : List ℕ) (w : Plans deck r row) where
+  pub filled-refused : (r .answer .refusal ≡ 0 → ⊥) → notFilled (r .answer) ≡ filledFor deck (planInto room deck)
   filled-refused h =
       let s = refused-plan deck r row w h in
-      (λ i. notFilled (s .2 i) (s .3 i) (s .4 i)) ∙ ap (filledFor deck) (sym (into-refused room deck (s .0) (s .1)))
+      ap notFilled (w .numbers ∙ ap answered (s .1)) ∙ ap (filledFor deck) (sym (into-refused room deck (s .0) (s .1)))
 
-  module _ (z : r .refusal ≡ 0) where
-    many : let p = accepted-plan deck r row w z .0 in r .fields ≡ length (p .fields)
-    many = ap (λ (n : PlanAnswer). n .fields) (accepted-plan deck r row w z .2)
+  module _ (z : r .answer .refusal ≡ 0) where
+    many : let p = accepted-plan deck r row w z .0 in r .answer .fields ≡ length (p .fields)
+    many = ap (λ (n : Planned). n .fields) (accepted-plan deck r row w z .2)
 
-    pub filled-full : room < r .fields → notFilled 15 (r .fields) 0 ≡ filledFor deck (planInto room deck)
+    pub filled-full : room < r .answer .fields → notFilled (refusedPlan 15 (r .answer .fields) 0) ≡ filledFor deck (planInto room deck)
     filled-full l =
         let s = accepted-plan deck r row w z in
-        ap (λ (n : ℕ). notFilled 15 n 0) many ∙ ap (filledFor deck) (sym (into-full room deck (s .0) (s .1) (omega (arith, many))))
+        ap (λ (n : ℕ). notFilled (refusedPlan 15 n 0)) many ∙ ap (filledFor deck) (sym (into-full room deck (s .0) (s .1) (omega (arith, many))))
 
-    pub few-fields : 5 * r .fields ≤ 320
+    pub few-fields : 5 * r .answer .fields ≤ 320
     few-fields = let s = accepted-plan deck r row w z in omega (arith, many, row-holds deck (s .0) (s .1) (r .asked) row (s .3) .0)
 
     pub row-long : length row ≡ 320
     row-long = let s = accepted-plan deck r row w z in row-holds deck (s .0) (s .1) (r .asked) row (s .3) .1
 
-    pub fields-fair : FieldsFair (take (5 * r .fields) row)
-    fields-fair = let s = accepted-plan deck r row w z in fair-fields deck (s .0) (r .asked) row (s .3) (5 * r .fields) (ap (λ (n : ℕ). 5 * n) many) (s .1)
+    pub fields-fair : FieldsFair (take (5 * r .answer .fields) row)
+    fields-fair = let s = accepted-plan deck r row w z in fair-fields deck (s .0) (r .asked) row (s .3) (5 * r .answer .fields) (ap (λ (n : ℕ). 5 * n) many) (s .1)
 
-    pub filled-whole : r .fields ≤ room → (table : List Entry) → table ≡ tableOf (map (onCard (r .asked .key)) (fieldsIn (take (5 * r .fields) row)))
-        → _≡_ {A = Filled}
-        (record { refusal = 0; place = 0; column = 0; keeping = r .keeping; lost = r .lost; fields = r .fields; entries = table; store = r .fields })
-        (filledFor deck (planInto room deck))
+    pub filled-whole : r .answer .fields ≤ room → (table : List Entry) → table ≡ tableOf (map (onCard (r .asked .key)) (fieldsIn (take (5 * r .answer .fields) row)))
+        → _≡_ {A = TablePlan} (record { answer = r .answer; entries = table; store = r .answer .fields }) (filledFor deck (planInto room deck))
     filled-whole l table t =
         let s = accepted-plan deck r row w z in
         let n = s .2 in
         let all = ap (λ (n : ℕ). 5 * n) many in
         let e : table ≡ tableOf (cardFields (askedOf deck))
-        = t ∙ ap (λ (fs : List RuleField). tableOf (map (onCard (r .asked .key)) fs)) (fields-are deck (s .0) (r .asked) row (s .3) (5 * r .fields) all)
-        ∙ ap tableOf (cards-are deck (s .0) (r .asked) row (s .3) (5 * r .fields) all (s .1)) in
+        = t ∙ ap (λ (fs : List RuleField). tableOf (map (onCard (r .asked .key)) fs)) (fields-are deck (s .0) (r .asked) row (s .3) (5 * r .answer .fields) all)
+        ∙ ap tableOf (cards-are deck (s .0) (r .asked) row (s .3) (5 * r .answer .fields) all (s .1)) in
         let c : length (s .0 .fields) ≡ length (cardFields (askedOf deck)) = sym (card-count deck (s .0) (s .1)) in
-        (λ i. record { refusal = 0; place = 0; column = 0; keeping = n i .keeping; lost = n i .lost; fields = n i .fields; entries = e i; store = (many ∙ c) i })
+        (λ i. record { answer = n i; entries = e i; store = (many ∙ c) i })
         ∙ ap (filledFor deck) (sym (into-fits room deck (s .0) (s .1) (omega (arith, many))))
 
 -- ---- the lent table

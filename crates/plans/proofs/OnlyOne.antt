@@ -14,8 +14,8 @@ use Rattle.cards.specs.Promise.{Reads, DeckSays}
 use Rattle.cards.specs.declared.DeckRead.{DeckRead}
 use Rattle.cards.proofs.PromiseLaws.{only-one as read-once}
 use Rattle.plans.specs.Promise.{Holds, HoldsFor, Plans, filledFor}
-use Rattle.plans.specs.declared.Planned.{Planned}
-use Rattle.plans.specs.declared.Filled.{Filled}
+use Rattle.plans.specs.declared.DeckPlan.{DeckPlan}
+use Rattle.plans.specs.declared.TablePlan.{TablePlan}
 use Rattle.plans.proofs.DeckLaws.{row-fields}
 
 -- ---- of a plan
@@ -38,11 +38,11 @@ module _ (deck : List ℕ) (p : Plan) (e : plan deck ≡ fine p) where
       let w = read-once deck _ _ one other (held-read x one h) (held-read y other k) in
       (ap (λ (d : DeckRead). d .asked) (w .0), w .1)
 
-pub only-one : (deck : List ℕ) (r s : Planned) (one other : List ℕ) → Plans deck r one → Plans deck s other → (r ≡ s) × (one ≡ other)
+pub only-one : (deck : List ℕ) (r s : DeckPlan) (one other : List ℕ) → Plans deck r one → Plans deck s other → (r ≡ s) × (one ≡ other)
 only-one deck r s one other w v =
     let n = w .numbers ∙ sym (v .numbers) in
     let a = go (plan deck) refl (w .held) (v .held) in
-    (λ i. record { refusal = n i .refusal; place = n i .place; column = n i .column; keeping = n i .keeping; lost = n i .lost; fields = n i .fields; asked = a .0 i }, a .1)
+    (λ i. record { answer = n i; asked = a .0 i }, a .1)
   where
     go : (x : Answer Plan) → plan deck ≡ x → HoldsFor deck x (r .asked) one → HoldsFor deck x (s .asked) other → (r .asked ≡ s .asked) × (one ≡ other)
     go (fine p) e h k = held-once deck p e (r .asked) (s .asked) one other h k
@@ -50,5 +50,5 @@ only-one deck r s one other w v =
 
 -- ---- of a table
 
-pub only-one-filled : (room : ℕ) (deck : List ℕ) (r s : Filled) → r ≡ filledFor deck (planInto room deck) → s ≡ filledFor deck (planInto room deck) → r ≡ s
+pub only-one-filled : (room : ℕ) (deck : List ℕ) (r s : TablePlan) → r ≡ filledFor deck (planInto room deck) → s ≡ filledFor deck (planInto room deck) → r ≡ s
 only-one-filled room deck r s e q = e ∙ sym q

@@ -14,8 +14,8 @@ use Rattle.cards.specs.Promise.{Accepts, DeckSays}
 use Rattle.cards.proofs.PromiseLaws.{accepted, refused-as}
 use Rattle.cards.specs.declared.DeckRead.{DeckRead}
 use Rattle.judges.specs.Promise.{Asks}
-use Rattle.plans.specs.Promise.{refusedWith, Verdicts, Plans}
-use Rattle.plans.specs.declared.Planned.{Planned}
+use Rattle.plans.specs.Promise.{refusedDeck, Verdicts, Plans}
+use Rattle.plans.specs.declared.DeckPlan.{DeckPlan}
 use Rattle.plans.proofs.DeckLaws.{refused-deck, says, judgeable, asked-kept, asked-refused}
 
 -- the numbers that the row begins with are those of the fields
@@ -23,7 +23,7 @@ front : (d : DeckRead) (row : List ℕ) (a : RuleAsked) → Accepts d row a → 
 front d row a h = ap (take (5 * d .asked .count)) (h .fields) ∙ flat-front (laidFields a) (5 * d .asked .count) (ap (λ (n : ℕ). 5 * n) (many-laid (d .asked) a (h .means)))
 
 module _ (deck : List ℕ) (d : DeckRead) (row : List ℕ) (reads-of : DeckSays deck d row) where
-  pub refused-read : (d .refusal ≡ 0 → ⊥) → Plans deck (refusedWith (d .refusal) (d .place) (d .column)) row
+  pub refused-read : (d .refusal ≡ 0 → ⊥) → Plans deck (refusedDeck (d .refusal) (d .place) (d .column)) row
   refused-read h = refused-deck deck (record { number = d .refusal; place = d .place; column = d .column }) row (refused-as deck d row (reads-of .reads) h) (reads-of .none h)
 
   module _ (z : d .refusal ≡ 0) where
@@ -42,12 +42,12 @@ module _ (deck : List ℕ) (d : DeckRead) (row : List ℕ) (reads-of : DeckSays 
     pub judgeable-read : Asks (d .asked) (take (5 * d .asked .count) row)
     judgeable-read = judgeable deck asks (accepted deck d row (reads-of .reads) z .1) (d .asked) (reads .means) (take (5 * d .asked .count) row) (front d row asks reads)
 
-    module _ (r : Planned) (v : Verdicts (d .asked) (take (5 * d .asked .count) row) r) where
-      pub kept-read : r .refusal ≡ 0 → Plans deck r row
+    module _ (r : DeckPlan) (v : Verdicts (d .asked) (take (5 * d .asked .count) row) r) where
+      pub kept-read : r .answer .refusal ≡ 0 → Plans deck r row
       unfolding Verdicts
       kept-read q = asked-kept deck asks (accepted deck d row (reads-of .reads) z .1) (d .asked) (reads .means) row (reads .fields) r (v asks (says deck asks (accepted deck d row (reads-of .reads) z .1) (d .asked) (reads .means) _ (front d row asks reads))) q
 
       -- where the plan is refused the row is cleared
-      pub cleared-read : (none : List ℕ) → none ≡ rowOf [] → (r .refusal ≡ 0 → ⊥) → Plans deck r none
+      pub cleared-read : (none : List ℕ) → none ≡ rowOf [] → (r .answer .refusal ≡ 0 → ⊥) → Plans deck r none
       unfolding Verdicts
       cleared-read none e n = asked-refused deck asks (accepted deck d row (reads-of .reads) z .1) (d .asked) (reads .means) none e r (v asks (says deck asks (accepted deck d row (reads-of .reads) z .1) (d .asked) (reads .means) _ (front d row asks reads))) n

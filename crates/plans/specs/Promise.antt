@@ -17,28 +17,37 @@ use Rattle.terms.specs.declared.Entry.{Entry}
 use Rattle.rows.specs.Kept.{rowOf}
 use Rattle.cards.specs.Promise.{nothingAsked}
 use Rattle.judges.specs.Promise.{planned, judgedOf, Says}
+use Rattle.plans.specs.declared.DeckPlan.{DeckPlan}
 use Rattle.plans.specs.declared.Planned.{Planned}
-use Rattle.plans.specs.declared.Filled.{Filled}
+use Rattle.plans.specs.declared.TablePlan.{TablePlan}
+
+-- ---- the six numbers
+
+-- the struct that says what the rules say, and what it says
+abbrev pub plannedOf : PlanAnswer → Planned
+plannedOf n = record { refusal = n .refusal; place = n .place; column = n .column; keeping = n .keeping; lost = n .lost; fields = n .fields }
+
+abbrev pub numbersOf : Planned → PlanAnswer
+numbersOf r = record { refusal = r .refusal; place = r .place; column = r .column; keeping = r .keeping; lost = r .lost; fields = r .fields }
+
+abbrev pub refusedPlan : ℕ → ℕ → ℕ → Planned
+refusedPlan number place column = record { refusal = number; place = place; column = column; keeping = 0; lost = 0; fields = 0 }
 
 -- ---- the plan of a deck
 
-abbrev pub refusedWith : ℕ → ℕ → ℕ → Planned
-refusedWith number place column = record { refusal = number; place = place; column = column; keeping = 0; lost = 0; fields = 0; asked = nothingAsked }
+abbrev pub refusedDeck : ℕ → ℕ → ℕ → DeckPlan
+refusedDeck number place column = record { answer = refusedPlan number place column; asked = nothingAsked }
 
-abbrev pub keptAs : Asked → ℕ → ℕ → Planned
-keptAs x keeping lost = record { refusal = 0; place = 0; column = 0; keeping = keeping; lost = lost; fields = x .count; asked = x }
+abbrev pub keptAs : Asked → ℕ → ℕ → DeckPlan
+keptAs x keeping lost = record { answer = record { refusal = 0; place = 0; column = 0; keeping = keeping; lost = lost; fields = x .count }; asked = x }
 
 -- the verdict on what a deck asks for, with the plan: its refusal, or the mark of keeping and the lost place
-abbrev pub plannedBy : Asked → Answer (ℕ × ℕ) → Planned
+abbrev pub plannedBy : Asked → Answer (ℕ × ℕ) → DeckPlan
 plannedBy x (fine n) = keptAs x (n .0) (n .1)
-plannedBy x (refuse r) = refusedWith (r .number) (r .place) (r .column)
+plannedBy x (refuse r) = refusedDeck (r .number) (r .place) (r .column)
 
-unfoldable pub Verdicts : Asked → List ℕ → Planned → Type 0
+unfoldable pub Verdicts : Asked → List ℕ → DeckPlan → Type 0
 Verdicts x row r = (a : RuleAsked) → Says x row a → r ≡ plannedBy x (judgedOf (planned zoneF a))
-
--- the six numbers
-abbrev pub numbersIn : Planned → PlanAnswer
-numbersIn r = record { refusal = r .refusal; place = r .place; column = r .column; keeping = r .keeping; lost = r .lost; fields = r .fields }
 
 -- the struct and the row hold the plan p of the deck: they say just what the deck asks for
 pub record Holds (deck : List ℕ) (p : Plan) (x : Asked) (row : List ℕ) : Type 0 where
@@ -52,12 +61,12 @@ abbrev pub HoldsFor : List ℕ → Answer Plan → Asked → List ℕ → Type 0
 HoldsFor deck (fine p) x row = Holds deck p x row
 HoldsFor deck (refuse r) x row = (x ≡ nothingAsked) × (row ≡ rowOf [])
 
-pub record Plans (deck : List ℕ) (r : Planned) (row : List ℕ) : Type 0 where
-  pub numbers : numbersIn r ≡ planAnswer (plan deck)
+pub record Plans (deck : List ℕ) (r : DeckPlan) (row : List ℕ) : Type 0 where
+  pub numbers : r .answer ≡ plannedOf (planAnswer (plan deck))
   pub held : HoldsFor deck (plan deck) (r .asked) row
 
 -- it is the plan of some deck
-pub record OfDeck (r : Planned) (row : List ℕ) : Type 0 where
+pub record OfDeck (r : DeckPlan) (row : List ℕ) : Type 0 where
   pub deck : List ℕ
   pub plans : Plans deck r row
 
@@ -78,26 +87,16 @@ unfoldable pub tableOf : List CardField → List Entry
 tableOf fs = map entryFor (map entryOf fs) ++ replicate (64 - length fs) noEntry
 
 -- the numbers, and so many entries to store
-abbrev pub filledWith : PlanAnswer → List CardField → Filled
-filledWith n fs =
-    record {
-      refusal = n .refusal;
-      place = n .place;
-      column = n .column;
-      keeping = n .keeping;
-      lost = n .lost;
-      fields = n .fields;
-      entries = tableOf fs;
-      store = length fs;
-    }
+abbrev pub filledWith : Planned → List CardField → TablePlan
+filledWith r fs = record { answer = r; entries = tableOf fs; store = length fs }
 
-abbrev pub notFilled : ℕ → ℕ → ℕ → Filled
-notFilled number place column = filledWith (record { refusal = number; place = place; column = column; keeping = 0; lost = 0; fields = 0 }) []
+abbrev pub notFilled : Planned → TablePlan
+notFilled r = filledWith r []
 
 -- the fields that are stored
 abbrev pub stored : List ℕ → Answer Plan → List CardField
 stored deck (fine p) = cardFields (askedOf deck)
 stored deck (refuse r) = []
 
-abbrev pub filledFor : List ℕ → Answer Plan → Filled
-filledFor deck x = filledWith (planAnswer x) (stored deck x)
+abbrev pub filledFor : List ℕ → Answer Plan → TablePlan
+filledFor deck x = filledWith (plannedOf (planAnswer x)) (stored deck x)

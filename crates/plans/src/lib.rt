@@ -12,11 +12,10 @@ ghost use Rattle.terms.specs.Meaning.{fieldOf, entryFor};
 ghost use Rattle.rows.specs.Kept.{fieldsIn, rowOf};
 ghost use Rattle.combinations.specs.Promise.{FieldFair, FieldsFair};
 ghost use Rattle.judges.specs.Promise.{Asks};
-ghost use Rattle.plans.specs.Promise.{refusedWith, keptAs, Verdicts, Plans, OfDeck, partAt, placeAt, onCard, tableOf, notFilled, filledFor};
+ghost use Rattle.plans.specs.Promise.{refusedPlan, refusedDeck, keptAs, Verdicts, Plans, OfDeck, partAt, placeAt, onCard, tableOf, notFilled, filledFor};
 
-// ---- the plan of a deck
-
-// What a plan answers, and the plan but for its fields, which stand in a row: what the deck asks for, or nothing where it is refused.
+// What a plan answers: refusal, place, column, 1 for keeping or 0, lost place or 0, field count. In C it lies as it stands here.
+#[repr(C)]
 pub struct Planned {
     pub refusal: usize,
     pub place: usize,
@@ -24,14 +23,12 @@ pub struct Planned {
     pub keeping: usize,
     pub lost: usize,
     pub fields: usize,
-    pub asked: Asked,
 }
 
 // Refused, the others are 0.
 fn refused(number: usize, place: usize, column: usize) -> Planned
-    ensures { λ r. ⌜ r ≡ refusedWith number place column ⌝ }
+    ensures { λ r. ⌜ r ≡ refusedPlan number place column ⌝ }
 {
-    let asked = cards::nothing_asked();
     Planned {
         refusal: number,
         place,
@@ -39,26 +36,41 @@ fn refused(number: usize, place: usize, column: usize) -> Planned
         keeping: 0,
         lost: 0,
         fields: 0,
-        asked,
     }
 }
 
-fn accepted(asked: Asked, keeping: usize, lost: usize) -> Planned
+// ---- the plan of a deck
+
+// What a plan answers, and the plan but for its fields, which stand in a row: what the deck asks for, or nothing where it is refused.
+pub struct DeckPlan {
+    pub answer: Planned,
+    pub asked: Asked,
+}
+
+fn refused_deck(number: usize, place: usize, column: usize) -> DeckPlan
+    ensures { λ r. ⌜ r ≡ refusedDeck number place column ⌝ }
+{
+    let answer = refused(number, place, column);
+    let asked = cards::nothing_asked();
+    DeckPlan { answer, asked }
+}
+
+fn accepted(asked: Asked, keeping: usize, lost: usize) -> DeckPlan
     ensures { λ r. ⌜ r ≡ keptAs asked keeping lost ⌝ }
 {
-    Planned {
+    let answer = Planned {
         refusal: 0,
         place: 0,
         column: 0,
         keeping,
         lost,
         fields: asked.count,
-        asked,
-    }
+    };
+    DeckPlan { answer, asked }
 }
 
 // What the cards ask for, judged. No byte of a card is at fault for 8 to 10, so these have no column.
-fn judged(asked: Asked, row: &[u16]) -> Planned
+fn judged(asked: Asked, row: &[u16]) -> DeckPlan
     requires { ⌜ 5 * asked .count ≤ length (now row) ⌝ }
     requires { ⌜ Asks asked (take (5 * asked .count) (now row)) ⌝ }
     ensures { λ r. ⌜ Verdicts asked (take (5 * asked .count) (now (row .entry))) r ⌝ }
@@ -66,27 +78,27 @@ fn judged(asked: Asked, row: &[u16]) -> Planned
     let end = 5 * asked.count;
     let verdict = judges::judge(asked, &row[..end]);
     match verdict {
-        Verdict::Refused { number, place } => refused(number, place, 0),
+        Verdict::Refused { number, place } => refused_deck(number, place, 0),
         Verdict::Keeping => accepted(asked, 1, 0),
         Verdict::Losing { half } => accepted(asked, 0, half),
     }
 }
 
 // The plan of a deck. Its fields go into the lent row, which holds none before; a refused deck leaves none in it.
-pub fn plan_deck(deck: &[u8], row: &mut [u16; 320]) -> Planned
+pub fn plan_deck(deck: &[u8], row: &mut [u16; 320]) -> DeckPlan
     requires { ⌜ now row ≡ rowOf [] ⌝ }
     ensures { λ r. ⌜ Plans (now (deck .entry)) r (now (row .exit)) ⌝ }
 {
     let read = cards::read_deck(deck, row);
     if read.refusal != 0 {
-        return refused(read.refusal, read.place, read.column);
+        return refused_deck(read.refusal, read.place, read.column);
     }
     let asked = read.asked;
-    let answer = judged(asked, row);
-    if answer.refusal != 0 {
+    let plan = judged(asked, row);
+    if plan.answer.refusal != 0 {
         rows::clear(row);
     }
-    answer
+    plan
 }
 
 // ---- entries
@@ -159,64 +171,50 @@ fn entries(fields: &[u16], key: usize) -> [Entry; 64]
 // ---- the plan for a lent table
 
 // What a plan answers, and the entries for a lent table: so many of them are to be stored, none where the deck is refused.
-pub struct Filled {
-    pub refusal: usize,
-    pub place: usize,
-    pub column: usize,
-    pub keeping: usize,
-    pub lost: usize,
-    pub fields: usize,
+pub struct TablePlan {
+    pub answer: Planned,
     pub entries: [Entry; 64],
     pub store: usize,
 }
 
-fn not_filled(number: usize, place: usize, column: usize) -> Filled
-    ensures { λ r. ⌜ r ≡ notFilled number place column ⌝ }
+fn not_filled(answer: Planned) -> TablePlan
+    ensures { λ r. ⌜ r ≡ notFilled answer ⌝ }
 {
     let entries = no_entries();
-    Filled {
-        refusal: number,
-        place,
-        column,
-        keeping: 0,
-        lost: 0,
-        fields: 0,
+    TablePlan {
+        answer,
         entries,
         store: 0,
     }
 }
 
 // Refusal 15: the table has fewer entries than the plan has fields.
-fn filled_by(planned: Planned, row: &[u16], room: usize) -> Filled
-    requires { ⌜ OfDeck planned (now row) ⌝ }
-    ensures { λ r. ⌜ ((deck : List ℕ) → Plans deck planned (now (row .entry)) → r ≡ filledFor deck (planInto room deck)) ⌝ }
+fn filled_by(plan: DeckPlan, row: &[u16], room: usize) -> TablePlan
+    requires { ⌜ OfDeck plan (now row) ⌝ }
+    ensures { λ r. ⌜ ((deck : List ℕ) → Plans deck plan (now (row .entry)) → r ≡ filledFor deck (planInto room deck)) ⌝ }
 {
-    if planned.refusal != 0 {
-        return not_filled(planned.refusal, planned.place, planned.column);
+    let answer = plan.answer;
+    if answer.refusal != 0 {
+        return not_filled(answer);
     }
-    let count = planned.fields;
+    let count = answer.fields;
     if room < count {
-        return not_filled(15, count, 0);
+        return not_filled(refused(15, count, 0));
     }
     let end = 5 * count;
-    let table = entries(&row[..end], planned.asked.key);
-    Filled {
-        refusal: 0,
-        place: 0,
-        column: 0,
-        keeping: planned.keeping,
-        lost: planned.lost,
-        fields: count,
+    let table = entries(&row[..end], plan.asked.key);
+    TablePlan {
+        answer,
         entries: table,
         store: count,
     }
 }
 
 // The plan of a deck for a table of so many entries.
-pub fn plan_for(deck: &[u8], room: usize) -> Filled
+pub fn plan_for(deck: &[u8], room: usize) -> TablePlan
     ensures { λ r. ⌜ r ≡ filledFor (now (deck .entry)) (planInto room (now (deck .entry))) ⌝ }
 {
     let mut row = [0u16; 320];
-    let planned = plan_deck(deck, &mut row);
-    filled_by(planned, &row, room)
+    let plan = plan_deck(deck, &mut row);
+    filled_by(plan, &row, room)
 }

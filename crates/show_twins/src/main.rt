@@ -105,7 +105,7 @@ fn show_twins(deck: &[u8], records: &[u8], reel: &[u8]) {
     }
     let mut row = [0u16; 320];
     let plan = plans::plan_deck(deck, &mut row);
-    if plan.refusal == 0 {
+    if plan.answer.refusal == 0 {
         let asked = plan.asked;
         let both = room::front(&room, twins.length);
         let end = 5 * asked.count;
@@ -114,7 +114,7 @@ fn show_twins(deck: &[u8], records: &[u8], reel: &[u8]) {
             asked,
             &row[..end],
             twins.reason,
-            plan.lost,
+            plan.answer.lost,
             both,
             records,
             reel,

@@ -12,7 +12,7 @@ use borrow.Author.Tests.{eqb-true, eqb-false, eq-eqb, ne-eqb, le-leb, lt-leb}
 use Rattle.rules.specs.Answer.{Answer, fine, refuse, refusedAt, _>>=_, _>>_, unless}
 use Rattle.rules.specs.Halves.{bytes}
 use Rattle.rules.specs.Permitted.{permitted, choices}
-use Rattle.rules.specs.Plan.{Plan, PlanAnswer, planAnswer, bit, recordLength, inputHalves, allowed, lostAt, keeps}
+use Rattle.rules.specs.Plan.{Plan, planAnswer, bit, recordLength, inputHalves, allowed, lostAt, keeps}
 use Rattle.rules.specs.Rows.{FieldWithin, Inside}
 use Rattle.rules.specs.Lent.{zoneF, plan}
 use Rattle.rules.specs.Twins.{listed, lowest, second, raised, firstTwin, secondTwin, twins, reasonBy, reason, Shown, shown, twinsInto, TwinsAnswer, twinsAnswer, twinsAfter}
@@ -35,7 +35,8 @@ use Rattle.rows.proofs.RowLaws.{many-in, field-in}
 use Rattle.keeping.specs.Promise.{Fair}
 use Rattle.keeping.proofs.PlanLaws.{fair-field}
 use Rattle.keeping.proofs.Weighs.{fair-longest}
-use Rattle.plans.specs.Promise.{numbersIn, Holds, Plans}
+use Rattle.plans.specs.Promise.{plannedOf, Holds, Plans}
+use Rattle.plans.specs.declared.DeckPlan.{DeckPlan}
 use Rattle.plans.specs.declared.Planned.{Planned}
 use Rattle.plans.proofs.FilledLaws.{refused-plan, accepted-plan, plan-is, plan-fair, row-holds}
 use Rattle.twins.specs.Promise.{raisedIn, Values, neededFor, recordsIn, WrittenInto, Loses, twinsOf, twinsNumbers, refusedTwins, fitting, ShownInto, TwinsWritten}
@@ -165,7 +166,7 @@ module _ (x : Asked) (row : List ℕ) (fair : PlanFair x row) where
 
 -- ---- a deck
 
-module _ (deck before : List ℕ) (r : Planned) (row : List ℕ) (w : Plans deck r row) where
+module _ (deck before : List ℕ) (r : DeckPlan) (row : List ℕ) (w : Plans deck r row) where
   planned : (x : Answer Plan) → plan deck ≡ x
       → twinsInto (length before) deck ≡ (x >>= λ p. unless (not (keeps p)) 16 0 >> (unless (leb (length (twins p)) (length before)) 15 (length (twins p)) >> fine (shown p)))
   unfolding twinsInto
@@ -174,14 +175,14 @@ module _ (deck before : List ℕ) (r : Planned) (row : List ℕ) (w : Plans deck
   into-of : (x : Answer Shown) → twinsInto (length before) deck ≡ x → (t : Twins) (after : List ℕ) → t ≡ twinsOf (twinsAnswer x) → after ≡ twinsAfter before x → TwinsWritten deck before t after
   into-of x e t after a o = record { answer = a ∙ ap (λ (y : Answer Shown). twinsOf (twinsAnswer y)) (sym e); output = o ∙ ap (twinsAfter before) (sym e) }
 
-  pub twins-refused : (r .refusal ≡ 0 → ⊥) → TwinsWritten deck before (refusedTwins (r .refusal) (r .place) (r .column)) before
+  pub twins-refused : (r .answer .refusal ≡ 0 → ⊥) → TwinsWritten deck before (refusedTwins (r .answer .refusal) (r .answer .place) (r .answer .column)) before
   unfolding _>>=_
   twins-refused h =
       let q = refused-plan deck r row w h in
       into-of (refuse (q .0)) (planned (refuse (q .0)) (q .1)) _ before (λ i. refusedTwins (q .2 i) (q .3 i) (q .4 i)) refl
 
-  module _ (z : r .refusal ≡ 0) where
-    made : (p : Plan) × (plan deck ≡ fine p) × (numbersIn r ≡ planAnswer (fine p)) × Holds deck p (r .asked) row
+  module _ (z : r .answer .refusal ≡ 0) where
+    made : (p : Plan) × (plan deck ≡ fine p) × (r .answer ≡ plannedOf (planAnswer (fine p))) × Holds deck p (r .asked) row
     made = accepted-plan deck r row w z
 
     -- the numbers of its fields, at most 320, stand at the front of the row
@@ -197,22 +198,22 @@ module _ (deck before : List ℕ) (r : Planned) (row : List ℕ) (w : Plans deck
     pub fair-plan : PlanFair (r .asked) (take (5 * r .asked .count) row)
     fair-plan = plan-fair deck (made .0) (r .asked) row (made .3) (5 * r .asked .count) all-fields (made .1)
 
-    pub twins-kept : (r .keeping ≡ 0 → ⊥) → TwinsWritten deck before (refusedTwins 16 0 0) before
+    pub twins-kept : (r .answer .keeping ≡ 0 → ⊥) → TwinsWritten deck before (refusedTwins 16 0 0) before
     unfolding _>>=_ unless _>>_
     twins-kept h = go (keeps (made .0)) refl
       where
         go : (k : Bool) → keeps (made .0) ≡ k → TwinsWritten deck before (refusedTwins 16 0 0) before
         go true k = into-of (refusedAt 16 0 0) (planned (fine (made .0)) (made .1) ∙ rw k refl) _ before refl refl
-        go false k = absurd (h (ap (λ (a : PlanAnswer). a .keeping) (made .2) ∙ ap bit k))
+        go false k = absurd (h (ap (λ (a : Planned). a .keeping) (made .2) ∙ ap bit k))
 
-    pub loses-of : r .keeping ≡ 0 → Loses (planIn zoneF (r .asked) (fieldsIn (take (5 * r .asked .count) row))) (r .lost)
-    loses-of e = subst (λ (q : Plan). Loses q (r .lost)) (sym is) (go (keeps (made .0)) refl)
+    pub loses-of : r .answer .keeping ≡ 0 → Loses (planIn zoneF (r .asked) (fieldsIn (take (5 * r .asked .count) row))) (r .answer .lost)
+    loses-of e = subst (λ (q : Plan). Loses q (r .answer .lost)) (sym is) (go (keeps (made .0)) refl)
       where
-        go : (k : Bool) → keeps (made .0) ≡ k → Loses (made .0) (r .lost)
-        go true k = absurd (omega (arith, sym (ap (λ (a : PlanAnswer). a .keeping) (made .2) ∙ ap bit k) ∙ e))
-        go false k = record { loses = k; place = ap (λ (a : PlanAnswer). a .lost) (made .2) ∙ ap (λ (b : Bool). cond b 0 (lostAt (made .0))) k }
+        go : (k : Bool) → keeps (made .0) ≡ k → Loses (made .0) (r .answer .lost)
+        go true k = absurd (omega (arith, sym (ap (λ (a : Planned). a .keeping) (made .2) ∙ ap bit k) ∙ e))
+        go false k = record { loses = k; place = ap (λ (a : Planned). a .lost) (made .2) ∙ ap (λ (b : Bool). cond b 0 (lostAt (made .0))) k }
 
-    pub twins-shown : r .keeping ≡ 0 → (t : Twins) (after : List ℕ) → ShownInto (planIn zoneF (r .asked) (fieldsIn (take (5 * r .asked .count) row))) before t after → TwinsWritten deck before t after
+    pub twins-shown : r .answer .keeping ≡ 0 → (t : Twins) (after : List ℕ) → ShownInto (planIn zoneF (r .asked) (fieldsIn (take (5 * r .asked .count) row))) before t after → TwinsWritten deck before t after
     unfolding _>>=_ unless _>>_ fitting
     twins-shown e t after s =
         let k = loses-of e .loses in

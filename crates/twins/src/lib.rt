@@ -192,13 +192,13 @@ pub fn twins_of(deck: &[u8], out: &mut [u8]) -> Twins
 {
     let mut row = [0u16; 320];
     let p = plans::plan_deck(deck, &mut row);
-    if p.refusal != 0 {
-        return refused(p.refusal, p.place, p.column);
+    if p.answer.refusal != 0 {
+        return refused(p.answer.refusal, p.answer.place, p.answer.column);
     }
-    if p.keeping != 0 {
+    if p.answer.keeping != 0 {
         return refused(16, 0, 0);
     }
     let asked = p.asked;
     let end = 5 * asked.count;
-    show(asked, &row[..end], p.lost, out)
+    show(asked, &row[..end], p.answer.lost, out)
 }

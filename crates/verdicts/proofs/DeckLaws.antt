@@ -24,7 +24,7 @@ use Rattle.cards.specs.Promise.{DeckSays}
 use Rattle.cards.specs.declared.DeckRead.{DeckRead}
 use Rattle.cards.proofs.PromiseLaws.{accepted, refused-as}
 use Rattle.plans.specs.Promise.{Plans}
-use Rattle.plans.specs.declared.Planned.{Planned}
+use Rattle.plans.specs.declared.DeckPlan.{DeckPlan}
 use Rattle.plans.proofs.FilledLaws.{refused-plan, accepted-plan, plan-is, plan-fair, row-holds}
 use Rattle.verdicts.specs.declared.Judged.{Judged}
 use Rattle.verdicts.specs.Promise.{judgedOf, judgeNumbers, refusedWith, toldAs, Spanning, NotJudged}
@@ -63,23 +63,23 @@ pub refused-as-planned : (deck : List ℕ) (refusal place column : ℕ) (r : Jud
     → NotJudged deck refusal place column r
 refused-as-planned deck refusal place column r t e = record { is = e ∙ sym (ap (λ (b : Bool). cond b (refusedWith 8 1 0) (refusedWith refusal place column)) t) }
 
-module _ (deck : List ℕ) (r : Planned) (row : List ℕ) (w : Plans deck r row) (ours theirs : List ℕ) where
-  pub deck-refused : (r .refusal ≡ 0 → ⊥) → (j : Judged) → NotJudged deck (r .refusal) (r .place) (r .column) j → j ≡ judgedOf (judgeAnswer (judge deck ours theirs))
+module _ (deck : List ℕ) (r : DeckPlan) (row : List ℕ) (w : Plans deck r row) (ours theirs : List ℕ) where
+  pub deck-refused : (r .answer .refusal ≡ 0 → ⊥) → (j : Judged) → NotJudged deck (r .answer .refusal) (r .answer .place) (r .answer .column) j → j ≡ judgedOf (judgeAnswer (judge deck ours theirs))
   unfolding judge plan _>>=_
   deck-refused h j n = go (copiesBlocks (askedOf deck)) refl
     where
       go : (t : Bool) → copiesBlocks (askedOf deck) ≡ t → j ≡ judgedOf (judgeAnswer (judge deck ours theirs))
       go true t =
-          n .is ∙ ap (λ (b : Bool). cond b (refusedWith 8 1 0) (refusedWith (r .refusal) (r .place) (r .column))) t
+          n .is ∙ ap (λ (b : Bool). cond b (refusedWith 8 1 0) (refusedWith (r .answer .refusal) (r .answer .place) (r .answer .column))) t
           ∙ ap (λ (x : Answer ℕ). judgedOf (judgeAnswer x)) (sym (deck-copies zoneF deck ours theirs t))
       go false t =
           let q = refused-plan deck r row w h in
           let is : judgeOf zoneF deck ours theirs ≡ refuse (q .0) = deck-fills zoneF deck ours theirs t ∙ ap (λ (x : Answer Plan). x >>= λ p. judgement p ours theirs) (q .1) in
-          n .is ∙ ap (λ (b : Bool). cond b (refusedWith 8 1 0) (refusedWith (r .refusal) (r .place) (r .column))) t
+          n .is ∙ ap (λ (b : Bool). cond b (refusedWith 8 1 0) (refusedWith (r .answer .refusal) (r .answer .place) (r .answer .column))) t
           ∙ (λ i. refusedWith (q .2 i) (q .3 i) (q .4 i))
           ∙ ap (λ (x : Answer ℕ). judgedOf (judgeAnswer x)) (sym is)
 
-  module _ (z : r .refusal ≡ 0) where
+  module _ (z : r .answer .refusal ≡ 0) where
     abbrev end : ℕ
     end = 5 * r .asked .count
 

@@ -181,11 +181,16 @@ pub fn judge_deck(deck: &[u8], ours: &[u8], theirs: &[u8]) -> Judged
     ensures { λ r. ⌜ r ≡ judgedOf (judgeAnswer (judge (now (deck .entry)) (now (ours .entry)) (now (theirs .entry)))) ⌝ }
 {
     let mut row = [0u16; 320];
-    let planned = plans::plan_deck(deck, &mut row);
-    if planned.refusal != 0 {
-        return refused_deck(deck, planned.refusal, planned.place, planned.column);
+    let plan = plans::plan_deck(deck, &mut row);
+    if plan.answer.refusal != 0 {
+        return refused_deck(
+            deck,
+            plan.answer.refusal,
+            plan.answer.place,
+            plan.answer.column,
+        );
     }
-    let asked = planned.asked;
+    let asked = plan.asked;
     let mode = asked.mode;
     if !fills(mode) {
         return refused(8, 1, 0);

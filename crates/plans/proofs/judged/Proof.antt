@@ -21,8 +21,8 @@ judge-requires c κs = c .before .before .before .pre .1
 enum-known-verdict : tie.Need-enum-known-verdict
 enum-known-verdict c = search needs
 
-refused-requires : tie.Need-refused-requires
-refused-requires c κs = search needs
+refused-deck-requires : tie.Need-refused-deck-requires
+refused-deck-requires c κs = search needs
 
 enum-told : tie.Need-enum-told
 enum-told c = search needs
@@ -40,7 +40,7 @@ returns : tie.Need-returns
 unfolding Verdicts Judges
 returns c =
     let k = c .before .before .before .before in
-    λ a h. c .refused .ensures ∙ ap (plannedBy (k .before .before .before .before .args .asked)) (ap answerOf (sym (c .before .before .verdict .given .1)) ∙ k .judge .ensures a h)
+    λ a h. c .refused-deck .ensures ∙ ap (plannedBy (k .before .before .before .before .args .asked)) (ap answerOf (sym (c .before .before .verdict .given .1)) ∙ k .judge .ensures a h)
 
 returns-2 : tie.Need-returns-2
 unfolding Verdicts Judges
@@ -62,7 +62,7 @@ judged-spec =
     slice-aggregate-judge
     judge-requires
     enum-known-verdict
-    refused-requires
+    refused-deck-requires
     enum-told
     accepted-requires
     enum-known-verdict-2

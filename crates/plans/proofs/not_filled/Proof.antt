@@ -1,4 +1,4 @@
--- The number, the place and the column, with no entry.
+-- What is answered, with no entry.
 use borrow.Author.Needs.{needs}
 use Rattle.plans.proofs.not_filled.Statement.{statement}
 use Rattle.plans.proofs.not_filled.Tie as tie

@@ -4,7 +4,7 @@ use denote.Ref.{now}
 use borrow.Author.Needs.{needs}
 use native.Mathlib.Omega.{arith}
 use Rattle.plans.specs.Promise.{Plans}
-use Rattle.plans.specs.declared.Planned.{Planned}
+use Rattle.plans.specs.declared.DeckPlan.{DeckPlan}
 use Rattle.plans.proofs.ReadLaws.{refused-read, room-read, judgeable-read, kept-read, cleared-read}
 use Rattle.plans.proofs.plan_deck.Statement.{statement}
 use Rattle.plans.proofs.plan_deck.Tie as tie
@@ -12,14 +12,14 @@ use Rattle.plans.proofs.plan_deck.Tie as tie
 read-deck-requires : tie.Need-read-deck-requires
 read-deck-requires c κs = search needs
 
-refused-requires : tie.Need-refused-requires
-refused-requires c κs = search needs
+refused-deck-requires : tie.Need-refused-deck-requires
+refused-deck-requires c κs = search needs
 
 returns : tie.Need-returns
 returns c =
     let d = c .before .before .before .read-deck in
     let deck = now (c .before .before .before .before .before .before .args .deck) in
-    subst (λ (r : Planned). Plans deck r (d .last .1 .0)) (sym (c .refused .ensures)) (refused-read deck (d .result) (d .last .1 .0) (d .ensures) (c .before .if1 .taken))
+    subst (λ (r : DeckPlan). Plans deck r (d .last .1 .0)) (sym (c .refused-deck .ensures)) (refused-read deck (d .result) (d .last .1 .0) (d .ensures) (c .before .if1 .taken))
 
 judged-requires : tie.Need-judged-requires
 judged-requires c κs =
@@ -49,4 +49,4 @@ returns-3 c =
     kept-read deck (d .result) (d .last .1 .0) (d .ensures) (c .before .before .before .before .before .before .if1 .left) (j .result) (j .ensures) (c .if2 .left)
 
 pub plan-deck-spec : {M : Type 1} → statement M
-plan-deck-spec = tie.close (tie.spec read-deck-requires refused-requires returns judged-requires clear-requires returns-2 returns-3)
+plan-deck-spec = tie.close (tie.spec read-deck-requires refused-deck-requires returns judged-requires clear-requires returns-2 returns-3)

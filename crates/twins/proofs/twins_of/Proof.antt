@@ -37,7 +37,7 @@ returns-2 c =
     (twins-kept (now (a .deck)) (now (a .out)) (p .result) (p .last .1 .0) (p .ensures) (c .before .before .before .if1 .left) (c .before .if2 .taken))
 
 -- where the deck is accepted, the numbers of its fields stand in the row
-stand : (c : tie.After-plan-deck) → c .plan-deck .result .refusal ≡ 0 → (5 * c .plan-deck .result .asked .count ≤ 320) × (length (c .plan-deck .last .1 .0) ≡ 320)
+stand : (c : tie.After-plan-deck) → c .plan-deck .result .answer .refusal ≡ 0 → (5 * c .plan-deck .result .asked .count ≤ 320) × (length (c .plan-deck .last .1 .0) ≡ 320)
 stand c z =
     let a = c .before .before .before .before .args in
     fields-stand (now (a .deck)) (now (a .out)) (c .plan-deck .result) (c .plan-deck .last .1 .0) (c .plan-deck .ensures) z

@@ -46,13 +46,13 @@ use denote.Triple.Table.{entered, cited}
 use denote.Triple.Walked.{says, needs, Stays, stay-dropped, walkOf, AllGo, goes-dropped, Walks, ends-at, walked, walk-meets}
 use denote.Exit.{yes}
 use Rattle.bhexodana.specs.Promise.{PlannedInto}
-use Rattle.bhexodana.specs.declared.Planned.{Planned}
+use Rattle.plans.specs.declared.Planned.{Planned}
 use Rattle.terms.specs.declared.Entry.{Entry}
 use Rattle.answers.specs.declared.plan.Lent.{Lent}
 use Rattle.bhexodana.proofs.EntryArrays.{R, slice, pvals, pval}
 use Rattle.bhexodana.proofs.EntryArrays as E
-use Rattle.bhexodana.proofs.Planned as N
-use Rattle.bhexodana.proofs.Planned.Laws as N′
+use Rattle.plans.proofs.Planned as N
+use Rattle.plans.proofs.Planned.Laws as N′
 use Rattle.answers.proofs.plan.Lent as F
 use Rattle.answers.proofs.plan.Lent.Laws as F′
 use Rattle.bhexodana.proofs.bhx_plan_into as into
