@@ -16,8 +16,8 @@ use Rattle.terms.proofs.Laid.{many-laid}
 use Rattle.terms.specs.declared.Asked.{Asked}
 use Rattle.rows.specs.Flat.{flatOf}
 use Rattle.rows.specs.Kept.{rowOf}
-use Rattle.judges.specs.Promise.{planned, judgedOf, Says, Asks}
-use Rattle.judges.proofs.JudgeLaws.{fields-same, plan-same}
+use Rattle.plans.specs.Verdict.{planned, markOf, SaysAsked, SaysSome}
+use Rattle.plans.proofs.VerdictLaws.{fields-same, plan-same}
 use Rattle.cards.specs.Promise.{nothingAsked}
 use Rattle.plans.specs.Promise.{plannedOf, refusedDeck, plannedBy, Holds, HoldsFor, Plans}
 use Rattle.plans.specs.declared.DeckPlan.{DeckPlan}
@@ -33,8 +33,8 @@ refused-deck deck q row e none =
 -- ---- a deck that asks for something
 
 -- the numbers of the verdict are those that the rules answer
-numbers-by : (x : Asked) (q : Answer Plan) → ((p : Plan) → q ≡ fine p → x .count ≡ length (p .fields)) → plannedBy x (judgedOf q) .answer ≡ plannedOf (planAnswer q)
-unfolding judgedOf _>>=_
+numbers-by : (x : Asked) (q : Answer Plan) → ((p : Plan) → q ≡ fine p → x .count ≡ length (p .fields)) → plannedBy x (markOf q) .answer ≡ plannedOf (planAnswer q)
+unfolding markOf _>>=_
 numbers-by x (refuse r) many = refl
 numbers-by x (fine p) many = rw (many p refl)
 
@@ -43,10 +43,10 @@ module _ (deck : List ℕ) (a : RuleAsked) (asks : askedOf deck ≡ fine a) (x :
   fs = laidFields a
 
   -- what is read of it says what it asks for, so that it can be judged
-  pub says : (row : List ℕ) → row ≡ flatOf fs → Says x row a
+  pub says : (row : List ℕ) → row ≡ flatOf fs → SaysAsked x row a
   says row e = let l = limited-of deck a asks in record { means = m; utility = limits-utility a l; fields = limits-fields a l; flat = e }
 
-  pub judgeable : (row : List ℕ) → row ≡ flatOf fs → Asks x row
+  pub judgeable : (row : List ℕ) → row ≡ flatOf fs → SaysSome x row
   judgeable row e = record { asked = a; says = says row e }
 
   is-planned : plan deck ≡ planned zoneF a
@@ -60,7 +60,7 @@ module _ (deck : List ℕ) (a : RuleAsked) (asks : askedOf deck ≡ fine a) (x :
   many : (p : Plan) → planned zoneF a ≡ fine p → x .count ≡ length (p .fields)
   many p e = many-laid x a m ∙ ap length (row-fields p e)
 
-  numbers-are : (r : DeckPlan) → r ≡ plannedBy x (judgedOf (planned zoneF a)) → r .answer ≡ plannedOf (planAnswer (plan deck))
+  numbers-are : (r : DeckPlan) → r ≡ plannedBy x (markOf (planned zoneF a)) → r .answer ≡ plannedOf (planAnswer (plan deck))
   numbers-are r e = ap (λ (s : DeckPlan). s .answer) e ∙ numbers-by x (planned zoneF a) many ∙ ap (λ (z : Answer Plan). plannedOf (planAnswer z)) (sym is-planned)
 
   -- accepted, and the row holds its fields
@@ -73,23 +73,23 @@ module _ (deck : List ℕ) (a : RuleAsked) (asks : askedOf deck ≡ fine a) (x :
         means = λ b w. subst (Means x) (fine-same a b (sym asks ∙ w)) m;
       }
 
-  pub asked-kept : (row : List ℕ) → row ≡ rowOf fs → (r : DeckPlan) → r ≡ plannedBy x (judgedOf (planned zoneF a)) → r .answer .refusal ≡ 0 → Plans deck r row
-  unfolding plan judgedOf _>>=_
+  pub asked-kept : (row : List ℕ) → row ≡ rowOf fs → (r : DeckPlan) → r ≡ plannedBy x (markOf (planned zoneF a)) → r .answer .refusal ≡ 0 → Plans deck r row
+  unfolding plan markOf _>>=_
   asked-kept row full r e z = record { numbers = numbers-are r e; held = go (planned zoneF a) refl }
     where
       go : (q : Answer Plan) → planned zoneF a ≡ q → HoldsFor deck (plan deck) (r .asked) row
       go (fine p) w =
-          let i : r .asked ≡ x = ap (λ (s : DeckPlan). s .asked) (e ∙ ap (λ (z : Answer Plan). plannedBy x (judgedOf z)) w) in
+          let i : r .asked ≡ x = ap (λ (s : DeckPlan). s .asked) (e ∙ ap (λ (z : Answer Plan). plannedBy x (markOf z)) w) in
           subst (λ (z : Answer Plan). HoldsFor deck z (r .asked) row) (sym (is-planned ∙ w)) (subst (λ (y : Asked). Holds deck p y row) (sym i) (held row full p w))
-      go (refuse q) w = absurd (never-0 zoneF deck q (is-planned ∙ w) (sym (ap (λ (s : DeckPlan). s .answer .refusal) (e ∙ ap (λ (z : Answer Plan). plannedBy x (judgedOf z)) w)) ∙ z))
+      go (refuse q) w = absurd (never-0 zoneF deck q (is-planned ∙ w) (sym (ap (λ (s : DeckPlan). s .answer .refusal) (e ∙ ap (λ (z : Answer Plan). plannedBy x (markOf z)) w)) ∙ z))
 
   -- refused, and the row is cleared
-  pub asked-refused : (row : List ℕ) → row ≡ rowOf [] → (r : DeckPlan) → r ≡ plannedBy x (judgedOf (planned zoneF a)) → (r .answer .refusal ≡ 0 → ⊥) → Plans deck r row
-  unfolding plan judgedOf _>>=_
+  pub asked-refused : (row : List ℕ) → row ≡ rowOf [] → (r : DeckPlan) → r ≡ plannedBy x (markOf (planned zoneF a)) → (r .answer .refusal ≡ 0 → ⊥) → Plans deck r row
+  unfolding plan markOf _>>=_
   asked-refused row none r e n = record { numbers = numbers-are r e; held = go (planned zoneF a) refl }
     where
       go : (q : Answer Plan) → planned zoneF a ≡ q → HoldsFor deck (plan deck) (r .asked) row
-      go (fine p) w = absurd (n (ap (λ (s : DeckPlan). s .answer .refusal) (e ∙ ap (λ (z : Answer Plan). plannedBy x (judgedOf z)) w)))
+      go (fine p) w = absurd (n (ap (λ (s : DeckPlan). s .answer .refusal) (e ∙ ap (λ (z : Answer Plan). plannedBy x (markOf z)) w)))
       go (refuse q) w =
           subst (λ (z : Answer Plan). HoldsFor deck z (r .asked) row) (sym (is-planned ∙ w))
-          (ap (λ (s : DeckPlan). s .asked) (e ∙ ap (λ (z : Answer Plan). plannedBy x (judgedOf z)) w), none)
+          (ap (λ (s : DeckPlan). s .asked) (e ∙ ap (λ (z : Answer Plan). plannedBy x (markOf z)) w), none)

@@ -13,7 +13,7 @@ use Rattle.rows.proofs.RowLaws.{flat-front, length-row}
 use Rattle.cards.specs.Promise.{Accepts, DeckSays}
 use Rattle.cards.proofs.PromiseLaws.{accepted, refused-as}
 use Rattle.cards.specs.declared.DeckRead.{DeckRead}
-use Rattle.judges.specs.Promise.{Asks}
+use Rattle.plans.specs.Verdict.{SaysSome}
 use Rattle.plans.specs.Promise.{refusedDeck, Verdicts, Plans}
 use Rattle.plans.specs.declared.DeckPlan.{DeckPlan}
 use Rattle.plans.proofs.DeckLaws.{refused-deck, says, judgeable, asked-kept, asked-refused}
@@ -39,7 +39,7 @@ module _ (deck : List ℕ) (d : DeckRead) (row : List ℕ) (reads-of : DeckSays 
         let m = reads .means in
         (omega (arith, m .few), ap length (reads .fields) ∙ length-row (laidFields asks) (omega (arith, m .few, many-laid (d .asked) asks m)))
 
-    pub judgeable-read : Asks (d .asked) (take (5 * d .asked .count) row)
+    pub judgeable-read : SaysSome (d .asked) (take (5 * d .asked .count) row)
     judgeable-read = judgeable deck asks (accepted deck d row (reads-of .reads) z .1) (d .asked) (reads .means) (take (5 * d .asked .count) row) (front d row asks reads)
 
     module _ (r : DeckPlan) (v : Verdicts (d .asked) (take (5 * d .asked .count) row) r) where

@@ -16,7 +16,7 @@ use Rattle.terms.specs.declared.Asked.{Asked}
 use Rattle.terms.specs.declared.Entry.{Entry}
 use Rattle.rows.specs.Kept.{rowOf}
 use Rattle.cards.specs.Promise.{nothingAsked}
-use Rattle.judges.specs.Promise.{planned, judgedOf, Says}
+use Rattle.plans.specs.Verdict.{planned, markOf, SaysAsked}
 use Rattle.plans.specs.declared.DeckPlan.{DeckPlan}
 use Rattle.plans.specs.declared.Planned.{Planned}
 use Rattle.plans.specs.declared.TablePlan.{TablePlan}
@@ -47,7 +47,7 @@ plannedBy x (fine n) = keptAs x (n .0) (n .1)
 plannedBy x (refuse r) = refusedDeck (r .number) (r .place) (r .column)
 
 unfoldable pub Verdicts : Asked → List ℕ → DeckPlan → Type 0
-Verdicts x row r = (a : RuleAsked) → Says x row a → r ≡ plannedBy x (judgedOf (planned zoneF a))
+Verdicts x row r = (a : RuleAsked) → SaysAsked x row a → r ≡ plannedBy x (markOf (planned zoneF a))
 
 -- the struct and the row hold the plan p of the deck: they say just what the deck asks for
 pub record Holds (deck : List ℕ) (p : Plan) (x : Asked) (row : List ℕ) : Type 0 where

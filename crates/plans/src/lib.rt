@@ -1,8 +1,10 @@
 // From a deck to its plan: refusals 1 to 10, keeping and the lost place; and the plan as entries for a lent table.
-use judges::Verdict;
+mod verdict;
+
 use terms::Asked;
 use terms::Entry;
 use terms::Field;
+use verdict::Verdict;
 ghost use mathlib.Core.Path.{_≡_};
 ghost use mathlib.Core.List.{List, [], map};
 ghost use Prim.Native.Nat.{ℕ, _*_, _≤_};
@@ -11,7 +13,7 @@ ghost use Rattle.rules.specs.Lent.{entryOf, planInto};
 ghost use Rattle.terms.specs.Meaning.{fieldOf, entryFor};
 ghost use Rattle.rows.specs.Kept.{fieldsIn, rowOf};
 ghost use Rattle.combinations.specs.Promise.{FieldFair, FieldsFair};
-ghost use Rattle.judges.specs.Promise.{Asks};
+ghost use Rattle.plans.specs.Verdict.{SaysSome};
 ghost use Rattle.plans.specs.Promise.{refusedPlan, refusedDeck, keptAs, Verdicts, Plans, OfDeck, partAt, placeAt, onCard, tableOf, notFilled, filledFor};
 
 // What a plan answers: refusal, place, column, 1 for keeping or 0, lost place or 0, field count. In C it lies as it stands here.
@@ -72,11 +74,11 @@ fn accepted(asked: Asked, keeping: usize, lost: usize) -> DeckPlan
 // What the cards ask for, judged. No byte of a card is at fault for 8 to 10, so these have no column.
 fn judged(asked: Asked, row: &[u16]) -> DeckPlan
     requires { ⌜ 5 * asked .count ≤ length (now row) ⌝ }
-    requires { ⌜ Asks asked (take (5 * asked .count) (now row)) ⌝ }
+    requires { ⌜ SaysSome asked (take (5 * asked .count) (now row)) ⌝ }
     ensures { λ r. ⌜ Verdicts asked (take (5 * asked .count) (now (row .entry))) r ⌝ }
 {
     let end = 5 * asked.count;
-    let verdict = judges::judge(asked, &row[..end]);
+    let verdict = verdict::weigh_plan(asked, &row[..end]);
     match verdict {
         Verdict::Refused { number, place } => refused_deck(number, place, 0),
         Verdict::Keeping => accepted(asked, 1, 0),
@@ -128,13 +130,17 @@ fn entry(f: Field, key: usize) -> Entry
     ensures { λ r. ⌜ r ≡ entryFor (entryOf (onCard key (fieldOf f))) ⌝ }
 {
     let kind = f.kind;
+    let r = card_place(f.r, key) as u16;
+    let input = f.input as u16;
+    let output = f.output as u16;
+    let t = f.t as u16;
     Entry {
         kind: terms::kind_number(kind),
         part: part_number(f.r, key),
-        r: card_place(f.r, key) as u16,
-        input: f.input as u16,
-        output: f.output as u16,
-        t: f.t as u16,
+        r,
+        input,
+        output,
+        t,
     }
 }
 

@@ -11,9 +11,9 @@ ghost use Rattle.rules.specs.Answer.{fine};
 ghost use Rattle.terms.specs.Meaning.{formatOf};
 ghost use Rattle.rows.specs.Kept.{fieldsIn};
 ghost use Rattle.combinations.specs.Promise.{AskedFair, combinedOf};
-ghost use Rattle.judges.specs.Promise.{answerOf, tailOf, Asks, Judges};
+ghost use Rattle.plans.specs.Verdict.{verdictAnswer, tailTold, SaysSome, Weighs};
 
-pub enum Verdict {
+pub(crate) enum Verdict {
     Refused { number: usize, place: usize },
     Keeping,
     Losing { half: usize },
@@ -22,7 +22,7 @@ pub enum Verdict {
 // Whether what stands past the first n bytes of a record is kept: in FV by CV, or since a block of n+8 bytes holds no more.
 fn tail_kept(format: Format, cv: usize, n: usize, m: usize) -> bool
     requires { ⌜ n ≤ 4096 ⌝ }
-    ensures { λ r. ⌜ r ≡ tailOf (formatOf format) cv n m ⌝ }
+    ensures { λ r. ⌜ r ≡ tailTold (formatOf format) cv n m ⌝ }
 {
     if !terms::is_fv(format) {
         return true;
@@ -36,10 +36,11 @@ fn tail_kept(format: Format, cv: usize, n: usize, m: usize) -> bool
 // Where no half of the first n bytes is missing, the tail decides; its lost place is 2n.
 fn by_tail(format: Format, cv: usize, n: usize, m: usize) -> Verdict
     requires { ⌜ n ≤ 4096 ⌝ }
-    ensures { λ r. ⌜ answerOf r ≡ fine (cond (tailOf (formatOf format) cv n m) (1, 0) (0, 2 * n)) ⌝ }
+    ensures { λ r. ⌜ verdictAnswer r ≡ fine (cond (tailTold (formatOf format) cv n m) (1, 0) (0, 2 * n)) ⌝ }
 {
     if !tail_kept(format, cv, n, m) {
-        return Verdict::Losing { half: 2 * n };
+        let half = 2 * n;
+        return Verdict::Losing { half };
     }
     Verdict::Keeping
 }
@@ -48,7 +49,7 @@ fn by_tail(format: Format, cv: usize, n: usize, m: usize) -> Verdict
 fn by_halves(asked: Asked, fields: &[u16]) -> Verdict
     requires { ⌜ AskedFair asked (now fields) × (length (now fields) ≤ 320) ⌝ }
     requires { ⌜ combinedOf asked (fieldsIn (now fields)) ≡ fine tt ⌝ }
-    ensures { λ r. ⌜ Judges asked (now (fields .entry)) r ⌝ }
+    ensures { λ r. ⌜ Weighs asked (now (fields .entry)) r ⌝ }
 {
     let mode = asked.mode;
     if !terms::selects(mode) {
@@ -70,9 +71,9 @@ fn by_halves(asked: Asked, fields: &[u16]) -> Verdict
 }
 
 // Refusal 8 before 9 before 10 before the lost place.
-pub fn judge(asked: Asked, fields: &[u16]) -> Verdict
-    requires { ⌜ Asks asked (now fields) ⌝ }
-    ensures { λ r. ⌜ Judges asked (now (fields .entry)) r ⌝ }
+pub(crate) fn weigh_plan(asked: Asked, fields: &[u16]) -> Verdict
+    requires { ⌜ SaysSome asked (now fields) ⌝ }
+    ensures { λ r. ⌜ Weighs asked (now (fields .entry)) r ⌝ }
 {
     let combined = combinations::combine(asked, fields);
     match combined {

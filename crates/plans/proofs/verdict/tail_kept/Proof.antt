@@ -1,8 +1,8 @@
 -- Test by test: a tail is lost only in FV without CV.
 use borrow.Author.Tests.{eq-eqb, ne-eqb, not-false}
 use borrow.Author.Needs.{needs}
-use Rattle.judges.proofs.tail_kept.Statement.{statement}
-use Rattle.judges.proofs.tail_kept.Tie as tie
+use Rattle.plans.proofs.verdict.tail_kept.Statement.{statement}
+use Rattle.plans.proofs.verdict.tail_kept.Tie as tie
 
 is-fv-requires : tie.Need-is-fv-requires
 is-fv-requires c κs = search needs

@@ -1,4 +1,4 @@
--- What `judge` promises: the verdict is what the rules answer.
+-- What is promised of the verdict on what a deck asks for: it is what the rules answer.
 use mathlib.Core.Path.{_≡_}
 use mathlib.Core.Bool.{Bool, cond, not, _||_}
 use mathlib.Core.List.{List}
@@ -15,8 +15,8 @@ use Rattle.rules.specs.Lent.{zoneF}
 use Rattle.terms.specs.Meaning.{Means, laidFields}
 use Rattle.terms.specs.declared.Asked.{Asked}
 use Rattle.rows.specs.Flat.{flatOf}
-use Rattle.judges.specs.declared.Verdict.{Verdict}
-use Rattle.judges.specs.declared.Verdict.the-variants.{Refused, Keeping, Losing}
+use Rattle.plans.specs.declared.verdict.Verdict.{Verdict}
+use Rattle.plans.specs.declared.verdict.Verdict.the-variants.{Refused, Keeping, Losing}
 
 -- ---- verdicts
 
@@ -25,35 +25,35 @@ abbrev pub planned : ℕ → RuleAsked → Answer Plan
 planned zone a = combined zone a >> fine (assembled zone a)
 
 -- of a plan the mark of keeping and the lost place, as it answers them
-unfoldable pub judgedOf : Answer Plan → Answer (ℕ × ℕ)
-judgedOf x = x >>= λ p. fine (bit (keeps p), cond (keeps p) 0 (lostAt p))
+unfoldable pub markOf : Answer Plan → Answer (ℕ × ℕ)
+markOf x = x >>= λ p. fine (bit (keeps p), cond (keeps p) 0 (lostAt p))
 
 -- what each verdict answers: its refusal, or these two numbers
-abbrev pub answerOf : Verdict → Answer (ℕ × ℕ)
-answerOf (Refused number place) = refused number place
-answerOf Keeping = fine (1, 0)
-answerOf (Losing half) = fine (0, half)
+abbrev pub verdictAnswer : Verdict → Answer (ℕ × ℕ)
+verdictAnswer (Refused number place) = refused number place
+verdictAnswer Keeping = fine (1, 0)
+verdictAnswer (Losing half) = fine (0, half)
 
 -- the struct and the row say what is asked for, its numbers within their limits
-pub record Says (x : Asked) (row : List ℕ) (a : RuleAsked) : Type 0 where
+pub record SaysAsked (x : Asked) (row : List ℕ) (a : RuleAsked) : Type 0 where
   pub means : Means x a
   pub utility : UtilityWithin (a .utility)
   pub fields : All (λ f. FieldWithin (f .field)) (fieldsOf (joined (a .cards)))
   pub flat : row ≡ flatOf (laidFields a)
 
 -- they are judged as what they say is in the rules
-unfoldable pub Judges : Asked → List ℕ → Verdict → Type 0
-Judges x row r = (a : RuleAsked) → Says x row a → answerOf r ≡ judgedOf (planned zoneF a)
+unfoldable pub Weighs : Asked → List ℕ → Verdict → Type 0
+Weighs x row r = (a : RuleAsked) → SaysAsked x row a → verdictAnswer r ≡ markOf (planned zoneF a)
 
 -- ---- what it asks
 
 -- they say what some deck asks for
-pub record Asks (x : Asked) (row : List ℕ) : Type 0 where
+pub record SaysSome (x : Asked) (row : List ℕ) : Type 0 where
   pub asked : RuleAsked
-  pub says : Says x row asked
+  pub says : SaysAsked x row asked
 
 -- ---- the tail
 
 -- in FV CV is given or m is n+8
-abbrev pub tailOf : Format → ℕ → ℕ → ℕ → Bool
-tailOf f cv n m = isFV f ⇒ (not (eqb cv 0) || eqb m (n + 8))
+abbrev pub tailTold : Format → ℕ → ℕ → ℕ → Bool
+tailTold f cv n m = isFV f ⇒ (not (eqb cv 0) || eqb m (n + 8))

@@ -22,10 +22,10 @@ use Rattle.combinations.proofs.CombineLaws.{refusal10, combined-same, laid-same
 use Rattle.keeping.specs.Promise.{weighedOf, answerOf as weighed}
 use Rattle.keeping.specs.declared.Weighed.{Weighed}
 use Rattle.keeping.proofs.PlanLaws.{weighed-is}
-use Rattle.judges.specs.Promise.{planned, judgedOf, answerOf, Says, Judges, Asks, tailOf}
-use Rattle.judges.specs.declared.Verdict.{Verdict}
-use Rattle.judges.specs.declared.Verdict.the-variants.{Refused, Keeping, Losing}
-use Rattle.judges.proofs.FairLaws.{no-field}
+use Rattle.plans.specs.Verdict.{planned, markOf, verdictAnswer, SaysAsked, Weighs, SaysSome, tailTold}
+use Rattle.plans.specs.declared.verdict.Verdict.{Verdict}
+use Rattle.plans.specs.declared.verdict.Verdict.the-variants.{Refused, Keeping, Losing}
+use Rattle.plans.proofs.FairLaws.{no-field}
 
 -- where no half is lost, the tail decides; its lost place is 2n
 abbrev pub byTail : Bool → ℕ → ℕ × ℕ → Answer (ℕ × ℕ)
@@ -40,7 +40,7 @@ with-tail tail lost halves = go tail (eqb lost halves) refl
     go true true e = refl
     go false true e = rw (eqb-true lost halves e)
 
-module _ (x : Asked) (row : List ℕ) (a : RuleAsked) (h : Says x row a) where
+module _ (x : Asked) (row : List ℕ) (a : RuleAsked) (h : SaysAsked x row a) where
   -- the fields that the deck asks for, and the plan that they are
   abbrev fs : List RuleField
   fs = laidFields a
@@ -57,9 +57,9 @@ module _ (x : Asked) (row : List ℕ) (a : RuleAsked) (h : Says x row a) where
       ap (λ (z : Answer Unit). z >> fine (assembled zoneF a)) (combined-same zoneF x a (h .means) (h .utility) (h .fields))
       ∙ then-assoc (combinedOf x fs) (refusal10 (assembled zoneF a)) (fine (assembled zoneF a))
 
-  pub combined-refused : (number place : ℕ) → refused number place ≡ combinedOf x fs → refused number place ≡ judgedOf (planned zoneF a)
-  unfolding _>>_ _>>=_ judgedOf
-  combined-refused number place e = sym (ap judgedOf (answered ∙ ap (λ (z : Answer Unit). z >> (refusal10 (assembled zoneF a) >> fine (assembled zoneF a))) (sym e)))
+  pub combined-refused : (number place : ℕ) → refused number place ≡ combinedOf x fs → refused number place ≡ markOf (planned zoneF a)
+  unfolding _>>_ _>>=_ markOf
+  combined-refused number place e = sym (ap markOf (answered ∙ ap (λ (z : Answer Unit). z >> (refusal10 (assembled zoneF a) >> fine (assembled zoneF a))) (sym e)))
 
   module _ (sound : combinedOf x fs ≡ fine tt) where
     -- where nothing is refused, it is the plan of the rules
@@ -68,18 +68,18 @@ module _ (x : Asked) (row : List ℕ) (a : RuleAsked) (h : Says x row a) where
         sym (ap (planIn zoneF x) (laid-same zoneF x a (h .means) (h .utility) (h .fields) sound) ∙ plan-means zoneF x a (h .means))
 
     -- refusal 10, and then keeping
-    on-plan : judgedOf (planned zoneF a) ≡ (refusal10 p >> fine (bit (keeps p), cond (keeps p) 0 (lostAt p)))
-    unfolding judgedOf
+    on-plan : markOf (planned zoneF a) ≡ (refusal10 p >> fine (bit (keeps p), cond (keeps p) 0 (lostAt p)))
+    unfolding markOf
     on-plan =
-        ap judgedOf (answered ∙ fine-then (combinedOf x fs) _ sound ∙ ap (λ (q : Plan). refusal10 q >> fine q) plan-is) ∙ then-bind (refusal10 p) p _
+        ap markOf (answered ∙ fine-then (combinedOf x fs) _ sound ∙ ap (λ (q : Plan). refusal10 q >> fine q) plan-is) ∙ then-bind (refusal10 p) p _
 
-    pub carried : selects (modeOf (x .mode)) ≡ false → fine (1, 0) ≡ judgedOf (planned zoneF a)
+    pub carried : selects (modeOf (x .mode)) ≡ false → fine (1, 0) ≡ markOf (planned zoneF a)
     unfolding planIn
     carried s = sym (on-plan ∙ fine-then (refusal10 p) _ (fine-unless _ 10 _ (eq-eqb _ _ (no-barren p (no-field x a fs (h .means) sound s)))) ∙ rw (keeps-carried p s))
 
     -- in TF and TRF: what weighing answers, and then the tail
     pub by-weighing : selects (modeOf (x .mode)) ≡ true → (w : Weighed) → weighed w ≡ weighedOf zoneF fs n (recordLength (sizeOf (x .output)))
-        → (weighed w >>= byTail (tailOf (formatOf (x .format)) (x .cv) n (blockLength (sizeOf (x .input)))) (2 * n)) ≡ judgedOf (planned zoneF a)
+        → (weighed w >>= byTail (tailTold (formatOf (x .format)) (x .cv) n (blockLength (sizeOf (x .input)))) (2 * n)) ≡ markOf (planned zoneF a)
     unfolding planIn keeps tailKept inputHalves
     by-weighing s w e =
         rw (e ∙ weighed-is p) (then-bind (refusal10 p) _ _ ∙ ap (refusal10 p >>_) (with-tail (tailKept p) (lostAt p) (inputHalves p)) ∙ sym (on-plan ∙ rw s))
@@ -99,7 +99,7 @@ module _ (x : Asked) (row : List ℕ) (a : RuleAsked) (h : Says x row a) where
 -- ---- one verdict
 
 -- no two verdicts answer the same
-pub answer-once : (r q : Verdict) → answerOf r ≡ answerOf q → r ≡ q
+pub answer-once : (r q : Verdict) → verdictAnswer r ≡ verdictAnswer q → r ≡ q
 answer-once (Refused number place) (Refused number′ place′) e = ap₂ Refused (ap refusalOf e) (ap placeOf e)
 answer-once (Refused number place) Keeping e = cc
 answer-once (Refused number place) (Losing half) e = cc
@@ -110,6 +110,6 @@ answer-once (Losing half) (Refused number place) e = cc
 answer-once (Losing half) Keeping e = absurd (omega (arith, ap (λ (n : ℕ × ℕ). n .0) (fine-same (0, half) (1, 0) e)))
 answer-once (Losing half) (Losing half′) e = ap Losing (ap (λ (n : ℕ × ℕ). n .1) (fine-same (0, half) (0, half′) e))
 
-pub only-one : (x : Asked) (row : List ℕ) → Asks x row → (r q : Verdict) → Judges x row r → Judges x row q → r ≡ q
-unfolding Judges
-only-one x row w r q j k = answer-once r q (j (w .asked) (w .says) ∙ sym (k (w .asked) (w .says)))
+pub verdict-only-one : (x : Asked) (row : List ℕ) → SaysSome x row → (r q : Verdict) → Weighs x row r → Weighs x row q → r ≡ q
+unfolding Weighs
+verdict-only-one x row w r q j k = answer-once r q (j (w .asked) (w .says) ∙ sym (k (w .asked) (w .says)))

@@ -17,11 +17,11 @@ use Rattle.rows.proofs.RowLaws.{fields-back}
 use Rattle.combinations.specs.Promise.{combinedOf}
 use Rattle.keeping.specs.Promise.{weighedOf, answerOf as weighed}
 use Rattle.keeping.specs.declared.Weighed.the-variants.{Barren, Kept, Lost}
-use Rattle.judges.specs.Promise.{Judges}
-use Rattle.judges.proofs.FairLaws.{fair-sound}
-use Rattle.judges.proofs.JudgeLaws.{carried, by-weighing}
-use Rattle.judges.proofs.by_halves.Statement.{statement}
-use Rattle.judges.proofs.by_halves.Tie as tie
+use Rattle.plans.specs.Verdict.{Weighs}
+use Rattle.plans.proofs.FairLaws.{fair-sound}
+use Rattle.plans.proofs.VerdictLaws.{carried, by-weighing}
+use Rattle.plans.proofs.verdict.by_halves.Statement.{statement}
+use Rattle.plans.proofs.verdict.by_halves.Tie as tie
 
 -- TF or TRF, past the first test
 selected : (c : tie.Else1) → selects (modeOf (c .before .before .before .args .asked .mode)) ≡ true
@@ -45,7 +45,7 @@ selects-requires : tie.Need-selects-requires
 selects-requires c κs = search needs
 
 returns : tie.Need-returns
-unfolding Judges
+unfolding Weighs
 returns c =
     let start = c .before .before .before in
     λ a h. carried (start .args .asked) _ a h (sound start a (h .flat)) (sym (c .before .selects .ensures) ∙ not-true (c .before .selects .result) (c .if1 .taken))
@@ -77,21 +77,21 @@ by-tail-requires : tie.Need-by-tail-requires
 by-tail-requires c κs = search needs
 
 returns-2 : tie.Need-returns-2
-unfolding Judges _>>=_
+unfolding Weighs _>>=_
 returns-2 c =
     let w = c .before .before .before in
     let start = w .before .before .before .before .before .before in
     λ a h. by-weighing (start .args .asked) _ a h (sound start a (h .flat)) (selected (w .before .before .before)) (Barren _) (ap weighed (sym (c .before .weighed .given .1)) ∙ told w a (h .flat))
 
 returns-3 : tie.Need-returns-3
-unfolding Judges _>>=_
+unfolding Weighs _>>=_
 returns-3 c =
     let w = c .before .before .before in
     let start = w .before .before .before .before .before .before in
     λ a h. by-weighing (start .args .asked) _ a h (sound start a (h .flat)) (selected (w .before .before .before)) (Lost _) (ap weighed (sym (c .before .weighed2 .given .1)) ∙ told w a (h .flat))
 
 returns-4 : tie.Need-returns-4
-unfolding Judges _>>=_
+unfolding Weighs _>>=_
 returns-4 c =
     let w = c .before .before .before .before in
     let start = w .before .before .before .before .before .before in

@@ -17,10 +17,10 @@ use Rattle.rows.proofs.RowLaws.{fields-back}
 use Rattle.combinations.specs.declared.Combined.{Combined}
 use Rattle.combinations.specs.Promise.{answerOf, combinedOf, AskedFair}
 use Rattle.combinations.proofs.CombineLaws.{asked-fair}
-use Rattle.judges.specs.Promise.{Judges}
-use Rattle.judges.proofs.JudgeLaws.{combined-refused}
-use Rattle.judges.proofs.judge.Statement.{statement}
-use Rattle.judges.proofs.judge.Tie as tie
+use Rattle.plans.specs.Verdict.{Weighs}
+use Rattle.plans.proofs.VerdictLaws.{combined-refused}
+use Rattle.plans.proofs.verdict.weigh_plan.Statement.{statement}
+use Rattle.plans.proofs.verdict.weigh_plan.Tie as tie
 
 fair : (c : tie.Start) → AskedFair (c .args .asked) (now (c .args .fields))
 fair c = let h = c .pre .says in asked-fair (c .args .asked) (c .pre .asked) (now (c .args .fields)) (h .means) (h .utility) (h .fields) (h .flat)
@@ -54,14 +54,14 @@ by-halves-requires c κs =
     ((fair s, few s), sym (ap answerOf (sym (c .enum-told .given .1)) ∙ c .before .before .combine .ensures))
 
 returns : tie.Need-returns
-unfolding Judges
+unfolding Weighs
 returns c =
     let k = c .before .before .before in
     let s = k .before .before in
     λ a h. combined-refused _ _ a h 8 _ (ap answerOf (sym (c .before .combined .given .1)) ∙ answered (s .args .asked) (now (s .args .fields)) (k .combine .result) a (h .flat) (k .combine .ensures))
 
 returns-2 : tie.Need-returns-2
-unfolding Judges
+unfolding Weighs
 returns-2 c =
     let k = c .before .before .before in
     let s = k .before .before in
@@ -70,8 +70,8 @@ returns-2 c =
 returns-3 : tie.Need-returns-3
 returns-3 c = search needs
 
-pub judge-spec : {M : Type 1} → statement M
-judge-spec =
+pub weigh-plan-spec : {M : Type 1} → statement M
+weigh-plan-spec =
     tie.close
     (tie.spec
     combine-requires

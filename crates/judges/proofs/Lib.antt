@@ -1,2 +1,0 @@
-pub mod FairLaws
-pub mod JudgeLaws
