@@ -3,13 +3,11 @@
 use mathlib.Core.Path.{_≡_, refl, ap, sym, _∙_}
 use mathlib.Core.Logic.{_↔_}
 use mathlib.Core.Bool.{Bool, true, false, true≢false}
-use mathlib.Core.List.{List}
-use Prim.Native.Nat.{ℕ, _+_, _-_, _*_, _/_, _%_, _≤_, _<_}
+use Prim.Native.Nat.{ℕ, _+_, _*_, _/_, _%_, _<_}
 use native.Mathlib.Omega.{arith}
 use lib.Dec.{eqb}
 use borrow.Author.Tests.{eqb-true, eqb-false, eq-eqb}
-use Rattle.rules.specs.Places.{All}
-use Rattle.rules.specs.Halves.{Kind, copy, pack, unpack, inputSize, Field, readsFrom, readsMany}
+use Rattle.rules.specs.Halves.{Kind, copy, pack, unpack, inputSize, Field, readsFrom}
 use Rattle.rules.specs.Permitted.{kindAllows, allows}
 use Rattle.rules.specs.Plan.{Plan, allowed}
 use Rattle.rules.specs.InWords.{IsHigh, IsLow, Allows, MayBe}

@@ -4,7 +4,7 @@ use mathlib.Core.Path.{_≡_, subst}
 use mathlib.Core.Logic.{_⊎_, inl, inr}
 use mathlib.Core.List.{List, [], _∷_, _++_}
 use Prim.Native.Nat.{ℕ, _-_, _≤_, _<_}
-use lib.ListN.{length, drop}
+use lib.ListN.{length}
 use Rattle.rules.specs.Base.{joined}
 use Rattle.rules.specs.Places.{All, noMore, also, Found}
 use Rattle.rules.specs.Grammar.{tf}

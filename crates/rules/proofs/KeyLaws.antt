@@ -3,11 +3,11 @@
 use mathlib.Core.Path.{_≡_, refl, ap}
 use mathlib.Core.Bool.{Bool, true, false, true≢false, false≢true}
 use mathlib.Core.List.{List, [], _∷_}
-use Prim.Native.Nat.{ℕ, _-_, _≤_}
+use Prim.Native.Nat.{ℕ, _≤_}
 use native.Mathlib.Omega.{arith}
 use Rattle.rules.specs.Places.{All, noMore, also, Some, this, that}
 use Rattle.rules.specs.Halves.{inputSize, Field}
-use Rattle.rules.specs.Grammar.{Format, two, Input, plain, keyed, Part, inData, inKey, CardField}
+use Rattle.rules.specs.Grammar.{Format, Input, plain, keyed, Part, inData, inKey, CardField}
 use Rattle.rules.specs.Plan.{recordLength, joinedSize, keyLength, partLength, bytesBefore, through, isKeyed, isKey, keyFields}
 use Rattle.rules.specs.Rows.{SizeWithin, InputWithin, FieldWithin, IsKeyed, with-key, Inside}
 use Rattle.rules.proofs.RecordLaws.{sizes-low}

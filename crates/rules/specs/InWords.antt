@@ -9,7 +9,7 @@ use lib.ListN.{length, drop, getD}
 use Rattle.rules.specs.Base.{joined}
 use Rattle.rules.specs.Places.{All, Both, Half}
 use Rattle.rules.specs.Grammar.{tc, tf, tr, trf}
-use Rattle.rules.specs.Halves.{halves, Kind, copy, pack, unpack, outputSize, Field, readsFrom, writesFrom, blank, made, Source, from, constant, valueIn}
+use Rattle.rules.specs.Halves.{halves, copy, pack, unpack, outputSize, Field, readsFrom, writesFrom, blank, made, Source, from, constant, valueIn}
 use Rattle.rules.specs.Plan.{Plan, selects, recordLength, blockLength}
 use Rattle.rules.specs.Output.{cost, total}
 

@@ -11,7 +11,7 @@ use Rattle.rules.specs.Grammar.{Parameter, Part, inData, inKey, CardFiel
 use Rattle.rules.specs.Reel.{reelOf}
 use Rattle.rules.specs.Asked.{fieldsOf}
 use Rattle.rules.specs.Plan.{Plan, PlanAnswer}
-use Rattle.rules.specs.Rows.{Says, Asks, Row}
+use Rattle.rules.specs.Rows.{Says, Asks}
 use Rattle.rules.specs.ColumnRows.{Answered}
 use Rattle.rules.specs.RunRows.{RunWrites, RowRun, RowInto}
 use Rattle.rules.specs.Demand.{Judged}

@@ -1,9 +1,6 @@
 -- A piece lies behind its place and inside the block, be it a record or a segment.
-use mathlib.Core.Path.{subst, sym}
-use denote.Ref.{now}
 use borrow.Author.Needs.{needs}
-use lib.ListN.{length}
-use Rattle.pieces.proofs.PiecesLaws.{further, piece-further, worded-further}
+use Rattle.pieces.proofs.PiecesLaws.{piece-further, worded-further}
 use Rattle.judge_reel.proofs.gathered.piece_at.Statement.{statement}
 use Rattle.judge_reel.proofs.gathered.piece_at.Tie as tie
 

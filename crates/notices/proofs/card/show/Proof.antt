@@ -1,5 +1,4 @@
 -- A column is at most 81, so 80 blanks are enough before it.
-use native.Mathlib.Omega.{arith}
 use borrow.Author.Needs.{needs}
 use Rattle.io.proofs.Counting.{front}
 use Rattle.notices.proofs.card.show.Statement.{statement}
