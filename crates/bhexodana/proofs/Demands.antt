@@ -16,7 +16,7 @@ use Rattle.rules.specs.Reel.{reelOf}
 use Rattle.rules.specs.Plan.{Plan, isFS, recordLength, planAnswer}
 use Rattle.rules.specs.Output.{blockOf, outRecord}
 use Rattle.rules.specs.Rows.{Row, Done}
-use Rattle.rules.specs.Run.{Ran as RuleRan}
+use Rattle.rules.specs.Run.{RunOutput}
 use Rattle.rules.specs.Lent.{zoneF, plan, planInto, tableAfter, run, runAnswer, outputAfter}
 use Rattle.rules.specs.Said.{PlanSays, TableSays, RunSays}
 use Rattle.rules.specs.Twins.{twinsInto, twinsAnswer}
@@ -128,21 +128,21 @@ keeping-plan deck n w k = go (plan deck) refl
     go (refuse q) e = let z : _≡_ {A = ℕ} 0 1 = sym (ap (λ (x : Answer Plan). planAnswer x .keeping) e) ∙ one in absurd (omega arith)
 
 -- the reel of a finished run stands at the front of the lent output
-front : (before : List ℕ) (r : Ran) (after : List ℕ) (x : RuleRan) → r ≡ ranStruct (runAnswer (fine x)) → after ≡ outputAfter before (fine x) → reelIn r after ≡ x .reel
+front : (before : List ℕ) (r : Ran) (after : List ℕ) (x : RunOutput) → r ≡ ranStruct (runAnswer (fine x)) → after ≡ outputAfter before (fine x) → reelIn r after ≡ x .reel
 front before r after x is out =
     ap (λ (n : ℕ). take n after) (ap (λ (n : Ran). n .length) is) ∙ ap (take (length (x .reel))) out ∙ take-at (x .reel) (drop (length (x .reel)) before) (length (x .reel)) refl
 
 -- a run that is not refused is finished, its reel stands at the front of the lent output, and its numbers are the reel's
 pub finished-run : (deck reel before : List ℕ) (r : Ran) (after : List ℕ) → All Byte reel → RanInto deck reel before r after → r .refusal ≡ 0
-    → (x : RuleRan) × (run (length before) deck reel ≡ fine x) × (reelIn r after ≡ x .reel) × (r ≡ ranStruct (runAnswer (fine x)))
+    → (x : RunOutput) × (run (length before) deck reel ≡ fine x) × (reelIn r after ≡ x .reel) × (r ≡ ranStruct (runAnswer (fine x)))
 unfolding run
 finished-run deck reel before r after a w z = go (run (length before) deck reel) refl
   where
-    go : (y : Answer RuleRan) → run (length before) deck reel ≡ y
-        → (x : RuleRan) × (run (length before) deck reel ≡ fine x) × (reelIn r after ≡ x .reel) × (r ≡ ranStruct (runAnswer (fine x)))
-    go (refuse q) d = absurd (run-never-0 zoneF (length before) (omega arith) deck reel a q d (sym (ap (λ (n : Ran). n .refusal) (w .answer ∙ ap (λ (y : Answer RuleRan). ranStruct (runAnswer y)) d)) ∙ z))
+    go : (y : Answer RunOutput) → run (length before) deck reel ≡ y
+        → (x : RunOutput) × (run (length before) deck reel ≡ fine x) × (reelIn r after ≡ x .reel) × (r ≡ ranStruct (runAnswer (fine x)))
+    go (refuse q) d = absurd (run-never-0 zoneF (length before) (omega arith) deck reel a q d (sym (ap (λ (n : Ran). n .refusal) (w .answer ∙ ap (λ (y : Answer RunOutput). ranStruct (runAnswer y)) d)) ∙ z))
     go (fine x) d =
-        let is : r ≡ ranStruct (runAnswer (fine x)) = w .answer ∙ ap (λ (y : Answer RuleRan). ranStruct (runAnswer y)) d in
+        let is : r ≡ ranStruct (runAnswer (fine x)) = w .answer ∙ ap (λ (y : Answer RunOutput). ranStruct (runAnswer y)) d in
         (x, d, front before r after x is (w .output ∙ ap (outputAfter before) d), is)
 
 -- ---- demand 3 and the run
@@ -220,13 +220,13 @@ module _ (deck reel before : List ℕ) (r : Ran) (after : List ℕ) (a : All Byt
         no-12 = λ n. never 12 (omega arith) (back .no-12) (run (length before′) deck′ (x .0 .reel)) refl n;
         copied = λ m l.
             let c : run (length before′) deck′ (x .0 .reel) ≡ fine (x .0) = back .copied m (length before′) (rw (ap (λ (n : Ran). n .length) (x .3)) at l) in
-            let is : r′ ≡ ranStruct (runAnswer (fine (x .0))) = answer ∙ ap (λ (y : Answer RuleRan). ranStruct (runAnswer y)) c in
+            let is : r′ ≡ ranStruct (runAnswer (fine (x .0))) = answer ∙ ap (λ (y : Answer RunOutput). ranStruct (runAnswer y)) c in
             let out : after′ ≡ outputAfter before′ (fine (x .0)) =
             w′ .output ∙ ap (λ (s : List ℕ). outputAfter before′ (run (length before′) deck′ s)) (x .2) ∙ ap (outputAfter before′) c in
             (is ∙ sym (x .3), front before′ r′ after′ (x .0) is out ∙ sym (x .2));
       }
     where
-      x : (x : RuleRan) × (run (length before) deck reel ≡ fine x) × (reelIn r after ≡ x .reel) × (r ≡ ranStruct (runAnswer (fine x)))
+      x : (x : RunOutput) × (run (length before) deck reel ≡ fine x) × (reelIn r after ≡ x .reel) × (r ≡ ranStruct (runAnswer (fine x)))
       x = finished-run deck reel before r after a w z
 
       back : RunsAgain zoneF deck′ q (x .0)
@@ -239,10 +239,10 @@ module _ (deck reel before : List ℕ) (r : Ran) (after : List ℕ) (a : All Byt
       answer : r′ ≡ ranStruct (runAnswer (run (length before′) deck′ (x .0 .reel)))
       answer = w′ .answer ∙ ap (λ (s : List ℕ). ranStruct (runAnswer (run (length before′) deck′ s))) (x .2)
 
-      never : (n : ℕ) → 1 ≤ n → NeverRefused zoneF deck′ (x .0 .reel) n → (y : Answer RuleRan) → run (length before′) deck′ (x .0 .reel) ≡ y → r′ .refusal ≡ n → ⊥
-      never n l h y d k = go y d (sym (ap (λ (b : Ran). b .refusal) (answer ∙ ap (λ (y : Answer RuleRan). ranStruct (runAnswer y)) d)) ∙ k)
+      never : (n : ℕ) → 1 ≤ n → NeverRefused zoneF deck′ (x .0 .reel) n → (y : Answer RunOutput) → run (length before′) deck′ (x .0 .reel) ≡ y → r′ .refusal ≡ n → ⊥
+      never n l h y d k = go y d (sym (ap (λ (b : Ran). b .refusal) (answer ∙ ap (λ (y : Answer RunOutput). ranStruct (runAnswer y)) d)) ∙ k)
         where
-          go : (y : Answer RuleRan) → run (length before′) deck′ (x .0 .reel) ≡ y → runAnswer y .refusal ≡ n → ⊥
+          go : (y : Answer RunOutput) → run (length before′) deck′ (x .0 .reel) ≡ y → runAnswer y .refusal ≡ n → ⊥
           go (fine b) d k = omega arith
           go (refuse b) d k = h (length before′) (b .place) (b .column) (d ∙ (λ i. refusedAt (k i) (b .place) (b .column)))
 
@@ -275,7 +275,7 @@ module _ (deck before : List ℕ) (t : Twins) (after : List ℕ) (told : Told de
           go false f = f
           go true f = absurd (not-lost p (told .lost) (spanned-deck zoneF deck p e f (omega arith) .keeping) (shows .place))
 
-      x : RuleRan
+      x : RunOutput
       x = ownRan p (outRecord p (told .r))
 
       runs : run (length lent) deck (alone p (told .r)) ≡ fine x
@@ -287,10 +287,10 @@ module _ (deck before : List ℕ) (t : Twins) (after : List ℕ) (told : Told de
           ∙ ap (λ (o : List ℕ). fine (ownRan p o)) (sym (shows .outputs))
 
       is : r ≡ ranStruct (runAnswer (fine x))
-      is = w .answer ∙ ap (λ (y : Answer RuleRan). ranStruct (runAnswer y)) runs
+      is = w .answer ∙ ap (λ (y : Answer RunOutput). ranStruct (runAnswer y)) runs
 
       is′ : r′ ≡ ranStruct (runAnswer (fine x))
-      is′ = w′ .answer ∙ ap (λ (y : Answer RuleRan). ranStruct (runAnswer y)) runs′
+      is′ = w′ .answer ∙ ap (λ (y : Answer RunOutput). ranStruct (runAnswer y)) runs′
 
 -- ---- a reel from elsewhere (document 02, order 7)
 

@@ -14,14 +14,14 @@ use Rattle.rules.specs.Places.{Both, none-left, both}
 use Rattle.rules.specs.Deck.{beforeFS}
 use Rattle.rules.specs.Grammar.{Part, inData, inKey, Item, field, cv}
 use Rattle.rules.specs.Texts.{ItemText, FsText}
-use Rattle.rules.specs.Words.{Worded, fsWords, valuesOf, againColumn, numberColumns, outsideColumn, firstOf, outsideIn, outsideAmong}
+use Rattle.rules.specs.Words.{Worded, fsWords, valuesOf, againColumn, numberColumns, outsideColumn, firstColumn, outsideIn, outsideAmong}
 use Rattle.rules.specs.Asked.{cvs, sameCV, cvColumn, itemNumbers, fieldColumn}
 use Rattle.rules.proofs.AcceptedLaws.{cvs-append}
 use Rattle.rules.proofs.WordedLaws.{fs-worded}
 use Rattle.rules.proofs.NumberColumns.{item-count}
 use Rattle.rules.proofs.WordColumns.{first-some, outside-free, outside-parts}
 use Rattle.cards.specs.declared.Noted.{Noted}
-use Rattle.cards.specs.Selected.{counted, keyNoted, fieldNoted, cvNoted, Taken, withItem, withWords, noSelection, withCard, withCards}
+use Rattle.cards.specs.Selected.{fieldCounted, keyNoted, fieldNoted, cvNoted, NotedRow, withItem, withWords, noSelection, withCard, withCards}
 
 -- ---- what an item leaves
 
@@ -32,17 +32,17 @@ second n = (n .«second_cv», n .«second_column»)
 abbrev outside : Noted → ℕ × ℕ
 outside n = (n .beyond, n .«beyond_column»)
 
-counted-leaves : (n : Noted) (card : ℕ) → (counted n card .cv ≡ n .cv) × (second (counted n card) ≡ second n) × (outside (counted n card) ≡ outside n)
-unfolding counted
+counted-leaves : (n : Noted) (card : ℕ) → (fieldCounted n card .cv ≡ n .cv) × (second (fieldCounted n card) ≡ second n) × (outside (fieldCounted n card) ≡ outside n)
+unfolding fieldCounted
 counted-leaves n card = go (ltb (n .count) 64) refl
   where
-    go : (t : Bool) → ltb (n .count) 64 ≡ t → (counted n card .cv ≡ n .cv) × (second (counted n card) ≡ second n) × (outside (counted n card) ≡ outside n)
+    go : (t : Bool) → ltb (n .count) 64 ≡ t → (fieldCounted n card .cv ≡ n .cv) × (second (fieldCounted n card) ≡ second n) × (outside (fieldCounted n card) ≡ outside n)
     go true e = rw e (refl, refl, refl)
     go false e = rw e (refl, refl, refl)
 
 -- so does the part of a field
 named-leaves : (n : Noted) (card : ℕ) (part : Part)
-    → (keyNoted (counted n card) card part .cv ≡ n .cv) × (second (keyNoted (counted n card) card part) ≡ second n) × (outside (keyNoted (counted n card) card part) ≡ outside n)
+    → (keyNoted (fieldCounted n card) card part .cv ≡ n .cv) × (second (keyNoted (fieldCounted n card) card part) ≡ second n) × (outside (keyNoted (fieldCounted n card) card part) ≡ outside n)
 named-leaves n card inData = counted-leaves n card
 named-leaves n card inKey = counted-leaves n card
 
@@ -68,21 +68,21 @@ cv-leaves n card column = go (eqb (n .cv) 0) refl (eqb (n .«second_cv») 0) ref
 
 -- ---- what was noted stays
 
-module _ (get : Noted → ℕ × ℕ) (keeps : (card column out : ℕ) (i : Item) (t : Taken) → (get (t .0) .0 ≡ 0 → ⊥) → get (withItem card column out i t .0) ≡ get (t .0)) where
-  words-stay : (card column : ℕ) (ws : List (Worded Item)) (t : Taken) → (get (t .0) .0 ≡ 0 → ⊥) → get (withWords card column ws t .0) ≡ get (t .0)
+module _ (get : Noted → ℕ × ℕ) (keeps : (card column out : ℕ) (i : Item) (t : NotedRow) → (get (t .0) .0 ≡ 0 → ⊥) → get (withItem card column out i t .0) ≡ get (t .0)) where
+  words-stay : (card column : ℕ) (ws : List (Worded Item)) (t : NotedRow) → (get (t .0) .0 ≡ 0 → ⊥) → get (withWords card column ws t .0) ≡ get (t .0)
   words-stay card column [] t n = refl
   words-stay card column (w ∷ ws) t n =
       let k = keeps card column (outsideIn itemNumbers column w) (w .value) t n in
       words-stay card (column + suc (length (w .text))) ws (withItem card column (outsideIn itemNumbers column w) (w .value) t) (λ z. n (sym (ap (λ (x : ℕ × ℕ). x .0) k) ∙ z)) ∙ k
 
-  cards-stay : (card : ℕ) (cs : List (List (Worded Item))) (t : Taken) → (get (t .0) .0 ≡ 0 → ⊥) → get (withCards card cs t .0) ≡ get (t .0)
+  cards-stay : (card : ℕ) (cs : List (List (Worded Item))) (t : NotedRow) → (get (t .0) .0 ≡ 0 → ⊥) → get (withCards card cs t .0) ≡ get (t .0)
   unfolding withCard
   cards-stay card [] t n = refl
   cards-stay card (ws ∷ cs) t n =
       let k = words-stay card (suc beforeFS) ws t n in
       cards-stay (suc card) cs (withCard card ws t) (λ z. n (sym (ap (λ (x : ℕ × ℕ). x .0) k) ∙ z)) ∙ k
 
-second-keeps : (card column out : ℕ) (i : Item) (t : Taken) → (second (t .0) .0 ≡ 0 → ⊥) → second (withItem card column out i t .0) ≡ second (t .0)
+second-keeps : (card column out : ℕ) (i : Item) (t : NotedRow) → (second (t .0) .0 ≡ 0 → ⊥) → second (withItem card column out i t .0) ≡ second (t .0)
 unfolding withItem cvNoted
 second-keeps card column out (field f) t n = field-leaves (t .0) card (f .part) out .1
 second-keeps card column out cv t n = go (eqb (t .0 .cv) 0) refl
@@ -91,7 +91,7 @@ second-keeps card column out cv t n = go (eqb (t .0 .cv) 0) refl
     go true e = rw e refl
     go false e = rw (e, ne-eqb (t .0 .«second_cv») 0 n) refl
 
-outside-keeps : (card column out : ℕ) (i : Item) (t : Taken) → (outside (t .0) .0 ≡ 0 → ⊥) → outside (withItem card column out i t .0) ≡ outside (t .0)
+outside-keeps : (card column out : ℕ) (i : Item) (t : NotedRow) → (outside (t .0) .0 ≡ 0 → ⊥) → outside (withItem card column out i t .0) ≡ outside (t .0)
 unfolding withItem fieldNoted
 outside-keeps card column out cv t n = cv-leaves (t .0) card column
 outside-keeps card column out (field f) t n = go (eqb out 0) refl
@@ -103,21 +103,21 @@ outside-keeps card column out (field f) t n = go (eqb out 0) refl
 -- ---- what is noted first, item by item and card by card
 
 -- `find` is the column at which an item is noted, or 0, with what was seen before it; `step` is what is seen behind it
-module _ (get : Noted → ℕ × ℕ) (keeps : (card column out : ℕ) (i : Item) (t : Taken) → (get (t .0) .0 ≡ 0 → ⊥) → get (withItem card column out i t .0) ≡ get (t .0))
+module _ (get : Noted → ℕ × ℕ) (keeps : (card column out : ℕ) (i : Item) (t : NotedRow) → (get (t .0) .0 ≡ 0 → ⊥) → get (withItem card column out i t .0) ≡ get (t .0))
     {S : Type 0} (find : S → ℕ → Worded Item → ℕ) (step : S → Worded Item → S) (Clear : Noted → S → Type 0) (none : (n : Noted) (s : S) → Clear n s → get n .0 ≡ 0)
-    (item : (card column : ℕ) → 1 ≤ card → 1 ≤ column → (w : Worded Item) (t : Taken) (s : S) → Clear (t .0) s
+    (item : (card column : ℕ) → 1 ≤ card → 1 ≤ column → (w : Worded Item) (t : NotedRow) (s : S) → Clear (t .0) s
     → ((find s column w ≡ 0) × Clear (withItem card column (outsideIn itemNumbers column w) (w .value) t .0) (step s w))
     ⊎ ((1 ≤ find s column w) × (get (withItem card column (outsideIn itemNumbers column w) (w .value) t .0) ≡ (card, find s column w)))) where
   abbrev pub seek : S → ℕ → List (Worded Item) → ℕ
   seek s column [] = 0
-  seek s column (w ∷ ws) = let later = seek (step s w) (column + suc (length (w .text))) ws in firstOf (find s column w) later
+  seek s column (w ∷ ws) = let later = seek (step s w) (column + suc (length (w .text))) ws in firstColumn (find s column w) later
 
   abbrev pub steps : S → List (Worded Item) → S
   steps s [] = s
   steps s (w ∷ ws) = steps (step s w) ws
 
   -- after the items of a card: nothing yet, or it stands on it
-  noted-words : (card column : ℕ) → 1 ≤ card → 1 ≤ column → (ws : List (Worded Item)) (t : Taken) (s : S) → Clear (t .0) s
+  noted-words : (card column : ℕ) → 1 ≤ card → 1 ≤ column → (ws : List (Worded Item)) (t : NotedRow) (s : S) → Clear (t .0) s
       → Clear (withWords card column ws t .0) (steps s ws) ⊎ (get (withWords card column ws t .0) ≡ (card, seek s column ws))
   noted-words card column l k [] t s c = inl c
   noted-words card column l k (w ∷ ws) t s c =
@@ -126,10 +126,10 @@ module _ (get : Noted → ℕ × ℕ) (keeps : (card column out : ℕ) (i : Item
       next : ℕ
       next = column + suc (length (w .text))
 
-      after : Taken
+      after : NotedRow
       after = withItem card column (outsideIn itemNumbers column w) (w .value) t
 
-      go : ((u : Taken) (r : S) → Clear (u .0) r → Clear (withWords card next ws u .0) (steps r ws) ⊎ (get (withWords card next ws u .0) ≡ (card, seek r next ws)))
+      go : ((u : NotedRow) (r : S) → Clear (u .0) r → Clear (withWords card next ws u .0) (steps r ws) ⊎ (get (withWords card next ws u .0) ≡ (card, seek r next ws)))
           → ((find s column w ≡ 0) × Clear (after .0) (step s w)) ⊎ ((1 ≤ find s column w) × (get (after .0) ≡ (card, find s column w)))
           → Clear (withWords card next ws after .0) (steps (step s w) ws) ⊎ (get (withWords card next ws after .0) ≡ (card, seek s column (w ∷ ws)))
       go on (inl q) = shift (on after (step s w) (q .1))
@@ -137,7 +137,7 @@ module _ (get : Noted → ℕ × ℕ) (keeps : (card column out : ℕ) (i : Item
           shift : Clear (withWords card next ws after .0) (steps (step s w) ws) ⊎ (get (withWords card next ws after .0) ≡ (card, seek (step s w) next ws))
               → Clear (withWords card next ws after .0) (steps (step s w) ws) ⊎ (get (withWords card next ws after .0) ≡ (card, seek s column (w ∷ ws)))
           shift (inl x) = inl x
-          shift (inr x) = inr (x ∙ ap (λ (j : ℕ). (card, firstOf j (seek (step s w) next ws))) (sym (q .0)))
+          shift (inr x) = inr (x ∙ ap (λ (j : ℕ). (card, firstColumn j (seek (step s w) next ws))) (sym (q .0)))
       go on (inr q) =
           inr
           (words-stay get keeps card next ws after (λ z. let j : card ≡ 0 = sym (ap (λ (x : ℕ × ℕ). x .0) (q .1)) ∙ z in omega arith)
@@ -150,7 +150,7 @@ module _ (get : Noted → ℕ × ℕ) (keeps : (card column out : ℕ) (i : Item
   columnAt s i (o ∷ os) p = let later = columnAt (steps s (fsWords o)) (suc i) os p in cond (eqb p i) (seek s (suc beforeFS) (fsWords o)) later
 
   -- after some cards: nothing, or it stands on one of them
-  noted-cards : (card : ℕ) → 1 ≤ card → (os : List (List ℕ)) (t : Taken) (s : S) → Clear (t .0) s
+  noted-cards : (card : ℕ) → 1 ≤ card → (os : List (List ℕ)) (t : NotedRow) (s : S) → Clear (t .0) s
       → (get (withCards card (map fsWords os) t .0) .0 ≡ 0)
       ⊎ ((card ≤ get (withCards card (map fsWords os) t .0) .0)
       × (get (withCards card (map fsWords os) t .0) .1 ≡ columnAt s card os (get (withCards card (map fsWords os) t .0) .0)))
@@ -162,7 +162,7 @@ module _ (get : Noted → ℕ × ℕ) (keeps : (card column out : ℕ) (i : Item
       ws : List (Worded Item)
       ws = fsWords o
 
-      next : Taken
+      next : NotedRow
       next = withCard card ws t
 
       end : Noted
@@ -201,7 +201,7 @@ cvs-many : (k : ℕ) → cvs (replicate k cv) ≡ k
 cvs-many zero = refl
 cvs-many (suc k) = ap suc (cvs-many k)
 
-cv-item : (card column : ℕ) → 1 ≤ card → 1 ≤ column → (w : Worded Item) (t : Taken) (k : ℕ) → Single (t .0) k
+cv-item : (card column : ℕ) → 1 ≤ card → 1 ≤ column → (w : Worded Item) (t : NotedRow) (k : ℕ) → Single (t .0) k
     → ((findCV k column w ≡ 0) × Single (withItem card column (outsideIn itemNumbers column w) (w .value) t .0) (stepCV k w))
     ⊎ ((1 ≤ findCV k column w) × (second (withItem card column (outsideIn itemNumbers column w) (w .value) t .0) ≡ (card, findCV k column w)))
 unfolding withItem cvNoted
@@ -238,11 +238,11 @@ cv-seek : (k column : ℕ) → 1 ≤ column → (ws : List (Worded Item)) (xs : 
 cv-seek k column l [] xs e = refl
 cv-seek k column l (w ∷ ws) xs e =
     let q : cvs (w .value ∷ xs) ≡ cvs (w .value ∷ []) + k = omega (arith, e, cvs-append (w .value ∷ []) xs) in
-    ap₂ firstOf (ap (λ (b : Bool). cond b column 0) (cv-same (w .value) (replicate k cv) xs (cvs-many k ∙ sym e)))
+    ap₂ firstColumn (ap (λ (b : Bool). cond b column 0) (cv-same (w .value) (replicate k cv) xs (cvs-many k ∙ sym e)))
     (cv-seek (cvs (w .value ∷ []) + k) (column + suc (length (w .text))) (omega arith) ws (w .value ∷ xs) q)
     ∙ two (sameCV (w .value) xs)
   where
-    two : (b : Bool) → firstOf (cond b column 0) (againColumn sameCV (w .value ∷ xs) (column + suc (length (w .text))) ws) ≡ cond b column (againColumn sameCV (w .value ∷ xs) (column + suc (length (w .text))) ws)
+    two : (b : Bool) → firstColumn (cond b column 0) (againColumn sameCV (w .value ∷ xs) (column + suc (length (w .text))) ws) ≡ cond b column (againColumn sameCV (w .value ∷ xs) (column + suc (length (w .text))) ws)
     two true = first-some column _ l
     two false = refl
 
@@ -267,7 +267,7 @@ Inner n u = n .beyond ≡ 0
 abbrev findOutside : Unit {0} → ℕ → Worded Item → ℕ
 findOutside u column w = outsideIn itemNumbers column w
 
-outside-item : (card column : ℕ) → 1 ≤ card → 1 ≤ column → (w : Worded Item) (t : Taken) (u : Unit {0}) → Inner (t .0) u
+outside-item : (card column : ℕ) → 1 ≤ card → 1 ≤ column → (w : Worded Item) (t : NotedRow) (u : Unit {0}) → Inner (t .0) u
     → ((findOutside u column w ≡ 0) × Inner (withItem card column (outsideIn itemNumbers column w) (w .value) t .0) u)
     ⊎ ((1 ≤ findOutside u column w) × (outside (withItem card column (outsideIn itemNumbers column w) (w .value) t .0) ≡ (card, findOutside u column w)))
 unfolding withItem fieldNoted
@@ -284,7 +284,7 @@ outside-item card column l m w t u s = go (w .value) refl (outsideIn itemNumbers
 outside-seek : (column : ℕ) (ws : List (Worded Item))
     → seek outside outside-keeps findOutside (λ u w. u) Inner (λ n s c. c) outside-item tt column ws ≡ outsideAmong itemNumbers column ws
 outside-seek column [] = refl
-outside-seek column (w ∷ ws) = ap (firstOf (outsideIn itemNumbers column w)) (outside-seek (column + suc (length (w .text))) ws)
+outside-seek column (w ∷ ws) = ap (firstColumn (outsideIn itemNumbers column w)) (outside-seek (column + suc (length (w .text))) ws)
 
 outside-at : (i : ℕ) (os : List (List ℕ)) (cs : List (List Item)) → Both FsText os cs → (p : ℕ)
     → columnAt outside outside-keeps findOutside (λ u w. u) Inner (λ n s c. c) outside-item tt i os p ≡ fieldColumn i os cs p

@@ -26,7 +26,7 @@ use Rattle.lines.specs.Meaning.{IsCard, LineSays}
 use Rattle.cards.specs.declared.ListRead.{ListRead}
 use Rattle.cards.specs.declared.Noted.{Noted}
 use Rattle.cards.specs.declared.FsCards.{FsCards}
-use Rattle.cards.specs.Selected.{Taken, ListSays, noSelection, withCard, withCards}
+use Rattle.cards.specs.Selected.{NotedRow, ListSays, noSelection, withCard, withCards}
 use Rattle.cards.specs.Deck.{cardsIn, fsFirst, OperandAt, Operandless, FsRead, FsSaid}
 
 -- ---- a part of a part
@@ -36,7 +36,7 @@ slice-within a e f t l h =
     ap (drop f) (sym (slice-from a t (take e l)) ∙ ap (drop a) (take-take (a + t) e l h)) ∙ drop-drop f a (take (a + t) l)
 
 -- what is said of the list that a card's operand is lent as, `&deck[from..to]`
-pub lent-list : (card : ℕ) (t : Taken) (deck : List ℕ) (from to : ℕ) → from ≤ to → (r : ListRead) (row : List ℕ)
+pub lent-list : (card : ℕ) (t : NotedRow) (deck : List ℕ) (from to : ℕ) → from ≤ to → (r : ListRead) (row : List ℕ)
     → ListSays card 7 7 t (take (to - from) (drop from deck)) (listOf "/" (worded item) (take (to - from) (drop from deck))) r row
     → ListSays card 7 7 t (slice from to deck) (listOf "/" (worded item) (slice from to deck)) r row
 lent-list card t deck from to h r row = subst (λ (o : List ℕ). ListSays card 7 7 t o (listOf "/" (worded item) o) r row) (sym (slice-part from to deck h))
@@ -83,7 +83,7 @@ no-more (some (uCard b o) ∷ cs) h = absurd h
 no-more (some (fsCard o) ∷ cs) h = absurd h
 no-more (some endCard ∷ cs) h = refl
 
-module _ (card : ℕ) (t : Taken) (r : FsCards) (row o : List ℕ) (os : List (List ℕ)) where
+module _ (card : ℕ) (t : NotedRow) (r : FsCards) (row o : List ℕ) (os : List (List ℕ)) where
   -- a card whose operand could be read, and then the others
   pub said-card : (ws : List (Worded Item)) (left : List ℕ) → listOf "/" (worded item) o ≡ read ws left → FsSaid (suc card) (withCard card ws t) os r row → FsSaid card t (o ∷ os) r row
   unfolding _>>=_ fsOperand fsWords
@@ -105,14 +105,14 @@ module _ (card : ℕ) (t : Taken) (r : FsCards) (row o : List ℕ) (os : List (L
       rw p (h, c ∙ (let z : suc beforeFS + k ≡ beforeFS + suc (length o - length (drop k o)) = omega arith in z))
 
 -- what is right of the FS cards from here on is right of all of them
-pub record Selecting (deck : List ℕ) (start key : ℕ) (t : Taken) (card at : ℕ) : Type 0 where
+pub record Selecting (deck : List ℕ) (start key : ℕ) (t : NotedRow) (card at : ℕ) : Type 0 where
   pub low : card ≤ 2 + at
   pub on : (r : FsCards) (row : List ℕ) → FsSaid card t (fsFirst (cardsIn (drop at deck))) r row → FsSaid 2 (noSelection key) (fsFirst (cardsIn (drop start deck))) r row
 
 pub selecting-start : (deck : List ℕ) (start key : ℕ) → Selecting deck start key (noSelection key) 2 start
 selecting-start deck start key = record { low = omega arith; on = λ r row h. h }
 
-module _ (deck : List ℕ) (from key : ℕ) (t : Taken) (card at : ℕ) (g : Selecting deck from key t card at) where
+module _ (deck : List ℕ) (from key : ℕ) (t : NotedRow) (card at : ℕ) (g : Selecting deck from key t card at) where
   abbrev pub Whole : FsCards → List ℕ → Type 0
   Whole r row = FsSaid 2 (noSelection key) (fsFirst (cardsIn (drop from deck))) r row
 
@@ -161,7 +161,7 @@ module _ (deck : List ℕ) (from key : ℕ) (t : Taken) (card at : ℕ) (g : Sel
               → ListSays card (suc beforeFS) (suc beforeFS) t operand y read-as row → FsSaid card t (operand ∷ fsFirst (cardsIn (drop next deck))) r row′
           go r row′ k (read ws left) e (u, m, w) =
               said-card card t r row′ operand (fsFirst (cardsIn (drop next deck))) ws left e
-              (subst (λ (x : Taken). FsSaid (suc card) x (fsFirst (cardsIn (drop next deck))) r row′) (λ i. (m i, w i)) k)
+              (subst (λ (x : NotedRow). FsSaid (suc card) x (fsFirst (cardsIn (drop next deck))) r row′) (λ i. (m i, w i)) k)
           go r row′ k (stopped left) e (j, l, d, u) = absurd (omega arith)
 
 -- ---- a deck in order

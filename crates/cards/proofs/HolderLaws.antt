@@ -26,7 +26,7 @@ use Rattle.lines.specs.Meaning.{IsCard}
 use Rattle.cards.specs.declared.ListRead.{ListRead}
 use Rattle.cards.specs.declared.CardAt.{CardAt}
 use Rattle.cards.specs.declared.DeckRead.{DeckRead}
-use Rattle.cards.specs.Selected.{Taken, ListSays, withWords}
+use Rattle.cards.specs.Selected.{NotedRow, ListSays, withWords}
 use Rattle.cards.specs.Deck.{cardsIn, fsFirst, OperandAt, Operandless, CardAtSays, FsFine}
 use Rattle.cards.specs.Promise.{Accepts, DeckSays, InOrder, cardOfField}
 use Rattle.cards.proofs.CardAt as card-type
@@ -68,7 +68,7 @@ reading card o os cs e =
     record { items = w .0; others = x .0; are = sym (fine-same (w .0 ∷ x .0) cs (x .2)); left = g .0; reads = g .1; next = x .1 }
 
 -- what is noted of it is that of its words
-noted-words : (card : ℕ) (t : Taken) (o : List ℕ) (is : List Item) (left : List ℕ) → fsOperand o ≡ read is left → (r : ListRead) (row : List ℕ)
+noted-words : (card : ℕ) (t : NotedRow) (o : List ℕ) (is : List Item) (left : List ℕ) → fsOperand o ≡ read is left → (r : ListRead) (row : List ℕ)
     → ListSays card (suc beforeFS) (suc beforeFS) t o (listOf "/" (worded item) o) r row → (ws : List (Worded Item)) × (r .noted ≡ withWords card (suc beforeFS) ws t .0) × (valuesOf ws ≡ is)
 unfolding fsOperand
 noted-words card t o is left e r row says = go (listOf "/" (worded item) o) refl says
@@ -82,14 +82,14 @@ noted-words card t o is left e r row says = go (listOf "/" (worded item) o) refl
         absurd (omega arith)
 
 -- its fields are counted
-counts : (card : ℕ) (t : Taken) (o : List ℕ) (is : List Item) (left : List ℕ) → fsOperand o ≡ read is left → t .0 .count ≤ 64 → (r : ListRead) (row : List ℕ)
+counts : (card : ℕ) (t : NotedRow) (o : List ℕ) (is : List Item) (left : List ℕ) → fsOperand o ≡ read is left → t .0 .count ≤ 64 → (r : ListRead) (row : List ℕ)
     → ListSays card (suc beforeFS) (suc beforeFS) t o (listOf "/" (worded item) o) r row → r .noted .count ≡ min 64 (t .0 .count + manyFields is)
 counts card t o is left e l r row says =
     let w = noted-words card t o is left e r row says in
     ap (λ n. n .count) (w .1) ∙ words-many card (suc beforeFS) (w .0) t l ∙ ap (λ (c : List Item). min 64 (t .0 .count + manyFields c)) (w .2)
 
 -- and the key stays
-holds-key : (card : ℕ) (t : Taken) (o : List ℕ) (is : List Item) (left : List ℕ) → fsOperand o ≡ read is left → (r : ListRead) (row : List ℕ)
+holds-key : (card : ℕ) (t : NotedRow) (o : List ℕ) (is : List Item) (left : List ℕ) → fsOperand o ≡ read is left → (r : ListRead) (row : List ℕ)
     → ListSays card (suc beforeFS) (suc beforeFS) t o (listOf "/" (worded item) o) r row → r .noted .key ≡ t .0 .key
 holds-key card t o is left e r row says = let w = noted-words card t o is left e r row says in ap (λ n. n .key) (w .1) ∙ words-key card (suc beforeFS) (w .0) t
 
@@ -119,7 +119,7 @@ seeking-start deck from field h =
           λ i. getD (fieldCards 2 (s i)) (z i) 0;
     }
 
-module _ (deck : List ℕ) (from field : ℕ) (t : Taken) (card at : ℕ) (g : Seeking deck from field (t .0 .count) card at) where
+module _ (deck : List ℕ) (from field : ℕ) (t : NotedRow) (card at : ℕ) (g : Seeking deck from field (t .0 .count) card at) where
   abbrev count : ℕ
   count = t .0 .count
 

@@ -5,7 +5,7 @@ pub mod ColumnLaws
 pub mod ListedLaws
 pub mod ParameterLaws
 pub mod DeckLaws
-pub mod VerdictLaws
+pub mod RefusalLaws
 pub mod OrderedLaws
 pub mod PromiseLaws
 pub mod HolderLaws

@@ -37,7 +37,7 @@ use Rattle.limits.specs.Limits.{shifted, fieldOutside}
 use Rattle.keys.proofs.KeyLaws.{laid-short}
 use Rattle.cards.specs.declared.Noted.{Noted}
 use Rattle.cards.specs.declared.ListRead.{ListRead}
-use Rattle.cards.specs.Selected.{fieldNoted, cvNoted, keptRow, Taken, withItem, withWords, ListSays}
+use Rattle.cards.specs.Selected.{fieldNoted, cvNoted, keptRow, NotedRow, withItem, withWords, ListSays}
 use Rattle.cards.proofs.RowLaws.{Fair, words-key}
 
 abbrev takes : Within 1 (worded item)
@@ -45,7 +45,7 @@ takes = within-worded item within-item
 
 -- ---- a list
 
-module _ (card column : ℕ) (t : Taken) (s : List ℕ) where
+module _ (card column : ℕ) (t : NotedRow) (s : List ℕ) where
   -- an item, and then its rest
   module _ (i : Item) (n : ℕ) (e : Reads item s i n) where
     abbrev word : Worded Item
@@ -59,7 +59,7 @@ module _ (card column : ℕ) (t : Taken) (s : List ℕ) where
         (sym (list-item "/" (worded item) takes s word (drop n s) (word-taken item s i n (e .1))))
         (go (restOf "/" (worded item) (drop n s)) h)
       where
-        after : Taken
+        after : NotedRow
         after = withItem card column (outsideIn itemNumbers column word) i t
 
         next : 1 + (column + n) ≡ column + suc (length (take n s))
@@ -184,7 +184,7 @@ words-fair o is t = parts-all (fs-worded o is t .0)
 
 -- ---- an item, as code takes it
 
-module _ (card column : ℕ) (t : Taken) (s : List ℕ) where
+module _ (card column : ℕ) (t : NotedRow) (s : List ℕ) where
   -- a field: its first number outside its limits, the row, and what is noted
   pub listed-field : (part : Part) (f : Field) (p : Places) (n : ℕ) → ItemSays s (IsField part f p n)
       → (out : ℕ) → out ≡ fieldOutside part f p column
@@ -199,7 +199,7 @@ module _ (card column : ℕ) (t : Taken) (s : List ℕ) where
       let q : out ≡ outsideIn itemNumbers column (theWord s part f p n e) = o ∙ outside-is s part f p n e column in
       listed-item card column t s (field (cardField part f)) n (e .0) r end
       (subst (λ (x : List ℕ). ListSays card (1 + (column + n)) (column + n) (withItem card column (outsideIn itemNumbers column (theWord s part f p n e)) (field (cardField part f)) t) x (restOf "/" (worded item) x) r end) d
-      (subst (λ (x : Taken). ListSays card (1 + (column + n)) (column + n) x rest (restOf "/" (worded item) rest) r end)
+      (subst (λ (x : NotedRow). ListSays card (1 + (column + n)) (column + n) x rest (restOf "/" (worded item) rest) r end)
       (λ i. ((w ∙ ap (fieldNoted (t .0) card (partOf part)) q) i, (k ∙ (λ j. keptRow (t .0 .count) (q j) (v j) (t .1))) i)) h))
 
   pub listed-cv : (n : ℕ) → ItemSays s (IsCV n) → (m : Noted) → m ≡ cvNoted (t .0) card column → (part : List ℕ) → part ≡ drop n s
@@ -214,7 +214,7 @@ module _ (card column : ℕ) (t : Taken) (s : List ℕ) where
 -- ---- a card
 
 -- the key is what it was, where the card could be read
-pub key-kept : (card : ℕ) (t : Taken) (o : List ℕ) (r : ListRead) (row : List ℕ) → ListSays card 7 7 t o (listOf "/" (worded item) o) r row → r .unread ≡ 0
+pub key-kept : (card : ℕ) (t : NotedRow) (o : List ℕ) (r : ListRead) (row : List ℕ) → ListSays card 7 7 t o (listOf "/" (worded item) o) r row → r .unread ≡ 0
     → r .noted .key ≡ t .0 .key
 key-kept card t o r row h z = go (listOf "/" (worded item) o) h
   where

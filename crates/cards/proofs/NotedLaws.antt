@@ -13,14 +13,14 @@ use Rattle.rules.specs.Answer.{each}
 use Rattle.rules.specs.Grammar.{Part, inData, inKey, CardField, Item, field, cv}
 use Rattle.rules.specs.Asked.{fieldsOf, cvs, upTo, fieldLimits}
 use Rattle.rules.specs.Plan.{isKey, keyFields}
-use Rattle.rules.specs.Rows.{total}
+use Rattle.rules.specs.Rows.{onAllCards}
 use Rattle.rules.proofs.Lists.{every-append, joined-last}
 use Rattle.rules.proofs.AcceptedLaws.{fields-append, cvs-append}
 use Rattle.rules.proofs.CardSteps.{noted, total-last, total-fields, total-cvs, upTo-empty, noted-equal, noted-within, noted-over, each-empty, noted-same, noted-fails}
 use Rattle.terms.specs.Meaning.{cvCard, keyCard}
 use Rattle.terms.proofs.PlanOf.{cv-said}
 use Rattle.cards.specs.declared.Noted.{Noted}
-use Rattle.cards.specs.Selected.{nothingNoted, counted, keyNoted, beyondNoted, fieldNoted, secondNoted, cvNoted}
+use Rattle.cards.specs.Selected.{nothingNoted, fieldCounted, keyNoted, beyondNoted, fieldNoted, secondNoted, cvNoted}
 use Rattle.cards.proofs.ListSteps.{no-field, keys-append, first-empty, first-same, first-more}
 
 -- all fields of the cards
@@ -106,14 +106,14 @@ module _ (cs : List (List Item)) (c : List Item) where
       twice : x .«second_cv» ≡ n .«second_cv»
       beyond : x .beyond ≡ n .beyond
 
-    tells-counted : Counted (counted n card) (n .keyed)
-    unfolding counted
+    tells-counted : Counted (fieldCounted n card) (n .keyed)
+    unfolding fieldCounted
     tells-counted = go (ltb (n .count) 64) refl
       where
-        total-more : total manyFields (with-more (field f)) ≡ length (allFields with-last) + 1
+        total-more : onAllCards manyFields (with-more (field f)) ≡ length (allFields with-last) + 1
         total-more = total-fields (with-more (field f)) ∙ many
 
-        go : (t : Bool) → ltb (n .count) 64 ≡ t → Counted (counted n card) (n .keyed)
+        go : (t : Bool) → ltb (n .count) 64 ≡ t → Counted (fieldCounted n card) (n .keyed)
         go true e =
             let l : n .count < 64 = ltb-true (n .count) 64 e in
             rw e (record {
@@ -180,7 +180,7 @@ module _ (cs : List (List Item)) (c : List Item) where
     -- the field's numbers are within their limits exactly if no column is given
     pub tells-field : (outside : ℕ) → eqb outside 0 ≡ fieldLimits f → Tells (fieldNoted n card (f .part) outside) (with-more (field f))
     unfolding fieldNoted
-    tells-field outside fair = go (tells-named (counted n card) tells-counted) (eqb outside 0) refl
+    tells-field outside fair = go (tells-named (fieldCounted n card) tells-counted) (eqb outside 0) refl
       where
         twice-same : (x : Noted) → Named x → noted 4 (x .«second_cv») ≡ upTo 4 1 cvs 0 2 (with-more (field f))
         twice-same x p = ap (noted 4) (p .twice) ∙ noted-equal 4 1 cvs (n .«second_cv») cs c (c ++ (field f ∷ [])) (h .twice) cvs-same
@@ -193,7 +193,7 @@ module _ (cs : List (List Item)) (c : List Item) where
             noted-fails 7 limited (n .beyond) cs c (c ++ (field f ∷ [])) (h .beyond)
             (limited-more ∙ ap (λ (t : Bool). limited c && t) (sym fair ∙ e) ∙ and-false (limited c))
 
-        go : Named (keyNoted (counted n card) card (f .part)) → (t : Bool) → eqb outside 0 ≡ t → Tells (fieldNoted n card (f .part) outside) (with-more (field f))
+        go : Named (keyNoted (fieldCounted n card) card (f .part)) → (t : Bool) → eqb outside 0 ≡ t → Tells (fieldNoted n card (f .part) outside) (with-more (field f))
         go p true e =
             rw e (record {
               count = p .count;
@@ -207,7 +207,7 @@ module _ (cs : List (List Item)) (c : List Item) where
             })
         go p false e = rw e (by (eqb (n .beyond) 0) refl)
           where
-            by : (t : Bool) → eqb (n .beyond) 0 ≡ t → Tells (cond (eqb (n .beyond) 0) (beyondNoted (keyNoted (counted n card) card (f .part)) card outside) (keyNoted (counted n card) card (f .part))) (with-more (field f))
+            by : (t : Bool) → eqb (n .beyond) 0 ≡ t → Tells (cond (eqb (n .beyond) 0) (beyondNoted (keyNoted (fieldCounted n card) card (f .part)) card outside) (keyNoted (fieldCounted n card) card (f .part))) (with-more (field f))
             by true t = rw t (record { count = p .count; over = p .over; cv = cv-same _ p; keyed = p .keyed; twice = twice-same _ p; beyond = ap (λ (b : Bool). noted 7 (cond b card (n .beyond))) (sym t) ∙ fails e })
             by false t =
                 rw t (record {
@@ -222,7 +222,7 @@ module _ (cs : List (List Item)) (c : List Item) where
   -- ---- a CV more
 
   module _ (n : Noted) (h : Tells n with-last) where
-    cv-total : total cvs (with-more cv) ≡ cvs (joined with-last) + 1
+    cv-total : onAllCards cvs (with-more cv) ≡ cvs (joined with-last) + 1
     cv-total = omega (arith, total-last cvs cs (c ++ (cv ∷ [])), total-last cvs cs c, total-cvs with-last, cvs-append c (cv ∷ []))
 
     -- a CV stands on a card exactly if its card is noted

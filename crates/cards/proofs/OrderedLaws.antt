@@ -33,16 +33,16 @@ use Rattle.cards.specs.declared.CardAt.{CardAt}
 use Rattle.cards.specs.declared.CardAt.the-variants.{UAt, FsAt, NoOperand}
 use Rattle.cards.specs.declared.URead.{URead}
 use Rattle.cards.specs.declared.FsCards.{FsCards}
-use Rattle.cards.specs.Selected.{Taken, noSelection, withCards}
+use Rattle.cards.specs.Selected.{NotedRow, noSelection, withCards}
 use Rattle.cards.specs.Parameters.{UListed}
 use Rattle.cards.specs.Deck.{cardsIn, fsFirst, OperandAt, Operandless, CardAtSays, FsRead, FsSaid}
-use Rattle.cards.specs.Verdict.{judgedAs}
-use Rattle.cards.specs.Promise.{refusedDeck, Reads, DeckReads, InOrder}
+use Rattle.cards.specs.CardRefusals.{judgedAs}
+use Rattle.cards.specs.Promise.{refusedDeck, DeckAnswered, DeckReads, InOrder}
 use Rattle.cards.proofs.CardAt as card-type
 use Rattle.cards.proofs.RowLaws.{Fair, Holds, holds-cards}
 use Rattle.cards.proofs.ListedLaws.{words-fair}
 use Rattle.cards.proofs.DeckLaws.{fs-all, cards-ordered}
-use Rattle.cards.proofs.VerdictLaws.{judging, judged-said}
+use Rattle.cards.proofs.RefusalLaws.{judging, judged-said}
 
 -- ---- the cards that could not be read, and how many there are
 
@@ -181,7 +181,7 @@ module _ (deck : List ℕ) (fs : ℕ) (order : InOrder deck fs) where
               let g : grammatical 1 (operands .before) (operands .u) (uOperand (operands .u)) ≡ refusedAt 3 1 (r .unread)
               = grammatical-at 1 (operands .before) (operands .u) (uOperand (operands .u)) k m (u-plain (stopped left) e ∙ ap stopped d) ∙ ap (refusedAt 3 1) c in
               let q : askedOf deck ≡ refusedAt 3 1 (r .unread) = asked-by ∙ rw g refl in
-              subst (λ (a : Answer RuleAsked). Reads a (refusedDeck 3 1 (r .unread)) row) (sym q) refl
+              subst (λ (a : Answer RuleAsked). DeckAnswered a (refusedDeck 3 1 (r .unread)) row) (sym q) refl
 
       module _ (n : r .unread ≡ 0) (f : FsCards) (row : List ℕ) (k : FsSaid 2 (noSelection (keyOf (r .state .input))) (fsFirst (cardsIn (drop next deck))) f row) where
         abbrev key : ℕ
@@ -206,7 +206,7 @@ module _ (deck : List ℕ) (fs : ℕ) (order : InOrder deck fs) where
             go (read ws left) e l (fine cs) q w = absurd (z (w .0))
             go (read ws left) e l (refuse x) q w =
                 let v : askedOf deck ≡ refuse x = asked-by ∙ rw (read-of ws left e, q) refl in
-                subst (λ (a : Answer RuleAsked). Reads a (refusedDeck 3 (f .unread) (f .column)) row) (sym v)
+                subst (λ (a : Answer RuleAsked). DeckAnswered a (refusedDeck 3 (f .unread) (f .column)) row) (sym v)
                 (λ i. refusedDeck (sym (items-refused (operands .fs) x q .0) i) (w .0 i) (w .1 i))
 
         -- all could be read
@@ -224,6 +224,6 @@ module _ (deck : List ℕ) (fs : ℕ) (order : InOrder deck fs) where
                 let m : fs ≡ length cs = sym (operands-in deck fs order .2) ∙ both-length b in
                 let t : UText (operands .u) (valuesOf ws) = read-text uOperand UText u-exactly u-left (operands .u) (valuesOf ws) left (u-plain (read ws left) e) in
                 let a : askedOf deck ≡ judging operands (record { parameters = valuesOf ws; items = cs }) = asked-by ∙ rw (read-of ws left e, q) refl in
-                subst (λ (x : Answer RuleAsked). Reads x (judgedAs (r .state) (r .outside) (f .noted) fs) row) (sym a)
+                subst (λ (x : Answer RuleAsked). DeckAnswered x (judgedAs (r .state) (r .outside) (f .noted) fs) row) (sym a)
                 (judged-said operands (r .state) (r .outside) ws t (ap partsOf e) (l .1) (l .2) (f .noted, row) (w .1) cs b
-                (subst (λ (x : Taken). Holds key x cs) (sym (w .1)) (subst (Holds key (withCards 2 (map fsWords (operands .fs)) (noSelection key))) (v .1) (holds-cards key (map fsWords (operands .fs)) (v .0)))) fs m)
+                (subst (λ (x : NotedRow). Holds key x cs) (sym (w .1)) (subst (Holds key (withCards 2 (map fsWords (operands .fs)) (noSelection key))) (v .1) (holds-cards key (map fsWords (operands .fs)) (v .0)))) fs m)

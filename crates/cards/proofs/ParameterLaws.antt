@@ -13,8 +13,8 @@ use borrow.Author.Tests.{eqb-true, eqb-false, ne-eqb}
 use Rattle.rules.specs.Places.{All, also}
 use Rattle.rules.specs.Reader.{Read, read, stopped, listOf}
 use Rattle.rules.specs.Grammar.{Format as RuleFormat, ff, fv, Parameter, modeIs, formatIs, inputIs, outputIs, rewindIn, rewindOut, firstIs, parameter}
-use Rattle.rules.specs.Words.{Worded, worded, valuesOf, againColumn, numberColumns, outsideColumn, firstOf, outsideAmong}
-use Rattle.rules.specs.Asked.{letter, among, distinct, sameLetter, parameterNumbers, Given, note, given}
+use Rattle.rules.specs.Words.{Worded, worded, valuesOf, againColumn, numberColumns, outsideColumn, firstColumn, outsideAmong}
+use Rattle.rules.specs.Asked.{letter, among, distinct, sameLetter, parameterNumbers, GivenParameters, note, given}
 use Rattle.rules.proofs.ReaderLaws.{Within}
 use Rattle.rules.proofs.ParameterLaws.{within-parameter}
 use Rattle.rules.proofs.ParameterSteps.{among-last, distinct-last, given-new, given-again}
@@ -29,7 +29,7 @@ use Rattle.readers.specs.Meaning.{secondIn, parameterOf, parameterPlaces, Param
 use Rattle.readers.proofs.Callers.{parameter-places, places-inside}
 use Rattle.limits.specs.Limits.{shifted, parameterOutside}
 use Rattle.cards.specs.declared.Parameters.{Parameters}
-use Rattle.cards.specs.declared.Outside.{Outside}
+use Rattle.cards.specs.declared.OutsideColumns.{OutsideColumns}
 use Rattle.cards.specs.declared.URead.{URead}
 use Rattle.cards.specs.Parameters.{noParameter, withPart, withLetter, withSecond, withParameter, noneOutside, withNumbers, hasSeen, option, givenOf, Notes, NotesOutside, uRead, UListed}
 
@@ -69,7 +69,7 @@ unfolding withLetter
 letter-kept x k = (length-set (x .seen) k true, refl)
 
 -- what is given once the letter has stood
-abbrev marked : Parameters → ℕ → Given
+abbrev marked : Parameters → ℕ → GivenParameters
 marked x k =
     record {
       mode = option (eqb 0 k || hasSeen x 0) (modeOf (x .mode));
@@ -113,7 +113,7 @@ part-letters st (FirstIs n) = (refl, refl)
 
 -- ---- a parameter more
 
-first-not-0 : (t c : ℕ) → 1 ≤ c → eqb (firstOf t c) 0 ≡ false
+first-not-0 : (t c : ℕ) → 1 ≤ c → eqb (firstColumn t c) 0 ≡ false
 first-not-0 zero c l = ne-eqb c 0 (λ q. omega arith)
 first-not-0 (suc t) c l = rw (ne-eqb (suc t) 0 (λ q. omega arith)) (ne-eqb (suc t) 0 (λ q. omega arith))
 
@@ -140,11 +140,11 @@ module _ (c : ℕ) (low : 1 ≤ c) (st : Parameters) (ws : List (Worded Paramete
   distinct-said = ap distinct letters-said ∙ distinct-last letters (letter said)
 
   -- the column of the first that stands again
-  again-said : (t : Bool) → among (letter said) letters ≡ t → againColumn sameLetter [] c with-said ≡ firstOf (st .twice) (cond t (c + width ws) 0)
+  again-said : (t : Bool) → among (letter said) letters ≡ t → againColumn sameLetter [] c with-said ≡ firstColumn (st .twice) (cond t (c + width ws) 0)
   again-said t e =
       again-last [] c low ws word
-      ∙ (λ i. firstOf (sym (h .twice) i) (cond (or-false (among (letter said) letters) i) (c + width ws) 0))
-      ∙ ap (λ (b : Bool). firstOf (st .twice) (cond b (c + width ws) 0)) e
+      ∙ (λ i. firstColumn (sym (h .twice) i) (cond (or-false (among (letter said) letters) i) (c + width ws) 0))
+      ∙ ap (λ (b : Bool). firstColumn (st .twice) (cond b (c + width ws) 0)) e
 
   second-said : among (letter said) letters ≡ true → Notes c (withSecond st (c + width ws)) with-said
   unfolding withSecond givenOf
@@ -190,14 +190,14 @@ module _ (c : ℕ) (low : 1 ≤ c) (st : Parameters) (ws : List (Worded Paramete
   -- its numbers
   module _ (second : ℕ) (places : numberColumns false 0 x ≡ parameterPlaces p second) where
     outside-said : (f : RuleFormat) (o : ℕ) → o ≡ outsideAmong (parameterNumbers f) c ws
-        → firstOf o (parameterOutside f p second (c + width ws)) ≡ outsideAmong (parameterNumbers f) c with-said
+        → firstColumn o (parameterOutside f p second (c + width ws)) ≡ outsideAmong (parameterNumbers f) c with-said
     outside-said f o e =
         let k : (c + width ws) + 0 ≡ c + width ws = omega arith in
         let q : numberColumns false (c + width ws) x ≡ shifted (c + width ws) (parameterPlaces p second)
         = ap (λ (j : ℕ). numberColumns false j x) (sym k) ∙ columns-shift false (c + width ws) 0 x ∙ ap (shifted (c + width ws)) places in
-        (λ i. firstOf (e i) (outsideColumn (sym q i) (parameterNumbers f said))) ∙ sym (outside-last (parameterNumbers f) c ws word)
+        (λ i. firstColumn (e i) (outsideColumn (sym q i) (parameterNumbers f said))) ∙ sym (outside-last (parameterNumbers f) c ws word)
 
-    numbers-more : (o : Outside) → NotesOutside c o ws → NotesOutside c (withNumbers o p second (c + width ws)) with-said
+    numbers-more : (o : OutsideColumns) → NotesOutside c o ws → NotesOutside c (withNumbers o p second (c + width ws)) with-said
     numbers-more o n = record { plain = outside-said ff (o .plain) (n .plain); variable = outside-said fv (o .variable) (n .variable) }
 
 -- ---- the card, parameter by parameter
@@ -205,7 +205,7 @@ module _ (c : ℕ) (low : 1 ≤ c) (st : Parameters) (ws : List (Worded Paramete
 abbrev words : List ℕ → Read (List (Worded Parameter))
 words s = listOf "," (worded parameter) s
 
-pub record Going (c : ℕ) (s : List ℕ) (st : Parameters) (o : Outside) (at : ℕ) : Type 0 where
+pub record Going (c : ℕ) (s : List ℕ) (st : Parameters) (o : OutsideColumns) (at : ℕ) : Type 0 where
   pub inside : at ≤ length s
   pub so : List (Worded Parameter)
   pub wide : width so ≡ at
@@ -217,7 +217,7 @@ pub going-start : (c : ℕ) (s : List ℕ) → Going c s noParameter noneOutside
 going-start c s =
     record { inside = omega arith; so = []; wide = refl; notes = notes-none c; numbers = record { plain = refl; variable = refl }; on = ahead-none (words s) }
 
-module _ (c : ℕ) (low : 1 ≤ c) (s : List ℕ) (st : Parameters) (o : Outside) (at : ℕ) (g : Going c s st o at) where
+module _ (c : ℕ) (low : 1 ≤ c) (s : List ℕ) (st : Parameters) (o : OutsideColumns) (at : ℕ) (g : Going c s st o at) where
   abbrev takes : Within 1 (worded parameter)
   takes = within-worded parameter within-parameter
 

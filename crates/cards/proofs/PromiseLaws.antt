@@ -19,7 +19,7 @@ use Rattle.terms.specs.Meaning.{modeOf, formatOf, sizeOf, utilityOf}
 use Rattle.readers.specs.declared.UParameter.the-variants.{ModeIs, FormatIs, OutputIs}
 use Rattle.readers.proofs.OnlyOne.{parameter-once}
 use Rattle.cards.specs.declared.DeckRead.{DeckRead}
-use Rattle.cards.specs.Promise.{nothingAsked, refusedDeck, Accepts, Reads, DeckReads, DeckSays, cardOfField}
+use Rattle.cards.specs.Promise.{nothingAsked, refusedDeck, Accepts, DeckAnswered, DeckReads, DeckSays, cardOfField}
 
 -- ---- one accepted deck
 
@@ -89,7 +89,7 @@ module _ (deck : List ℕ) (r : DeckRead) (row : List ℕ) (h : DeckReads deck r
   pub accepted : r .refusal ≡ 0 → (a : RuleAsked) × (askedOf deck ≡ fine a) × Accepts r row a
   accepted e = go (askedOf deck) refl h
     where
-      go : (x : Answer RuleAsked) → askedOf deck ≡ x → Reads x r row → (a : RuleAsked) × (askedOf deck ≡ fine a) × Accepts r row a
+      go : (x : Answer RuleAsked) → askedOf deck ≡ x → DeckAnswered x r row → (a : RuleAsked) × (askedOf deck ≡ fine a) × Accepts r row a
       go (fine a) q h = (a, q, h)
       go (refuse x) q h = absurd (omega (arith, some-refusal deck x q, e, ap (λ (d : DeckRead). d .refusal) h, numbers-of x .0))
 
@@ -97,7 +97,7 @@ module _ (deck : List ℕ) (r : DeckRead) (row : List ℕ) (h : DeckReads deck r
   pub refused-as : (r .refusal ≡ 0 → ⊥) → askedOf deck ≡ refusedAt (r .refusal) (r .place) (r .column)
   refused-as n = go (askedOf deck) refl h
     where
-      go : (x : Answer RuleAsked) → askedOf deck ≡ x → Reads x r row → askedOf deck ≡ refusedAt (r .refusal) (r .place) (r .column)
+      go : (x : Answer RuleAsked) → askedOf deck ≡ x → DeckAnswered x r row → askedOf deck ≡ refusedAt (r .refusal) (r .place) (r .column)
       go (fine a) q h = absurd (n (h .refusal))
       go (refuse x) q h =
           let a : x .number ≡ r .refusal = sym (ap (λ (d : DeckRead). d .refusal) h ∙ numbers-of x .0) in
@@ -109,7 +109,7 @@ module _ (deck : List ℕ) (r : DeckRead) (row : List ℕ) (h : DeckReads deck r
 pub cleared : (deck : List ℕ) (r : DeckRead) (before after : List ℕ) → (r .refusal ≡ 0 → ⊥) → DeckReads deck r before → DeckReads deck r after
 cleared deck r before after n h = go (askedOf deck) h
   where
-    go : (x : Answer RuleAsked) → Reads x r before → Reads x r after
+    go : (x : Answer RuleAsked) → DeckAnswered x r before → DeckAnswered x r after
     go (fine a) h = absurd (n (h .refusal))
     go (refuse x) h = h
 
@@ -118,7 +118,7 @@ cleared deck r before after n h = go (askedOf deck) h
 pub only-one : (deck : List ℕ) (r q : DeckRead) (one-row other-row : List ℕ) → DeckSays deck r one-row → DeckSays deck q other-row → (r ≡ q) × (one-row ≡ other-row)
 only-one deck r q one-row other-row e f = go (askedOf deck) refl (e .reads) (f .reads)
   where
-    go : (x : Answer RuleAsked) → askedOf deck ≡ x → Reads x r one-row → Reads x q other-row → (r ≡ q) × (one-row ≡ other-row)
+    go : (x : Answer RuleAsked) → askedOf deck ≡ x → DeckAnswered x r one-row → DeckAnswered x q other-row → (r ≡ q) × (one-row ≡ other-row)
     go (fine a) w g h = accepts-once r q one-row other-row a g h
     go (refuse x) w g h =
         let some : (d : DeckRead) → d ≡ refusedDeck (x .number) (x .place) (x .column) → d .refusal ≡ 0 → ⊥

@@ -24,7 +24,7 @@ use Rattle.rows.specs.Flat.{flatOf}
 use Rattle.rows.specs.Kept.{rowOf}
 use Rattle.rows.proofs.RowLaws.{row-more}
 use Rattle.cards.specs.declared.Noted.{Noted}
-use Rattle.cards.specs.Selected.{counted, fieldNoted, cvNoted, keptRow, Taken, withItem, withWords, noSelection, withCard, withCards}
+use Rattle.cards.specs.Selected.{fieldCounted, fieldNoted, cvNoted, keptRow, NotedRow, withItem, withWords, noSelection, withCard, withCards}
 use Rattle.cards.proofs.NotedLaws.{allFields, Tells, tells-none, no-items, tells-card, more-fields, same-fields, tells-field, tells-cv}
 
 -- ---- the row
@@ -33,7 +33,7 @@ use Rattle.cards.proofs.NotedLaws.{allFields, Tells, tells-none, no-ite
 abbrev pub Rowed : ℕ → List ℕ → List CardField → Type 0
 Rowed key row fs = every fieldLimits fs ≡ true → length fs ≤ 64 → row ≡ rowOf (map (laid key) fs)
 
-pub record Holds (key : ℕ) (t : Taken) (cs : List (List Item)) : Type 0 where
+pub record Holds (key : ℕ) (t : NotedRow) (cs : List (List Item)) : Type 0 where
   pub same : t .0 .key ≡ key
   pub tells : Tells (t .0) cs
   pub row : Rowed key (t .1) (allFields cs)
@@ -44,7 +44,7 @@ Fair w = (c : ℕ) → 1 ≤ c → eqb (outsideIn itemNumbers c w) 0 ≡ itemLim
 
 -- the key stays
 pub field-key : (n : Noted) (card : ℕ) (part : Part) (out : ℕ) → fieldNoted n card part out .key ≡ n .key
-unfolding fieldNoted counted
+unfolding fieldNoted fieldCounted
 field-key n card part out = go (ltb (n .count) 64) refl part (eqb out 0) refl (eqb (n .beyond) 0) refl
   where
     go : (c : Bool) → ltb (n .count) 64 ≡ c → (q : Part) → (a : Bool) → eqb out 0 ≡ a → (b : Bool) → eqb (n .beyond) 0 ≡ b → fieldNoted n card q out .key ≡ n .key
@@ -70,12 +70,12 @@ cv-key n card column = go (eqb (n .cv) 0) refl (eqb (n .«second_cv») 0) refl
     go false e true f = rw (e, f)
     go false e false f = rw (e, f)
 
-item-key : (card column out : ℕ) (i : Item) (t : Taken) → withItem card column out i t .0 .key ≡ t .0 .key
+item-key : (card column out : ℕ) (i : Item) (t : NotedRow) → withItem card column out i t .0 .key ≡ t .0 .key
 unfolding withItem
 item-key card column out (field f) t = field-key (t .0) card (f .part) out
 item-key card column out cv t = cv-key (t .0) card column
 
-pub words-key : (card column : ℕ) (ws : List (Worded Item)) (t : Taken) → withWords card column ws t .0 .key ≡ t .0 .key
+pub words-key : (card column : ℕ) (ws : List (Worded Item)) (t : NotedRow) → withWords card column ws t .0 .key ≡ t .0 .key
 words-key card column [] t = refl
 words-key card column (w ∷ ws) t =
     let out = outsideIn itemNumbers column w in
@@ -96,7 +96,7 @@ kept-field key count fs e f out fair row h a l =
     ∙ row-more (map (laid key) fs) (laid key f) row (h (and-left (every fieldLimits fs) (every fieldLimits (f ∷ [])) b) (omega arith)) (omega (arith, length-map fs (laid key)))
     ∙ ap rowOf (sym (map-append (laid key) fs (f ∷ []))))
 
-holds-item : (key : ℕ) (cs : List (List Item)) (c : List Item) (i : Item) (t : Taken) (column out : ℕ) → eqb out 0 ≡ itemLimits i → Holds key t (cs ++ (c ∷ []))
+holds-item : (key : ℕ) (cs : List (List Item)) (c : List Item) (i : Item) (t : NotedRow) (column out : ℕ) → eqb out 0 ≡ itemLimits i → Holds key t (cs ++ (c ∷ []))
     → Holds key (withItem (2 + length cs) column out i t) (cs ++ ((c ++ (i ∷ [])) ∷ []))
 unfolding withItem
 holds-item key cs c (field f) t column out fair h =
@@ -116,7 +116,7 @@ holds-item key cs c cv t column out fair h =
     }
 
 -- the items of a card
-holds-words : (key : ℕ) (cs : List (List Item)) (c : List Item) (ws : List (Worded Item)) (t : Taken) (column : ℕ) → 1 ≤ column → All Fair ws → Holds key t (cs ++ (c ∷ []))
+holds-words : (key : ℕ) (cs : List (List Item)) (c : List Item) (ws : List (Worded Item)) (t : NotedRow) (column : ℕ) → 1 ≤ column → All Fair ws → Holds key t (cs ++ (c ∷ []))
     → Holds key (withWords (2 + length cs) column ws t) (cs ++ ((c ++ valuesOf ws) ∷ []))
 holds-words key cs c [] t column l a h = subst (λ (d : List Item). Holds key t (cs ++ (d ∷ []))) (sym (append-nil c)) h
 holds-words key cs c (w ∷ ws) t column l (also f a) h =
@@ -132,7 +132,7 @@ module _ (key : ℕ) where
   unfolding noSelection
   holds-none = record { same = refl; tells = tells-none key; row = λ a l. refl }
 
-  holds-card : (cs : List (List Item)) (ws : List (Worded Item)) (t : Taken) → All Fair ws → Holds key t cs → Holds key (withCard (2 + length cs) ws t) (cs ++ (valuesOf ws ∷ []))
+  holds-card : (cs : List (List Item)) (ws : List (Worded Item)) (t : NotedRow) → All Fair ws → Holds key t cs → Holds key (withCard (2 + length cs) ws t) (cs ++ (valuesOf ws ∷ []))
   unfolding withCard
   holds-card cs ws t a h =
       let none = ap (λ (l : List Item). fieldsOf l) (no-items cs) in
@@ -140,7 +140,7 @@ module _ (key : ℕ) where
       (record { same = h .same; tells = tells-card (t .0) cs (h .tells); row = subst (Rowed key (t .1)) (sym none) (h .row) })
 
   -- all of them
-  holds-from : (cs : List (List Item)) (wss : List (List (Worded Item))) (t : Taken) → All (All Fair) wss → Holds key t cs
+  holds-from : (cs : List (List Item)) (wss : List (List (Worded Item))) (t : NotedRow) → All (All Fair) wss → Holds key t cs
       → Holds key (withCards (2 + length cs) wss t) (cs ++ map valuesOf wss)
   holds-from cs [] t a h = subst (Holds key t) (sym (append-nil cs)) h
   holds-from cs (ws ∷ wss) t (also f a) h =
@@ -152,11 +152,11 @@ module _ (key : ℕ) where
   pub holds-cards : (wss : List (List (Worded Item))) → All (All Fair) wss → Holds key (withCards 2 wss (noSelection key)) (map valuesOf wss)
   holds-cards wss a = holds-from [] wss (noSelection key) a holds-none
 
--- ---- how many fields are counted, whatever was before
+-- ---- how many fields are fieldCounted, whatever was before
 
 -- those of an item more, up to 64
-item-many : (card column out : ℕ) (i : Item) (t : Taken) → t .0 .count ≤ 64 → withItem card column out i t .0 .count ≡ min 64 (t .0 .count + length (fieldsOf (i ∷ [])))
-unfolding withItem cvNoted fieldNoted counted
+item-many : (card column out : ℕ) (i : Item) (t : NotedRow) → t .0 .count ≤ 64 → withItem card column out i t .0 .count ≡ min 64 (t .0 .count + length (fieldsOf (i ∷ [])))
+unfolding withItem cvNoted fieldNoted fieldCounted
 item-many card column out cv t l = go (eqb (t .0 .cv) 0) refl (eqb (t .0 .«second_cv») 0) refl
   where
     go : (a : Bool) → eqb (t .0 .cv) 0 ≡ a → (b : Bool) → eqb (t .0 .«second_cv») 0 ≡ b → cvNoted (t .0) card column .count ≡ min 64 (t .0 .count + 0)
@@ -165,14 +165,14 @@ item-many card column out cv t l = go (eqb (t .0 .cv) 0) refl (eqb (t .0 .«seco
     go false e false f = rw (e, f) (omega arith)
 item-many card column out (field f) t l = go (f .part) ∙ many (ltb (t .0 .count) 64) refl
   where
-    many : (c : Bool) → ltb (t .0 .count) 64 ≡ c → counted (t .0) card .count ≡ min 64 (t .0 .count + 1)
+    many : (c : Bool) → ltb (t .0 .count) 64 ≡ c → fieldCounted (t .0) card .count ≡ min 64 (t .0 .count + 1)
     many true g = let q = ltb-true (t .0 .count) 64 g in rw g (omega arith)
     many false g = let q = ltb-false (t .0 .count) 64 g in rw g (omega arith)
 
-    go : (q : Part) → fieldNoted (t .0) card q out .count ≡ counted (t .0) card .count
+    go : (q : Part) → fieldNoted (t .0) card q out .count ≡ fieldCounted (t .0) card .count
     go q = by q (eqb out 0) refl (eqb (t .0 .beyond) 0) refl
       where
-        by : (q : Part) (a : Bool) → eqb out 0 ≡ a → (b : Bool) → eqb (t .0 .beyond) 0 ≡ b → fieldNoted (t .0) card q out .count ≡ counted (t .0) card .count
+        by : (q : Part) (a : Bool) → eqb out 0 ≡ a → (b : Bool) → eqb (t .0 .beyond) 0 ≡ b → fieldNoted (t .0) card q out .count ≡ fieldCounted (t .0) card .count
         by inData true e b f = rw e
         by inData false e true f = rw (e, f)
         by inData false e false f = rw (e, f)
@@ -181,7 +181,7 @@ item-many card column out (field f) t l = go (f .part) ∙ many (ltb (t .0 .coun
         by inKey false e false f = rw (e, f)
 
 -- those of a card more, up to 64
-pub words-many : (card column : ℕ) (ws : List (Worded Item)) (t : Taken) → t .0 .count ≤ 64
+pub words-many : (card column : ℕ) (ws : List (Worded Item)) (t : NotedRow) → t .0 .count ≤ 64
     → withWords card column ws t .0 .count ≡ min 64 (t .0 .count + length (fieldsOf (valuesOf ws)))
 words-many card column [] t l = omega arith
 words-many card column (w ∷ ws) t l =

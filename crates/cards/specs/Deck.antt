@@ -14,7 +14,7 @@ use Rattle.rules.specs.Asked.{fieldsOf, itemsFrom}
 use Rattle.cards.specs.declared.CardAt.{CardAt}
 use Rattle.cards.specs.declared.CardAt.the-variants.{UAt, FsAt, NoOperand}
 use Rattle.cards.specs.declared.FsCards.{FsCards}
-use Rattle.cards.specs.Selected.{Taken, withCards}
+use Rattle.cards.specs.Selected.{NotedRow, withCards}
 
 -- what card each line is
 abbrev pub cardsIn : List ℕ → List (Option Card)
@@ -52,11 +52,11 @@ CardAtSays deck at NoOperand = Operandless (cardsIn (drop at deck))
 -- ---- FS cards
 
 -- what was read of the FS cards with these operands, from a card on: the items of all of them, or the first card that could not be read, and where it stopped
-abbrev pub FsRead : ℕ → Taken → List (List ℕ) → Answer (List (List Item)) → FsCards → List ℕ → Type 0
+abbrev pub FsRead : ℕ → NotedRow → List (List ℕ) → Answer (List (List Item)) → FsCards → List ℕ → Type 0
 FsRead card t os (fine cs) r row = (r .unread ≡ 0) × ((r .noted, row) ≡ withCards card (map fsWords os) t)
 FsRead card t os (refuse x) r row = (r .unread ≡ x .place) × (r .column ≡ x .column)
 
-abbrev pub FsSaid : ℕ → Taken → List (List ℕ) → FsCards → List ℕ → Type 0
+abbrev pub FsSaid : ℕ → NotedRow → List (List ℕ) → FsCards → List ℕ → Type 0
 FsSaid card t os r row = FsRead card t os (itemsFrom card os) r row
 
 -- all FS cards with these operands can be read, and have at most 64 fields

@@ -2,5 +2,5 @@ pub mod Promise
 pub mod Stops
 pub mod Selected
 pub mod Parameters
-pub mod Verdict
+pub mod CardRefusals
 pub mod Deck

@@ -8,8 +8,8 @@ use lib.Dec.{eqb}
 use lib.ListN.{length, getD, set, replicate}
 use Rattle.rules.specs.Reader.{Read, read, stopped}
 use Rattle.rules.specs.Grammar.{Parameter, ff, fv}
-use Rattle.rules.specs.Words.{Worded, valuesOf, againColumn, firstOf, outsideAmong}
-use Rattle.rules.specs.Asked.{letter, among, distinct, sameLetter, parameterNumbers, Given, given}
+use Rattle.rules.specs.Words.{Worded, valuesOf, againColumn, firstColumn, outsideAmong}
+use Rattle.rules.specs.Asked.{letter, among, distinct, sameLetter, parameterNumbers, GivenParameters, given}
 use Rattle.terms.specs.Meaning.{modeOf, formatOf, sizeOf, inputOf}
 use Rattle.terms.specs.declared.Mode.the-variants.{TC}
 use Rattle.terms.specs.declared.Format.the-variants.{FF}
@@ -20,7 +20,7 @@ use Rattle.readers.specs.declared.UParameter.the-variants.{ModeIs, FormatIs, In
 use Rattle.readers.specs.Meaning.{parameterOf}
 use Rattle.limits.specs.Limits.{parameterOutside}
 use Rattle.cards.specs.declared.Parameters.{Parameters}
-use Rattle.cards.specs.declared.Outside.{Outside}
+use Rattle.cards.specs.declared.OutsideColumns.{OutsideColumns}
 use Rattle.cards.specs.declared.URead.{URead}
 use Rattle.cards.specs.Stops.{StopsAt}
 
@@ -53,7 +53,7 @@ withLetter st k =
 -- a letter has stood before, and its parameter begins at this column
 unfoldable pub withSecond : Parameters → ℕ → Parameters
 withSecond st column =
-    record { mode = st .mode; format = st .format; input = st .input; output = st .output; first = st .first; seen = st .seen; twice = firstOf (st .twice) column }
+    record { mode = st .mode; format = st .format; input = st .input; output = st .output; first = st .first; seen = st .seen; twice = firstColumn (st .twice) column }
 
 -- the first of a letter counts
 unfoldable pub withParameter : Parameters → UParameter → ℕ → Parameters
@@ -63,12 +63,12 @@ withParameter st p column =
 
 -- ---- numbers outside their limits
 
-abbrev pub noneOutside : Outside
+abbrev pub noneOutside : OutsideColumns
 noneOutside = record { plain = 0; variable = 0 }
 
-abbrev pub withNumbers : Outside → UParameter → ℕ → ℕ → Outside
+abbrev pub withNumbers : OutsideColumns → UParameter → ℕ → ℕ → OutsideColumns
 withNumbers o p second column =
-    record { plain = firstOf (o .plain) (parameterOutside ff p second column); variable = firstOf (o .variable) (parameterOutside fv p second column) }
+    record { plain = firstColumn (o .plain) (parameterOutside ff p second column); variable = firstColumn (o .variable) (parameterOutside fv p second column) }
 
 -- ---- what is noted means
 
@@ -79,7 +79,7 @@ hasSeen st k = getD (st .seen) k false
 abbrev pub option : {A : Type 0} → Bool → A → Option A
 option seen a = cond seen (some a) none
 
-unfoldable pub givenOf : Parameters → Given
+unfoldable pub givenOf : Parameters → GivenParameters
 givenOf st =
     record {
       mode = option (hasSeen st 0) (modeOf (st .mode));
@@ -97,11 +97,11 @@ pub record Notes (column : ℕ) (st : Parameters) (ws : List (Worded Parameter))
   pub twice : st .twice ≡ againColumn sameLetter [] column ws
   pub given : givenOf st ≡ given (valuesOf ws)
 
-pub record NotesOutside (column : ℕ) (o : Outside) (ws : List (Worded Parameter)) : Type 0 where
+pub record NotesOutside (column : ℕ) (o : OutsideColumns) (ws : List (Worded Parameter)) : Type 0 where
   pub plain : o .plain ≡ outsideAmong (parameterNumbers ff) column ws
   pub variable : o .variable ≡ outsideAmong (parameterNumbers fv) column ws
 
-abbrev pub uRead : Parameters → Outside → ℕ → URead
+abbrev pub uRead : Parameters → OutsideColumns → ℕ → URead
 uRead st o unread = record { state = st; outside = o; unread = unread }
 
 -- what was read of a U card whose operand begins at this column: its parameters, or where it stopped

@@ -42,12 +42,12 @@ pub record Accepts (r : DeckRead) (row : List ℕ) (a : RuleAsked) : Type 0 wher
   pub fields : row ≡ rowOf (laidFields a)
 
 -- or its refusal
-abbrev pub Reads : Answer RuleAsked → DeckRead → List ℕ → Type 0
-Reads (fine a) r row = Accepts r row a
-Reads (refuse x) r row = r ≡ refusedDeck (x .number) (x .place) (x .column)
+abbrev pub DeckAnswered : Answer RuleAsked → DeckRead → List ℕ → Type 0
+DeckAnswered (fine a) r row = Accepts r row a
+DeckAnswered (refuse x) r row = r ≡ refusedDeck (x .number) (x .place) (x .column)
 
 abbrev pub DeckReads : List ℕ → DeckRead → List ℕ → Type 0
-DeckReads deck r row = Reads (askedOf deck) r row
+DeckReads deck r row = DeckAnswered (askedOf deck) r row
 
 -- and a refused deck leaves no field in it
 pub record DeckSays (deck : List ℕ) (r : DeckRead) (row : List ℕ) : Type 0 where

@@ -9,7 +9,7 @@ use Rattle.rules.specs.Halves.{Field as RuleField, over}
 use Rattle.rules.specs.Reader.{Read, read, stopped}
 use Rattle.rules.specs.Deck.{beforeFS}
 use Rattle.rules.specs.Grammar.{Part, inData, inKey, Item, field, cv}
-use Rattle.rules.specs.Words.{Worded, firstOf, outsideIn}
+use Rattle.rules.specs.Words.{Worded, firstColumn, outsideIn}
 use Rattle.rules.specs.Asked.{itemNumbers}
 use Rattle.terms.specs.declared.Field.{Field}
 use Rattle.terms.specs.Meaning.{fieldOf, laid}
@@ -24,18 +24,18 @@ use Rattle.cards.specs.Stops.{StopsAt}
 abbrev pub nothingNoted : ℕ → Noted
 nothingNoted key = record { key = key; count = 0; «sixty_fifth» = 0; cv = 0; keyed = 0; «second_cv» = 0; «second_column» = 0; beyond = 0; «beyond_column» = 0 }
 
--- a field more is counted; of the 65th its card is noted
-unfoldable pub counted : Noted → ℕ → Noted
-counted n card =
+-- a field more is fieldCounted; of the 65th its card is noted
+unfoldable pub fieldCounted : Noted → ℕ → Noted
+fieldCounted n card =
     cond (ltb (n .count) 64)
     (record { key = n .key; count = n .count + 1; «sixty_fifth» = n .«sixty_fifth»; cv = n .cv; keyed = n .keyed; «second_cv» = n .«second_cv»; «second_column» = n .«second_column»; beyond = n .beyond; «beyond_column» = n .«beyond_column» })
-    (record { key = n .key; count = n .count; «sixty_fifth» = firstOf (n .«sixty_fifth») card; cv = n .cv; keyed = n .keyed; «second_cv» = n .«second_cv»; «second_column» = n .«second_column»; beyond = n .beyond; «beyond_column» = n .«beyond_column» })
+    (record { key = n .key; count = n .count; «sixty_fifth» = firstColumn (n .«sixty_fifth») card; cv = n .cv; keyed = n .keyed; «second_cv» = n .«second_cv»; «second_column» = n .«second_column»; beyond = n .beyond; «beyond_column» = n .«beyond_column» })
 
 -- of the first field that is taken from the key the card is noted
 abbrev pub keyNoted : Noted → ℕ → Part → Noted
 keyNoted n card inData = n
 keyNoted n card inKey =
-    record { key = n .key; count = n .count; «sixty_fifth» = n .«sixty_fifth»; cv = n .cv; keyed = firstOf (n .keyed) card; «second_cv» = n .«second_cv»; «second_column» = n .«second_column»; beyond = n .beyond; «beyond_column» = n .«beyond_column» }
+    record { key = n .key; count = n .count; «sixty_fifth» = n .«sixty_fifth»; cv = n .cv; keyed = firstColumn (n .keyed) card; «second_cv» = n .«second_cv»; «second_column» = n .«second_column»; beyond = n .beyond; «beyond_column» = n .«beyond_column» }
 
 -- of the first field with a number outside its limits the card and the number's column are noted
 abbrev pub beyondNoted : Noted → ℕ → ℕ → Noted
@@ -44,7 +44,7 @@ beyondNoted n card column =
 
 unfoldable pub fieldNoted : Noted → ℕ → Part → ℕ → Noted
 fieldNoted n card part outside =
-    let next = keyNoted (counted n card) card part in
+    let next = keyNoted (fieldCounted n card) card part in
     cond (eqb outside 0) next (cond (eqb (n .beyond) 0) (beyondNoted next card outside) next)
 
 -- the card of CV, and the card and column of the second CV, are noted
@@ -72,34 +72,34 @@ keptRow count outside f row = cond (eqb outside 0) (cond (ltb count 64) (over (5
 -- ---- the items of a card
 
 -- what is noted, and the row
-abbrev pub Taken : Type 0
-Taken = Noted × List ℕ
+abbrev pub NotedRow : Type 0
+NotedRow = Noted × List ℕ
 
 -- an item that begins at this column
-unfoldable pub withItem : ℕ → ℕ → ℕ → Item → Taken → Taken
+unfoldable pub withItem : ℕ → ℕ → ℕ → Item → NotedRow → NotedRow
 withItem card column outside (field f) t = (fieldNoted (t .0) card (f .part) outside, keptRow (t .0 .count) outside (laid (t .0 .key) f) (t .1))
 withItem card column outside cv t = (cvNoted (t .0) card column, t .1)
 
-abbrev pub withWords : ℕ → ℕ → List (Worded Item) → Taken → Taken
+abbrev pub withWords : ℕ → ℕ → List (Worded Item) → NotedRow → NotedRow
 withWords card column [] t = t
 withWords card column (w ∷ ws) t =
     withWords card (column + suc (length (w .text))) ws (withItem card column (outsideIn itemNumbers column w) (w .value) t)
 
 -- what a list, or a rest, gives: of a text that begins at a column, whose first item begins at column b
-abbrev pub ListSays : ℕ → ℕ → ℕ → Taken → List ℕ → Read (List (Worded Item)) → ListRead → List ℕ → Type 0
+abbrev pub ListSays : ℕ → ℕ → ℕ → NotedRow → List ℕ → Read (List (Worded Item)) → ListRead → List ℕ → Type 0
 ListSays card b column t s (read ws left) r row = (r .unread ≡ 0) × (r .noted ≡ withWords card b ws t .0) × (row ≡ withWords card b ws t .1)
 ListSays card b column t s (stopped left) r row = StopsAt column s left (r .unread)
 
 -- ---- the cards
 
 -- no card yet, behind a key of so many bytes
-unfoldable pub noSelection : ℕ → Taken
+unfoldable pub noSelection : ℕ → NotedRow
 noSelection key = (nothingNoted key, rowOf [])
 
-unfoldable pub withCard : ℕ → List (Worded Item) → Taken → Taken
+unfoldable pub withCard : ℕ → List (Worded Item) → NotedRow → NotedRow
 withCard card ws t = withWords card (suc beforeFS) ws t
 
 -- the cards from a card on, one after another
-abbrev pub withCards : ℕ → List (List (Worded Item)) → Taken → Taken
+abbrev pub withCards : ℕ → List (List (Worded Item)) → NotedRow → NotedRow
 withCards card [] t = t
 withCards card (ws ∷ cs) t = withCards (suc card) cs (withCard card ws t)

@@ -29,10 +29,10 @@ ghost use Rattle.readers.specs.Meaning.{parameterOf};
 ghost use Rattle.limits.specs.Limits.{Reaches};
 ghost use Rattle.lines.specs.declared.LineRead.the-variants.{Line};
 ghost use Rattle.lines.specs.Meaning.{IsCard, LineSays};
-ghost use Rattle.cards.specs.Selected.{nothingNoted, counted, keyNoted, fieldNoted, cvNoted, Keepable, keptRow, ListSays, noSelection};
+ghost use Rattle.cards.specs.Selected.{nothingNoted, fieldCounted, keyNoted, fieldNoted, cvNoted, Keepable, keptRow, ListSays, noSelection};
 ghost use Rattle.cards.specs.Parameters.{noParameter, withPart, withParameter, noneOutside, withNumbers, uRead, UListed};
 ghost use Rattle.cards.specs.Deck.{cardsIn, fsFirst, CardAtSays, FsSaid, FsFine};
-ghost use Rattle.cards.specs.Verdict.{isComplete, uOutside, limitsOf, verdictOf, askedFor, judgedAs};
+ghost use Rattle.cards.specs.CardRefusals.{isComplete, uOutside, limitsOf, cardRefusalOf, askedFor, judgedAs};
 ghost use Rattle.cards.specs.Promise.{refusedDeck, nothingAsked, InOrder, DeckReads, DeckSays, cardOfField};
 
 const COMMA: u8 = b',';
@@ -76,7 +76,7 @@ fn nothing_noted(key: usize) -> Noted
 
 // One field more, whatever its numbers are.
 fn counted(noted: Noted, card: usize) -> Noted
-    ensures { λ r. ⌜ r ≡ counted noted card ⌝ }
+    ensures { λ r. ⌜ r ≡ fieldCounted noted card ⌝ }
 {
     let count = noted.count;
     let mut next = noted;
@@ -353,26 +353,26 @@ fn with_parameter(state: Parameters, parameter: UParameter, column: usize) -> Pa
 }
 
 // The column of the first number outside its limits, or 0: where F is not FV, and where it is. F may stand behind A and B.
-struct Outside {
+struct OutsideColumns {
     plain: usize,
     variable: usize,
 }
 
-fn none_outside() -> Outside
+fn none_outside() -> OutsideColumns
     ensures { λ r. ⌜ r ≡ noneOutside ⌝ }
 {
-    Outside {
+    OutsideColumns {
         plain: 0,
         variable: 0,
     }
 }
 
 // The numbers of one parameter more.
-fn with_numbers(before: Outside, parameter: UParameter, second: usize, column: usize) -> Outside
+fn with_numbers(before: OutsideColumns, parameter: UParameter, second: usize, column: usize) -> OutsideColumns
     requires { ⌜ Reaches column 5 × Reaches column second ⌝ }
     ensures { λ r. ⌜ r ≡ withNumbers before parameter second column ⌝ }
 {
-    Outside {
+    OutsideColumns {
         plain: limits::first_of(
             before.plain,
             limits::parameter_outside(Format::FF, parameter, second, column),
@@ -387,11 +387,11 @@ fn with_numbers(before: Outside, parameter: UParameter, second: usize, column: u
 // What the parameters of a U card say, and the column at which it stopped, or 0 where all of it was read.
 struct URead {
     state: Parameters,
-    outside: Outside,
+    outside: OutsideColumns,
     unread: usize,
 }
 
-fn u_read(state: Parameters, outside: Outside, unread: usize) -> URead
+fn u_read(state: Parameters, outside: OutsideColumns, unread: usize) -> URead
     ensures { λ r. ⌜ r ≡ uRead state outside unread ⌝ }
 {
     URead {
@@ -556,7 +556,7 @@ fn is_complete(parameters: Parameters) -> bool
 }
 
 // The column of the U card's first number outside its limits, or 0.
-fn u_outside(format: Format, outside: Outside) -> usize
+fn u_outside(format: Format, outside: OutsideColumns) -> usize
     ensures { λ r. ⌜ r ≡ uOutside (formatOf format) outside ⌝ }
 {
     match format {
@@ -568,19 +568,19 @@ fn u_outside(format: Format, outside: Outside) -> usize
 }
 
 // A refusal, its place and its column; number 0 for none.
-struct Verdict {
+struct CardRefusal {
     number: usize,
     place: usize,
     column: usize,
 }
 
 // Refusal 6, and then 7, the U card before the FS cards.
-fn limits_on(format: Format, outside: Outside, noted: Noted) -> Verdict
+fn limits_on(format: Format, outside: OutsideColumns, noted: Noted) -> CardRefusal
     ensures { λ r. ⌜ r ≡ limitsOf (formatOf format) outside noted ⌝ }
 {
     let sixty_fifth = noted.sixty_fifth;
     if sixty_fifth != 0 {
-        return Verdict {
+        return CardRefusal {
             number: 6,
             place: sixty_fifth,
             column: 0,
@@ -588,7 +588,7 @@ fn limits_on(format: Format, outside: Outside, noted: Noted) -> Verdict
     }
     let column = u_outside(format, outside);
     if column != 0 {
-        return Verdict {
+        return CardRefusal {
             number: 7,
             place: 1,
             column,
@@ -596,13 +596,13 @@ fn limits_on(format: Format, outside: Outside, noted: Noted) -> Verdict
     }
     let beyond = noted.beyond;
     if beyond != 0 {
-        return Verdict {
+        return CardRefusal {
             number: 7,
             place: beyond,
             column: noted.beyond_column,
         };
     }
-    Verdict {
+    CardRefusal {
         number: 0,
         place: 0,
         column: 0,
@@ -610,12 +610,12 @@ fn limits_on(format: Format, outside: Outside, noted: Noted) -> Verdict
 }
 
 // Refusal 4, the U card before the FS cards, then 5, and then 6 and 7.
-fn verdict_on(parameters: Parameters, outside: Outside, noted: Noted) -> Verdict
-    ensures { λ r. ⌜ r ≡ verdictOf parameters outside noted ⌝ }
+fn refusal_on(parameters: Parameters, outside: OutsideColumns, noted: Noted) -> CardRefusal
+    ensures { λ r. ⌜ r ≡ cardRefusalOf parameters outside noted ⌝ }
 {
     let twice = parameters.twice;
     if twice != 0 {
-        return Verdict {
+        return CardRefusal {
             number: 4,
             place: 1,
             column: twice,
@@ -623,14 +623,14 @@ fn verdict_on(parameters: Parameters, outside: Outside, noted: Noted) -> Verdict
     }
     let second_cv = noted.second_cv;
     if second_cv != 0 {
-        return Verdict {
+        return CardRefusal {
             number: 4,
             place: second_cv,
             column: noted.second_column,
         };
     }
     if !is_complete(parameters) {
-        return Verdict {
+        return CardRefusal {
             number: 5,
             place: 1,
             column: 0,
@@ -704,13 +704,13 @@ fn refused(number: usize, place: usize, column: usize) -> DeckRead
 }
 
 // The deck whose cards all could be read.
-fn judged(parameters: Parameters, outside: Outside, noted: Noted, fs: usize) -> DeckRead
+fn judged(parameters: Parameters, outside: OutsideColumns, noted: Noted, fs: usize) -> DeckRead
     ensures { λ r. ⌜ r ≡ judgedAs parameters outside noted fs ⌝ }
 {
-    let verdict = verdict_on(parameters, outside, noted);
-    let number = verdict.number;
+    let refusal = refusal_on(parameters, outside, noted);
+    let number = refusal.number;
     if number != 0 {
-        return refused(number, verdict.place, verdict.column);
+        return refused(number, refusal.place, refusal.column);
     }
     let asked = asked_for(parameters, noted, fs);
     DeckRead {

@@ -14,11 +14,11 @@ use Rattle.terms.specs.declared.Task.{Task}
 use Rattle.terms.specs.Meaning.{formatOf, sizeOf, planIn, TaskIs}
 use Rattle.rows.specs.Kept.{fieldsIn}
 use Rattle.rows.specs.Fair.{PlanFair}
-use Rattle.checks.specs.Promise.{Given}
+use Rattle.checks.specs.Promise.{PlanGiven}
 
 -- the row is lent as it is: it is just the numbers of the plan's fields
 pub given-plan : {asked : Asked} {row : List ℕ} → PlanFair asked row → isFS (formatOf (asked .format)) ≡ false → (task : Task) → ((fs : List RuleField) → TaskIs task (planIn zoneF asked fs))
-    → Given task row (planIn zoneF asked (fieldsIn row))
+    → PlanGiven task row (planIn zoneF asked (fieldsIn row))
 unfolding planIn
 given-plan {asked} {row} ok plain task is = record { is = is (fieldsIn row); accepted = ok .accepted; plain = plain; flat = ok .flat; zone = refl }
 

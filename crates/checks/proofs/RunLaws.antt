@@ -14,7 +14,7 @@ use Rattle.rules.specs.Reel.{isReel}
 use Rattle.rules.specs.Plan.{Plan, selects, isTC, recordLength}
 use Rattle.rules.specs.Blocks.{takenFrom}
 use Rattle.rules.specs.Output.{permits}
-use Rattle.rules.specs.Run.{Ran as RuleRan, outBlocks, ranOf, housed, convert, outputBlocks}
+use Rattle.rules.specs.Run.{RunOutput, outBlocks, ranOf, housed, convert, outputBlocks}
 use Rattle.rules.specs.Lent.{runAnswer}
 use Rattle.rules.proofs.AnswerLaws.{fine-each}
 use Rattle.rules.proofs.AllLaws.{all-imply, all-joined, all-of}
@@ -27,7 +27,7 @@ use Rattle.rules.proofs.CopyLaws.{copy-blocks, copy-reel}
 use Rattle.reels.specs.declared.ReelRead.{ReelRead}
 use Rattle.reels.specs.declared.ReelRead.the-variants.{Read, NotReel, BadBlock}
 use Rattle.rows.specs.Flat.{FlatFair}
-use Rattle.values.specs.Promise.{Asks}
+use Rattle.values.specs.Promise.{FieldsAsk}
 use Rattle.rows.proofs.ReadLaws.{fair-of}
 use Rattle.values.proofs.PromiseLaws.{asks-nothing, permits-of}
 use Rattle.walks.specs.Promise.{Good}
@@ -45,7 +45,7 @@ use Rattle.outcomes.specs.Promise.{ranStruct, refusedRun, housedRun}
 use Rattle.outcomes.proofs.OutcomeLaws.{room-is}
 use Rattle.tasks.specs.Promise.{formOf}
 use Rattle.tasks.proofs.LengthLaws.{form-given}
-use Rattle.checks.specs.Promise.{Given, GivenPlan, ReadBy, Unpermitted, MeasuredRun, CheckedRun, Checked}
+use Rattle.checks.specs.Promise.{PlanGiven, SomePlanGiven, ReadBy, PermittedRun, MeasuredRun, CheckedRun, Checked}
 
 -- ---- the steps of a run
 
@@ -56,7 +56,7 @@ module _ (room : ℕ) (p : Plan) (s : List ℕ) where
   not-reel e = rw e refl
 
   module _ (recs : List (List (List ℕ))) (g : Good p s recs) where
-    abbrev asked : Answer Unit → Answer Unit → Answer RuleRan
+    abbrev asked : Answer Unit → Answer Unit → Answer RunOutput
     asked halves sizes = (halves >> (sizes >> fine (outputBlocks p recs))) >>= λ bs. housed room (ranOf p bs)
 
     -- 13, 14 and 15 are left
@@ -81,7 +81,7 @@ measuredRun room (refuse r) = refusedRun (r .number) (r .place) (r .column)
 measured-run : (room : ℕ) (p : Plan) (s : List ℕ) (recs : List (List (List ℕ))) → Good p s recs → each 13 (permits p) (p .first) (joined (takenFrom (p .first) recs)) ≡ fine tt
     → measuredRun room (measuredOf p recs) ≡ ranStruct (runAnswer (convert room p s))
 unfolding measuredOf ranOf _>>_ _>>=_
-measured-run room p s recs g permitted = go (fitAnswer p recs) refl ∙ ap (λ (z : Answer RuleRan). ranStruct (runAnswer z)) (sym (sizes-left room p s recs g permitted))
+measured-run room p s recs g permitted = go (fitAnswer p recs) refl ∙ ap (λ (z : Answer RunOutput). ranStruct (runAnswer z)) (sym (sizes-left room p s recs g permitted))
   where
     go : (h : Answer Unit) → fitAnswer p recs ≡ h → measuredRun room (measuredOf p recs) ≡ ranStruct (runAnswer (asked room p s recs g (fine tt) (fitAnswer p recs)))
     go (fine a) e = rw e (sym (room-is room (ranOf p (outputBlocks p recs))))
@@ -91,22 +91,22 @@ measured-run room p s recs g permitted = go (fitAnswer p recs) refl ∙ ap (λ (
 
 module _ {task : Task} {fields s : List ℕ} where
   -- TC and TR
-  pub nothing-asked : selects (modeOf (task .mode)) ≡ false → Unpermitted task fields s 0
+  pub nothing-asked : selects (modeOf (task .mode)) ≡ false → PermittedRun task fields s 0
   nothing-asked e = record { is = λ p recs x g. fine-each 13 (permits p) (p .first) (all-of (permits-other p (ap selects (sym (x .is .mode)) ∙ e)) _) }
 
   pub selected : selects (modeOf (task .mode)) ≡ true → ReadBy task fields s → Selected task fields s
   selected e y = record { p = y .p; recs = y .recs; given = selecting-by e (y .p) (y .recs) (y .given) (y .good) }
     where
-      selecting-by : selects (modeOf (task .mode)) ≡ true → (p : Plan) (recs : List (List (List ℕ))) → Given task fields p → Good p s recs → Selecting task fields s p recs
+      selecting-by : selects (modeOf (task .mode)) ≡ true → (p : Plan) (recs : List (List (List ℕ))) → PlanGiven task fields p → Good p s recs → Selecting task fields s p recs
       selecting-by e p recs x g = record { fair = record { is = x .is; good = g }; flat = x .flat; zone = x .zone; selecting = ap selects (sym (x .is .mode)) ∙ e }
 
-  pub first-asked : selects (modeOf (task .mode)) ≡ true → (r : ℕ) → FirstUnpermitted task fields s r → Unpermitted task fields s r
+  pub first-asked : selects (modeOf (task .mode)) ≡ true → (r : ℕ) → FirstUnpermitted task fields s r → PermittedRun task fields s r
   unfolding FirstUnpermitted
   first-asked e r h =
       record { is = λ p recs x g. h p recs (record { fair = record { is = x .is; good = g }; flat = x .flat; zone = x .zone; selecting = ap selects (sym (x .is .mode)) ∙ e }) }
 
 -- where no field asks anything of a half, no record taken has one that is not permitted
-pub none-asked : (task : Task) (fields s : List ℕ) → All Byte s → Asks fields false → FirstUnpermitted task fields s 0
+pub none-asked : (task : Task) (fields s : List ℕ) → All Byte s → FieldsAsk fields false → FirstUnpermitted task fields s 0
 unfolding FirstUnpermitted takenFrom
 none-asked task fields s a h p recs x =
     let ok = x .fair .good .accepted in
@@ -128,7 +128,7 @@ module _ {task : Task} {fields s : List ℕ} {blocks records : ℕ} where
   unfolding fitAnswer takenFrom
   copy-measured e a = record { is = λ p recs x g b k. fits p recs x g b k }
     where
-      fits : (p : Plan) (recs : List (List (List ℕ))) → Given task fields p → Good p s recs → blocks ≡ length recs → records ≡ length (joined recs)
+      fits : (p : Plan) (recs : List (List (List ℕ))) → PlanGiven task fields p → Good p s recs → blocks ≡ length recs → records ≡ length (joined recs)
           → answerOf (Fits blocks records (length s)) ≡ measuredOf p recs
       fits p recs x g b k =
           let q : p .mode ≡ tc = sym (x .is .mode) ∙ e in
@@ -146,11 +146,11 @@ module _ {task : Task} {fields s : List ℕ} {blocks records : ℕ} where
 -- ---- 13, 14 and 15 in their order
 
 module _ {task : Task} {fields s : List ℕ} {blocks records room : ℕ} {r : Ran} where
-  pub stops-unpermitted : (number : ℕ) → 0 < number → Unpermitted task fields s number → r ≡ refusedRun 13 number 0 → CheckedRun task fields s blocks records room r
+  pub stops-unpermitted : (number : ℕ) → 0 < number → PermittedRun task fields s number → r ≡ refusedRun 13 number 0 → CheckedRun task fields s blocks records room r
   stops-unpermitted zero l u e = absurd (omega arith)
-  stops-unpermitted (suc i) l u e = record { is = λ p recs x g b k. e ∙ ap (λ (z : Answer RuleRan). ranStruct (runAnswer z)) (sym (no-permit room p s recs g (suc i) (u .is p recs x g))) }
+  stops-unpermitted (suc i) l u e = record { is = λ p recs x g b k. e ∙ ap (λ (z : Answer RunOutput). ranStruct (runAnswer z)) (sym (no-permit room p s recs g (suc i) (u .is p recs x g))) }
 
-  pub ends-measured : (number : ℕ) → number ≤ 0 → Unpermitted task fields s number → (m : Measured) → MeasuredRun task fields s blocks records m → (x : Measured) → m ≡ x
+  pub ends-measured : (number : ℕ) → number ≤ 0 → PermittedRun task fields s number → (m : Measured) → MeasuredRun task fields s blocks records m → (x : Measured) → m ≡ x
       → r ≡ measuredRun room (answerOf x) → CheckedRun task fields s blocks records room r
   ends-measured (suc n) l u m h x t e = absurd (omega arith)
   ends-measured zero l u m h x t e = record {
@@ -162,20 +162,20 @@ module _ {task : Task} {fields s : List ℕ} {blocks records room : ℕ} {r : Ra
 -- ---- all of them
 
 module _ {task : Task} {fields s : List ℕ} {form : Form} {read : ReelRead} (f : form ≡ formOf task) (w : ReadAs form s read) where
-  told : (p : Plan) → Given task fields p → Tells p s read
+  told : (p : Plan) → PlanGiven task fields p → Tells p s read
   told p x = tells form p (form-given (x .is) f) s read w
 
   pub ends-no-reel : {room : ℕ} → read ≡ NotReel → (r : Ran) → r ≡ refusedRun 11 0 0 → Checked task fields s room r
-  ends-no-reel {room} t r e = record { is = λ p x. e ∙ ap (λ (z : Answer RuleRan). ranStruct (runAnswer z)) (sym (not-reel room p s (subst (Tells p s) t (told p x)))) }
+  ends-no-reel {room} t r e = record { is = λ p x. e ∙ ap (λ (z : Answer RunOutput). ranStruct (runAnswer z)) (sym (not-reel room p s (subst (Tells p s) t (told p x)))) }
 
   pub ends-bad : {room : ℕ} (i : ℕ) → read ≡ BadBlock i → (r : Ran) → r ≡ refusedRun 12 i 0 → Checked task fields s room r
   ends-bad {room} i t r e = record {
     is = λ p x.
         let y = subst (Tells p s) t (told p x) in
-        e ∙ ap (λ (z : Answer RuleRan). ranStruct (runAnswer z)) (sym (bad-block room p s i (y .0) (y .1)));
+        e ∙ ap (λ (z : Answer RunOutput). ranStruct (runAnswer z)) (sym (bad-block room p s i (y .0) (y .1)));
   }
 
-  pub read-by : (b k : ℕ) → read ≡ Read b k → GivenPlan task fields → ReadBy task fields s
+  pub read-by : (b k : ℕ) → read ≡ Read b k → SomePlanGiven task fields → ReadBy task fields s
   read-by b k t x =
       let y = subst (Tells (x .p) s) t (told (x .p) (x .given)) in
       record { p = x .p; recs = y .1 .0; given = x .given; good = record { accepted = x .given .accepted; reel = y .0; records = y .1 .1 } }
@@ -189,5 +189,5 @@ module _ {task : Task} {fields s : List ℕ} {form : Form} {read : ReelRead} (f 
 
 -- ---- one answer
 
-pub only-one : (task : Task) (fields s : List ℕ) (room : ℕ) → GivenPlan task fields → (x y : Ran) → Checked task fields s room x → Checked task fields s room y → x ≡ y
+pub only-one : (task : Task) (fields s : List ℕ) (room : ℕ) → SomePlanGiven task fields → (x y : Ran) → Checked task fields s room x → Checked task fields s room y → x ≡ y
 only-one task fields s room g x y h k = h .is (g .p) (g .given) ∙ sym (k .is (g .p) (g .given))

@@ -1,7 +1,7 @@
 // Refusals 11 to 15 of a run, in their order and each over the whole reel, before anything is written: document 01, "Refusal numbers".
 ghost use mathlib.Core.Path.{_≡_};
 ghost use Rattle.measures.specs.Promise.{Selected, FirstUnpermitted};
-ghost use Rattle.checks.specs.Promise.{GivenPlan, ReadBy, Unpermitted, MeasuredRun, CheckedRun, Checked};
+ghost use Rattle.checks.specs.Promise.{SomePlanGiven, ReadBy, PermittedRun, MeasuredRun, CheckedRun, Checked};
 use measures::Measured;
 use outcomes::Ran;
 use reels::ReelRead;
@@ -22,7 +22,7 @@ fn unpermitted_selected(task: Task, fields: &[u16], s: &[u8]) -> usize
 // Refusal 13: the first record taken with a half that is not permitted, or 0. TC and TR ask nothing of halves.
 fn unpermitted(task: Task, fields: &[u16], s: &[u8]) -> usize
     requires { ⌜ ReadBy task (now fields) (now s) ⌝ }
-    ensures { λ r. ⌜ Unpermitted task (now (fields .entry)) (now (s .entry)) r ⌝ }
+    ensures { λ r. ⌜ PermittedRun task (now (fields .entry)) (now (s .entry)) r ⌝ }
 {
     let mode = task.mode;
     match mode {
@@ -73,7 +73,7 @@ fn checked(task: Task, fields: &[u16], s: &[u8], blocks: usize, records: usize, 
 
 // What the run of a plan over a reel answers, where the lent output has so much room.
 pub fn check(task: Task, fields: &[u16], s: &[u8], room: usize) -> Ran
-    requires { ⌜ GivenPlan task (now fields) ⌝ }
+    requires { ⌜ SomePlanGiven task (now fields) ⌝ }
     ensures { λ r. ⌜ Checked task (now (fields .entry)) (now (s .entry)) room r ⌝ }
 {
     let read = reels::read_reel(tasks::form_of(task), s);

@@ -5,12 +5,12 @@ use Prim.Native.Nat.{ℕ, _+_, _≤_, zero-le}
 use native.Mathlib.Omega.{arith}
 use lib.ListN.{length, drop, length-append}
 use Rattle.rules.specs.Answer.{Answer, fine, refuse}
-use Rattle.rules.specs.Run.{Ran as RuleRan}
+use Rattle.rules.specs.Run.{RunOutput}
 use Rattle.rules.specs.Lent.{run, runAnswer, outputAfter}
 use Rattle.outcomes.specs.declared.Ran.{Ran}
 use Rattle.bhexodana.specs.Promise.{RanInto}
 
-within : (x : Answer RuleRan) (lent out : List ℕ) → out ≡ outputAfter lent x → runAnswer x .reelLength ≤ length out
+within : (x : Answer RunOutput) (lent out : List ℕ) → out ≡ outputAfter lent x → runAnswer x .reelLength ≤ length out
 within (fine x) lent out e =
     let h : length out ≡ length (x .reel) + length (drop (length (x .reel)) lent)
     = ap length e ∙ length-append (x .reel) (drop (length (x .reel)) lent) in

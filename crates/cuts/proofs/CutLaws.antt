@@ -6,8 +6,8 @@ use native.Mathlib.Omega.{arith}
 use lib.Dec.{ltb}
 use borrow.Author.Tests.{ltb-true, ltb-false, lt-ltb, le-ltb}
 use Rattle.fillings.specs.declared.Tally.{Tally}
-use Rattle.cuts.specs.declared.Part.{Part}
-use Rattle.cuts.specs.Cutting.{Small, Fair, fullOf, openedOf, partIn, cutOf, tallyFrom, behindOf}
+use Rattle.cuts.specs.declared.CutTaken.{CutTaken}
+use Rattle.cuts.specs.Cutting.{CutSmall, BetweenSegments, fullOf, openedOf, partIn, cutOf, tallyFrom, behindRecord}
 
 -- ---- the block that a segment goes into
 
@@ -44,7 +44,7 @@ opened-is m low t = go (ltb (m - t .size) 5) refl
 
 -- ---- what a cut takes
 
-pub record Cut (m : ℕ) (b : Tally) (rest : ℕ) (p : Part) : Type 0 where
+pub record Cut (m : ℕ) (b : Tally) (rest : ℕ) (p : CutTaken) : Type 0 where
   pub blocks : p .tally .blocks ≡ b .blocks
   pub size : p .tally .size ≡ b .size + (p .size + 4)
   pub bytes : p .tally .bytes ≡ b .bytes + (p .size + 4)
@@ -107,13 +107,13 @@ module _ (m : ℕ) where
           inside = g .inside;
         }
 
-    pub behind-grown : (t : Tally) (size : ℕ) → t .size ≤ m → Grown t size (behindOf m t size)
-    unfolding behindOf
+    pub behind-grown : (t : Tally) (size : ℕ) → t .size ≤ m → Grown t size (behindRecord m t size)
+    unfolding behindRecord
     behind-grown t size i = grown size t size (omega arith) i
 
 -- ---- as the code goes
 
-pub block-is : {m : ℕ} {t : Tally} {rest : ℕ} → Small m t rest → {b : Tally} → b ≡ openedOf m t → Opened m t b
+pub block-is : {m : ℕ} {t : Tally} {rest : ℕ} → CutSmall m t rest → {b : Tally} → b ≡ openedOf m t → Opened m t b
 block-is {m} {t} y e = subst (Opened m t) (sym e) (opened-is m (y .low) t)
 
 pub cut-as : (m : ℕ) (t : Tally) (rest : ℕ) (b : Tally) → b ≡ openedOf m t → (n : ℕ) → n ≡ min rest (m - b .size - 4) → partIn b n ≡ cutOf m t rest
@@ -121,12 +121,12 @@ unfolding cutOf
 cut-as m t rest b e n q = ap (partIn b) q ∙ ap (λ (x : Tally). partIn x (min rest (m - x .size - 4))) e
 
 -- a cut, and what is left behind it
-pub record Next (m : ℕ) (t : Tally) (rest : ℕ) (p : Part) : Type 0 where
+pub record Next (m : ℕ) (t : Tally) (rest : ℕ) (p : CutTaken) : Type 0 where
   pub some : 1 ≤ rest → 1 ≤ p .size
   pub most : p .size ≤ rest
-  pub small : 1 ≤ rest → Small m (p .tally) (rest - p .size)
+  pub small : 1 ≤ rest → CutSmall m (p .tally) (rest - p .size)
 
-pub next-is : {m : ℕ} {t : Tally} {rest : ℕ} → Small m t rest → {p : Part} → p ≡ cutOf m t rest → Next m t rest p
+pub next-is : {m : ℕ} {t : Tally} {rest : ℕ} → CutSmall m t rest → {p : CutTaken} → p ≡ cutOf m t rest → Next m t rest p
 next-is {m} {t} {rest} y e =
     let c = cut-is m (y .low) t rest in
     let o = opened-is m (y .low) t in
@@ -149,18 +149,18 @@ next-is {m} {t} {rest} y e =
 pub record Going (m : ℕ) (start : Tally) (size : ℕ) (t : Tally) (rest : ℕ) : Type 0 where
   pub steps : ℕ
   pub enough : rest ≤ steps
-  pub is : behindOf m start size ≡ tallyFrom m steps t rest
-  pub small : Small m t rest
+  pub is : behindRecord m start size ≡ tallyFrom m steps t rest
+  pub small : CutSmall m t rest
 
-pub going-start : {m : ℕ} {start : Tally} {size : ℕ} → Small m start size → Going m start size start size
-unfolding behindOf
+pub going-start : {m : ℕ} {start : Tally} {size : ℕ} → CutSmall m start size → Going m start size start size
+unfolding behindRecord
 going-start {size = size} y = record { steps = size; enough = omega arith; is = refl; small = y }
 
 module _ {m : ℕ} {start : Tally} {size : ℕ} {t : Tally} where
-  pub going-next : {rest : ℕ} → Going m start size t rest → 1 ≤ rest → {p : Part} → p ≡ cutOf m t rest → Going m start size (p .tally) (rest - p .size)
+  pub going-next : {rest : ℕ} → Going m start size t rest → 1 ≤ rest → {p : CutTaken} → p ≡ cutOf m t rest → Going m start size (p .tally) (rest - p .size)
   going-next {rest} w l {p} e = go (w .steps) (w .enough) (w .is)
     where
-      go : (k : ℕ) → rest ≤ k → behindOf m start size ≡ tallyFrom m k t rest → Going m start size (p .tally) (rest - p .size)
+      go : (k : ℕ) → rest ≤ k → behindRecord m start size ≡ tallyFrom m k t rest → Going m start size (p .tally) (rest - p .size)
       go zero h q = absurd (omega arith)
       go (suc k) h q =
           let n = next-is (w .small) e in
@@ -168,36 +168,36 @@ module _ {m : ℕ} {start : Tally} {size : ℕ} {t : Tally} where
           record {
             steps = k;
             enough = omega (arith, n .most);
-            is = q ∙ tally-step m k t rest l ∙ ap (λ (x : Part). tallyFrom m k (x .tally) (rest - x .size)) (sym e);
+            is = q ∙ tally-step m k t rest l ∙ ap (λ (x : CutTaken). tallyFrom m k (x .tally) (rest - x .size)) (sym e);
             small = n .small l;
           }
 
-  pub going-end : {rest : ℕ} → Going m start size t rest → rest ≤ 0 → t ≡ behindOf m start size
+  pub going-end : {rest : ℕ} → Going m start size t rest → rest ≤ 0 → t ≡ behindRecord m start size
   going-end {rest} w l = sym (w .is ∙ ap (tallyFrom m (w .steps) t) (let z : rest ≡ 0 = omega arith in z) ∙ tally-none m (w .steps) t)
 
 module _ {m : ℕ} {start : Tally} {size : ℕ} {t : Tally} {rest : ℕ} (w : Going m start size t rest) where
   -- no tally on the way is past the last
-  pub going-most : (t .blocks ≤ behindOf m start size .blocks) × (t .bytes ≤ behindOf m start size .bytes)
+  pub going-most : (t .blocks ≤ behindRecord m start size .blocks) × (t .bytes ≤ behindRecord m start size .bytes)
   going-most =
       let g = grown m (w .small .low) (w .steps) t rest (w .enough) (w .small .inside) in
-      let blocks : behindOf m start size .blocks ≡ tallyFrom m (w .steps) t rest .blocks = ap (λ (x : Tally). x .blocks) (w .is) in
-      let bytes : behindOf m start size .bytes ≡ tallyFrom m (w .steps) t rest .bytes = ap (λ (x : Tally). x .bytes) (w .is) in
+      let blocks : behindRecord m start size .blocks ≡ tallyFrom m (w .steps) t rest .blocks = ap (λ (x : Tally). x .blocks) (w .is) in
+      let bytes : behindRecord m start size .bytes ≡ tallyFrom m (w .steps) t rest .bytes = ap (λ (x : Tally). x .bytes) (w .is) in
       (omega (arith, g .blocks), omega (arith, g .bytes))
 
-  pub going-more : 1 ≤ rest → {p : Part} → p ≡ cutOf m t rest → t .bytes ≤ p .tally .bytes
+  pub going-more : 1 ≤ rest → {p : CutTaken} → p ≡ cutOf m t rest → t .bytes ≤ p .tally .bytes
   going-more l {p} e =
       let c = cut-is m (w .small .low) t rest in
       let o = opened-is m (w .small .low) t in
-      let same : p .tally .bytes ≡ cutOf m t rest .tally .bytes = ap (λ (x : Part). x .tally .bytes) e in
+      let same : p .tally .bytes ≡ cutOf m t rest .tally .bytes = ap (λ (x : CutTaken). x .tally .bytes) e in
       omega (arith, c .bytes, o .least)
 
 -- ---- the last block is one of those so far
 
-pub fair-next : {m : ℕ} → 9 ≤ m → {t : Tally} → Fair m t → (rest : ℕ) {p : Part} → p ≡ cutOf m t rest → Fair m (p .tally) × (1 ≤ p .tally .blocks) × (p .size + 8 ≤ p .tally .size)
-fair-next {m} low {t} f rest e = subst (λ (p : Part). Fair m (p .tally) × (1 ≤ p .tally .blocks) × (p .size + 8 ≤ p .tally .size)) (sym e) (go (ltb (m - t .size) 5) refl)
+pub fair-next : {m : ℕ} → 9 ≤ m → {t : Tally} → BetweenSegments m t → (rest : ℕ) {p : CutTaken} → p ≡ cutOf m t rest → BetweenSegments m (p .tally) × (1 ≤ p .tally .blocks) × (p .size + 8 ≤ p .tally .size)
+fair-next {m} low {t} f rest e = subst (λ (p : CutTaken). BetweenSegments m (p .tally) × (1 ≤ p .tally .blocks) × (p .size + 8 ≤ p .tally .size)) (sym e) (go (ltb (m - t .size) 5) refl)
   where
     go : (q : Bool) → ltb (m - t .size) 5 ≡ q
-        → Fair m (cutOf m t rest .tally) × (1 ≤ cutOf m t rest .tally .blocks) × (cutOf m t rest .size + 8 ≤ cutOf m t rest .tally .size)
+        → BetweenSegments m (cutOf m t rest .tally) × (1 ≤ cutOf m t rest .tally .blocks) × (cutOf m t rest .size + 8 ≤ cutOf m t rest .tally .size)
     go true q =
         let c = cut-is m low t rest in
         let b = opened-new m t (ltb-true (m - t .size) 5 q) in
@@ -230,8 +230,8 @@ fair-next {m} low {t} f rest e = subst (λ (p : Part). Fair m (p .tally) × (1 �
 pub full-only-one : (m : ℕ) {x y : Tally} → x ≡ fullOf m → y ≡ fullOf m → x ≡ y
 full-only-one m a b = a ∙ sym b
 
-pub cut-only-one : (m : ℕ) (t : Tally) (rest : ℕ) {x y : Part} → x ≡ cutOf m t rest → y ≡ cutOf m t rest → x ≡ y
+pub cut-only-one : (m : ℕ) (t : Tally) (rest : ℕ) {x y : CutTaken} → x ≡ cutOf m t rest → y ≡ cutOf m t rest → x ≡ y
 cut-only-one m t rest a b = a ∙ sym b
 
-pub behind-only-one : (m : ℕ) (t : Tally) (size : ℕ) {x y : Tally} → x ≡ behindOf m t size → y ≡ behindOf m t size → x ≡ y
+pub behind-only-one : (m : ℕ) (t : Tally) (size : ℕ) {x y : Tally} → x ≡ behindRecord m t size → y ≡ behindRecord m t size → x ≡ y
 behind-only-one m t size a b = a ∙ sym b

@@ -4,10 +4,10 @@ use mathlib.Core.Bool.{cond}
 use Prim.Native.Nat.{ℕ, zero, suc, _+_, _-_, _*_, _≤_, _<_, min}
 use lib.Dec.{ltb}
 use Rattle.fillings.specs.declared.Tally.{Tally}
-use Rattle.cuts.specs.declared.Part.{Part}
+use Rattle.cuts.specs.declared.CutTaken.{CutTaken}
 
 -- numbers that are far from wrapping, where so many bytes are to come: each takes at most a block's word and its segment's besides
-pub record Small (m : ℕ) (t : Tally) (rest : ℕ) : Type 0 where
+pub record CutSmall (m : ℕ) (t : Tally) (rest : ℕ) : Type 0 where
   pub low : 9 ≤ m
   pub high : m < 65536
   pub inside : t .size ≤ m
@@ -15,7 +15,7 @@ pub record Small (m : ℕ) (t : Tally) (rest : ℕ) : Type 0 where
   pub bytes : t .bytes + 9 * rest ≤ 0x10000000000
 
 -- between two segments: no block is there, and nothing is left of it; or the last is one of those so far
-pub record Fair (m : ℕ) (t : Tally) : Type 0 where
+pub record BetweenSegments (m : ℕ) (t : Tally) : Type 0 where
   pub word : 4 ≤ t .size
   pub none : t .blocks ≡ 0 → m ≤ t .size
   pub last : 1 ≤ t .blocks → t .size ≤ t .bytes
@@ -29,11 +29,11 @@ unfoldable pub openedOf : ℕ → Tally → Tally
 openedOf m t = cond (ltb (m - t .size) 5) (record { blocks = t .blocks + 1; size = 4; bytes = t .bytes + 4 }) t
 
 -- a segment of n bytes more in the block
-abbrev pub partIn : Tally → ℕ → Part
+abbrev pub partIn : Tally → ℕ → CutTaken
 partIn b n = record { size = n; tally = record { blocks = b .blocks; size = b .size + (n + 4); bytes = b .bytes + (n + 4) } }
 
 -- the next segment of a record of which so many bytes are left
-unfoldable pub cutOf : ℕ → Tally → ℕ → Part
+unfoldable pub cutOf : ℕ → Tally → ℕ → CutTaken
 cutOf m t rest = let b = openedOf m t in partIn b (min rest (m - b .size - 4))
 
 -- cut by cut (each takes a byte or more, so that one step for each byte is enough)
@@ -43,5 +43,5 @@ tallyFrom m (suc k) t zero = t
 tallyFrom m (suc k) t (suc n) = tallyFrom m k (cutOf m t (suc n) .tally) (suc n - cutOf m t (suc n) .size)
 
 -- behind a record of so many bytes
-unfoldable pub behindOf : ℕ → Tally → ℕ → Tally
-behindOf m t size = tallyFrom m size t size
+unfoldable pub behindRecord : ℕ → Tally → ℕ → Tally
+behindRecord m t size = tallyFrom m size t size

@@ -1,10 +1,10 @@
 // How a record is cut into segments that fill blocks of m bytes, by numbers alone. Document 02, order 6.
 ghost use mathlib.Core.Path.{_≡_};
-ghost use Rattle.cuts.specs.Cutting.{Small, openedOf, cutOf, behindOf, fullOf};
+ghost use Rattle.cuts.specs.Cutting.{CutSmall, openedOf, cutOf, behindRecord, fullOf};
 use fillings::Tally;
 
 // What a cut takes of a record: so many bytes of data, and the tally with the segment that they make.
-pub struct Part {
+pub struct CutTaken {
     pub size: usize,
     pub tally: Tally,
 }
@@ -22,7 +22,7 @@ pub fn full(m: usize) -> Tally
 
 // The block that a segment goes into: a new one, with its word, where fewer than 5 bytes are left of the last, which are a segment's word and a byte of data.
 fn opened(m: usize, tally: Tally) -> Tally
-    requires { ⌜ Small m tally 0 ⌝ }
+    requires { ⌜ CutSmall m tally 0 ⌝ }
     ensures { λ r. ⌜ r ≡ openedOf m tally ⌝ }
 {
     if m - tally.size < 5 {
@@ -38,8 +38,8 @@ fn opened(m: usize, tally: Tally) -> Tally
 }
 
 // The next segment of a record of which so many bytes are left: all of them, or as many as its block has room for. Measuring and writing both go by these steps.
-pub fn cut(m: usize, tally: Tally, rest: usize) -> Part
-    requires { ⌜ Small m tally rest ⌝ }
+pub fn cut(m: usize, tally: Tally, rest: usize) -> CutTaken
+    requires { ⌜ CutSmall m tally rest ⌝ }
     ensures { λ r. ⌜ r ≡ cutOf m tally rest ⌝ }
 {
     let block = opened(m, tally);
@@ -47,7 +47,7 @@ pub fn cut(m: usize, tally: Tally, rest: usize) -> Part
     let segment = size + 4;
     let filled = block.size + segment;
     let bytes = block.bytes + segment;
-    Part {
+    CutTaken {
         size,
         tally: Tally {
             blocks: block.blocks,
@@ -59,8 +59,8 @@ pub fn cut(m: usize, tally: Tally, rest: usize) -> Part
 
 // The tally behind a record of so many bytes.
 pub fn behind(m: usize, tally: Tally, size: usize) -> Tally
-    requires { ⌜ Small m tally size ⌝ }
-    ensures { λ r. ⌜ r ≡ behindOf m tally size ⌝ }
+    requires { ⌜ CutSmall m tally size ⌝ }
+    ensures { λ r. ⌜ r ≡ behindRecord m tally size ⌝ }
 {
     let mut now = tally;
     let mut rest = size;

@@ -8,7 +8,7 @@ use native.Mathlib.Omega.{arith}
 use lib.ListN.{length, length-append, length-map}
 use Rattle.rules.specs.Base.{joined}
 use Rattle.rules.specs.Halves.{over}
-use Rattle.rules.specs.Reel.{word, ends, reelOf}
+use Rattle.rules.specs.Reel.{word, offsetWords, reelOf}
 use Rattle.rules.proofs.Lists.{mapped-last}
 use Rattle.rules.proofs.SizeLaws.{length-over}
 use Rattle.rules.proofs.PlaceLaws.{over-nothing, over-behind, over-apart, over-part}
@@ -79,7 +79,7 @@ module _ {P : Type 0} (x : Framing P) (base : ℕ) (old : List ℕ) where
 
     -- the last
     pub laid-ends : base ≡ 4 * length bs + 8 → (at : ℕ) → at ≡ 4 * length bs + 4
-        → over at (word (base + length (bytesBy x bs))) (laid bs) ≡ over 4 (ends base (map (x .block) bs) ++ bytesBy x bs) old
+        → over at (word (base + length (bytesBy x bs))) (laid bs) ≡ over 4 (offsetWords base (map (x .block) bs) ++ bytesBy x bs) old
     laid-ends b at e =
         let w = word (base + length (bytesBy x bs)) in
         let hs = heads base (map (x .block) bs) in
@@ -153,11 +153,11 @@ module _ {P : Type 0} (x : Framing P) (base : ℕ) (old : List ℕ) where
 
 -- the block count, and behind it the offsets and the blocks
 pub reel-over : (bs : List (List ℕ)) (blocks : ℕ) → blocks ≡ length bs → (old : List ℕ) → length (reelOf bs) ≤ length old
-    → over 4 (ends (4 * blocks + 8) bs ++ joined bs) (over 0 (word blocks) old) ≡ over 0 (reelOf bs) old
+    → over 4 (offsetWords (4 * blocks + 8) bs ++ joined bs) (over 0 (word blocks) old) ≡ over 0 (reelOf bs) old
 unfolding reelOf
 reel-over bs blocks e old fits =
-    let body = ends (4 * blocks + 8) bs ++ joined bs in
+    let body = offsetWords (4 * blocks + 8) bs ++ joined bs in
     over-behind 0 4 (word blocks) body old (omega (arith, length-word blocks))
-    (omega (arith, length-append (ends (4 * blocks + 8) bs) (joined bs), length-ends (4 * blocks + 8) bs, length-reel bs))
+    (omega (arith, length-append (offsetWords (4 * blocks + 8) bs) (joined bs), length-ends (4 * blocks + 8) bs, length-reel bs))
     ∙ ap (λ (x : List ℕ). over 0 x old)
-    (sym (append-assoc (word blocks) (ends (4 * blocks + 8) bs) (joined bs)) ∙ ap (λ (k : ℕ). word k ++ ends (4 * k + 8) bs ++ joined bs) e)
+    (sym (append-assoc (word blocks) (offsetWords (4 * blocks + 8) bs) (joined bs)) ∙ ap (λ (k : ℕ). word k ++ offsetWords (4 * k + 8) bs ++ joined bs) e)

@@ -10,7 +10,7 @@ use Rattle.rules.specs.Base.{joined}
 use Rattle.rules.specs.Halves.{over}
 use Rattle.rules.specs.Grammar.{tf}
 use Rattle.rules.specs.Plan.{isTF, recordLength, blockLength}
-use Rattle.rules.specs.Reel.{word, offsets, ends}
+use Rattle.rules.specs.Reel.{word, offsets, offsetWords}
 use Rattle.rules.specs.Blocks.{takenFrom}
 use Rattle.rules.specs.EvenRecords.{stepped, endsBehind}
 use Rattle.rules.proofs.ReelLaws.{length-ends}
@@ -33,7 +33,7 @@ use Rattle.fixed.proofs.ReadyLaws.{count-is, header-fits}
 
 module _ {task : Task} {s : List ℕ} (f : task .format ≡ FF) {from : ℕ} (b : from ≡ fixedStart (formOf task) s (task .first)) {blocks room : ℕ} (x : Ready task s blocks room) (base : ℕ) where
   ends-filled : isTF (modeOf (task .mode)) ≡ false → (records : ℕ) → length (drop from s) ≡ records * task .n
-      → stepped (base + records * task .width - base) (task .limit / task .width * task .width) base (base + records * task .width) ≡ ends base (blocksIn (x .p) (x .recs))
+      → stepped (base + records * task .width - base) (task .limit / task .width * task .width) base (base + records * task .width) ≡ offsetWords base (blocksIn (x .p) (x .recs))
   unfolding blocksIn
   ends-filled m records e =
       let p = x .p in
@@ -48,7 +48,7 @@ module _ {task : Task} {s : List ℕ} (f : task .format ≡ FF) {from : ℕ} (b 
       ∙ sym
       (filled-ends p (x .good .accepted) (is-fixed (x .is) (x .good) f) s (x .good .reel) (x .recs) (x .good .records) (x .other) (ap isTF (sym (x .is .mode)) ∙ m) fuel base few)
 
-  ends-each : modeOf (task .mode) ≡ tf → word base ++ endsBehind (task .n) (task .width) from base (offsets s) ≡ ends base (blocksIn (x .p) (x .recs))
+  ends-each : modeOf (task .mode) ≡ tf → word base ++ endsBehind (task .n) (task .width) from base (offsets s) ≡ offsetWords base (blocksIn (x .p) (x .recs))
   unfolding blocksIn
   ends-each m =
       let p = x .p in
@@ -83,7 +83,7 @@ module _ {task : Task} {s : List ℕ} {from records base room : ℕ} (y : EndsFi
   pub base-most : base ≤ 65536
   base-most = omega (arith, y .behind, header-fits x, x .most)
 
-  room-ends : 4 + length (ends base (blocksIn (x .p) (x .recs))) ≤ room
+  room-ends : 4 + length (offsetWords base (blocksIn (x .p) (x .recs))) ≤ room
   room-ends = omega (arith, length-ends base (blocksIn (x .p) (x .recs)), count-is x, y .behind, header-fits x, x .roomy)
 
   pub steps-fit : {m : Mode} → task .mode ≡ m → isTF (modeOf m) ≡ false

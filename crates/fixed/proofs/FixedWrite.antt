@@ -10,7 +10,7 @@ use Rattle.rules.specs.Base.{joined}
 use Rattle.rules.specs.Halves.{over}
 use Rattle.rules.specs.Grammar.{ff, fv}
 use Rattle.rules.specs.Plan.{selects}
-use Rattle.rules.specs.Reel.{ends}
+use Rattle.rules.specs.Reel.{offsetWords}
 use Rattle.rules.specs.Blocks.{takenFrom}
 use Rattle.rules.specs.Output.{outRecord}
 use Rattle.rules.specs.EvenRecords.{Even}
@@ -114,7 +114,7 @@ body-put task xs s blocks old first ys {from} {block} f b d same e h = λ y.
     ap (putMid base (length first - base) first) (h (p .fields) (fair-is y) rs (block-is old y f b d) ∙ ap (λ (z : List ℕ). over 0 z (take (length first - base) (drop base first))) outs)
     ∙ rest-over base first (joined bs) (omega arith)
     ∙ ap (over base (joined bs)) (e blocks (y .ready) refl)
-    ∙ over-behind 4 base (ends base bs) (joined bs) old (omega (arith, length-ends base bs, count-is (y .ready))) (omega arith)
+    ∙ over-behind 4 base (offsetWords base bs) (joined bs) old (omega (arith, length-ends base bs, count-is (y .ready))) (omega arith)
 
 pub body-only-one : {task : Task} {xs s : List ℕ} {blocks : ℕ} (old : List ℕ) → Lent task xs s blocks (length old) → {x z : List ℕ} → BodyPut task xs s blocks old x → BodyPut task xs s blocks old z → x ≡ z
 unfolding BodyPut

@@ -7,7 +7,7 @@ use lib.ListN.{length, drop}
 use Rattle.rules.specs.Base.{joined}
 use Rattle.rules.specs.Halves.{over, Field}
 use Rattle.rules.specs.Plan.{selects}
-use Rattle.rules.specs.Reel.{ends}
+use Rattle.rules.specs.Reel.{offsetWords}
 use Rattle.rules.specs.EvenRecords.{Even}
 use Rattle.terms.specs.declared.Task.{Task}
 use Rattle.terms.specs.declared.Format.the-variants.{FF}
@@ -57,4 +57,4 @@ pub record EndsFit (task : Task) (s : List ℕ) (from records base room : ℕ) :
 
 -- they stand from place 4 on
 unfoldable pub EndsPut : Task → List ℕ → ℕ → List ℕ → List ℕ → Type 0
-EndsPut task s base old new = (blocks : ℕ) (x : Ready task s blocks (length old)) → base ≡ 4 * blocks + 8 → new ≡ over 4 (ends base (blocksIn (x .p) (x .recs))) old
+EndsPut task s base old new = (blocks : ℕ) (x : Ready task s blocks (length old)) → base ≡ 4 * blocks + 8 → new ≡ over 4 (offsetWords base (blocksIn (x .p) (x .recs))) old

@@ -6,7 +6,7 @@ use Prim.Native.Nat.{ℕ, _+_, _*_, _≤_}
 use lib.ListN.{length}
 use Rattle.rules.specs.Base.{joined}
 use Rattle.rules.specs.Halves.{over, Field}
-use Rattle.rules.specs.Reel.{ends, reelOf}
+use Rattle.rules.specs.Reel.{offsetWords, reelOf}
 use Rattle.rules.specs.Plan.{Plan, selects, isTC, isFS}
 use Rattle.rules.specs.Output.{blockOf}
 use Rattle.rules.specs.Lent.{zoneF}
@@ -43,7 +43,7 @@ pub record Lent (task : Task) (xs s : List ℕ) (blocks room : ℕ) : Type 0 whe
 unfoldable pub BodyPut : Task → List ℕ → List ℕ → ℕ → List ℕ → List ℕ → Type 0
 BodyPut task xs s blocks old new =
     (y : Lent task xs s blocks (length old))
-    → new ≡ over 4 (ends (4 * blocks + 8) (blocksIn (y .ready .p) (y .ready .recs)) ++ joined (blocksIn (y .ready .p) (y .ready .recs))) old
+    → new ≡ over 4 (offsetWords (4 * blocks + 8) (blocksIn (y .ready .p) (y .ready .recs)) ++ joined (blocksIn (y .ready .p) (y .ready .recs))) old
 
 -- the output of a record, by the fields that the lent numbers are
 unfoldable pub outOf : Task → List Field → List ℕ → List ℕ

@@ -8,10 +8,10 @@ use Rattle.rules.specs.Base.{pairs, digitsOf}
 use Rattle.rules.specs.Places.{All}
 
 -- a digit: hex 30 to 39, and hex 41 to 46
-abbrev pub Digit : ℕ → Type 0
-Digit c = ((48 ≤ c) × (c ≤ 57)) ⊎ ((65 ≤ c) × (c ≤ 70))
+abbrev pub HexadecimalDigit : ℕ → Type 0
+HexadecimalDigit c = ((48 ≤ c) × (c ≤ 57)) ⊎ ((65 ≤ c) × (c ≤ 70))
 
-pub record Shows (byte : ℕ) (r : List ℕ) : Type 0 where
+pub record ShowsByte (byte : ℕ) (r : List ℕ) : Type 0 where
   pub two : 2 ≡ length r
-  pub digits : All Digit r
+  pub digits : All HexadecimalDigit r
   pub reads : pairs (digitsOf r) ≡ byte ∷ []

@@ -2,11 +2,11 @@
 ghost use mathlib.Core.Path.{_≡_};
 ghost use Prim.Native.Nat.{_%_};
 ghost use Rattle.rules.specs.Base.{digitOf};
-ghost use Rattle.hexadecimal.specs.Promise.{Digit, Shows};
+ghost use Rattle.hexadecimal.specs.Promise.{HexadecimalDigit, ShowsByte};
 
 // The digit of a byte's low half.
 fn digit(byte: u8) -> u8
-    ensures { λ r. ⌜ Digit r × (digitOf r ≡ byte % 16) ⌝ }
+    ensures { λ r. ⌜ HexadecimalDigit r × (digitOf r ≡ byte % 16) ⌝ }
 {
     let half = byte % 16;
     if half < 10 {
@@ -18,7 +18,7 @@ fn digit(byte: u8) -> u8
 
 // The digits of a byte's halves, the high one first.
 pub fn hex(byte: u8) -> [u8; 2]
-    ensures { λ r. ⌜ Shows byte r ⌝ }
+    ensures { λ r. ⌜ ShowsByte byte r ⌝ }
 {
     [digit(byte / 16), digit(byte)]
 }

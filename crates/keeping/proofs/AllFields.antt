@@ -21,8 +21,8 @@ use Rattle.terms.specs.declared.Field.{Field}
 use Rattle.rows.specs.Flat.{fieldAt}
 use Rattle.rows.specs.Kept.{fieldsIn}
 use Rattle.rows.proofs.RowLaws.{many-in, field-in}
-use Rattle.keeping.specs.Marks.{Says, numbered, nowhere, Gives, Put, Stand}
-use Rattle.keeping.specs.Promise.{FairField, Fair}
+use Rattle.keeping.specs.Marks.{MarkSays, numbered, nowhere, SourceIs, Put, Stand}
+use Rattle.keeping.specs.Promise.{FieldInside, RowInside}
 use Rattle.keeping.proofs.Arrays.{Met}
 use Rattle.terms.proofs.FieldLaws.{output-of}
 use Rattle.keeping.proofs.Fields.{fair-fits}
@@ -33,7 +33,7 @@ module _ (row : List ℕ) where
   pub fields-all : (k : ℕ) → length row / 5 ≤ k → take k (fieldsIn row) ≡ fieldsIn row
   fields-all k h = take-all k (fieldsIn row) (omega (arith, many-in row))
 
-  pub fits-all : (n m : ℕ) → Fair row n m → All (Fits n m) (fieldsIn row)
+  pub fits-all : (n m : ℕ) → RowInside row n m → All (Fits n m) (fieldsIn row)
   fits-all n m fair =
       at-all (fieldOf noField) (fieldsIn row) (λ i h.
       let k : 5 * i + 5 ≤ length row = omega (arith, many-in row) in
@@ -41,7 +41,7 @@ module _ (row : List ℕ) where
 
   -- ---- marks
 
-  pub says-none : (a h : ℕ) → a ≡ 0 → Says a (permitted zoneF (take 0 (fieldsIn row)) h)
+  pub says-none : (a h : ℕ) → a ≡ 0 → MarkSays a (permitted zoneF (take 0 (fieldsIn row)) h)
   says-none a h e v s = rw e (says-any v s)
 
   -- field k, which is f
@@ -52,8 +52,8 @@ module _ (row : List ℕ) where
     same : getD (fieldsIn row) k (fieldOf noField) ≡ fieldOf f
     same = field-in row (fieldOf noField) k l ∙ ap fieldOf (sym read)
 
-    pub says-more : (h a b : ℕ) → Met f h a b → Says a (permitted zoneF (take k (fieldsIn row)) h)
-        → Says b (permitted zoneF (take (k + 1) (fieldsIn row)) h)
+    pub says-more : (h a b : ℕ) → Met f h a b → MarkSays a (permitted zoneF (take k (fieldsIn row)) h)
+        → MarkSays b (permitted zoneF (take (k + 1) (fieldsIn row)) h)
     unfolding Met
     says-more h a b met says v s =
         met v s
@@ -64,7 +64,7 @@ module _ (row : List ℕ) where
 
     -- ---- sources
 
-    module _ (n m : ℕ) (fair : Fair row n m) (s r : List ℕ) (put : (g : ℕ) → g < 8192 → Put f g (getD s g 0) (getD r g 0))
+    module _ (n m : ℕ) (fair : RowInside row n m) (s r : List ℕ) (put : (g : ℕ) → g < 8192 → Put f g (getD s g 0) (getD r g 0))
         (stand : Stand s (sources zoneF m (take k (fieldsIn row)) (2 * n))) where
       all : All (Fits n m) (fieldsIn row)
       all = fits-all n m fair
@@ -73,7 +73,7 @@ module _ (row : List ℕ) where
       writes = ap writesFrom same
 
       wide : outputSize (getD (fieldsIn row) k (fieldOf noField) .kind) ≡ f .output
-      wide = ap (λ (x : RuleField). outputSize (x .kind)) same ∙ output-of f (subst (FairField n m) (sym read) (fair .each k l) .one-size)
+      wide = ap (λ (x : RuleField). outputSize (x .kind)) same ∙ output-of f (subst (FieldInside n m) (sym read) (fair .each k l) .one-size)
 
       room : readsFrom (fieldOf f) + readsMany (fieldOf f) ≤ 2 * n
       room =
@@ -85,7 +85,7 @@ module _ (row : List ℕ) where
 
       -- half g, wherever it is
       next : (g : ℕ) → g < 2 * m → getD r g 0 ≡ numbered (getD (sources zoneF m (take (suc k) (fieldsIn row)) (2 * n)) g nowhere)
-      unfolding Gives
+      unfolding SourceIs
       next g h =
           let p : Put f g (getD s g 0) (getD r g 0) = put g (omega (arith, fair .m-high)) in
           elim (decLt g (writesFrom (fieldOf f))) [

@@ -12,15 +12,15 @@ use Rattle.terms.specs.Meaning.{fieldOf}
 use Rattle.terms.specs.declared.Field.{Field}
 use Rattle.terms.specs.declared.Kind.{Kind}
 use Rattle.terms.specs.declared.Kind.the-variants.{Copy, Pack, Unpack}
-use Rattle.keeping.specs.Marks.{markAllows, Says, askingOf, Gives, Put}
-use Rattle.keeping.specs.Promise.{FairField}
+use Rattle.keeping.specs.Marks.{markAllows, MarkSays, askingOf, SourceIs, Put}
+use Rattle.keeping.specs.Promise.{FieldInside}
 use Rattle.terms.proofs.FieldLaws.{input-of}
 use Rattle.keeping.proofs.Fields.{kind-of}
 use Rattle.keeping.proofs.Meets.{or-allows}
 
 -- half h has mark b after a field, where it had mark a: it permits what both permit
 unfoldable pub Met : Field → ℕ → ℕ → ℕ → Type 0
-Met f h a b = Says b (λ v. allows zoneF (fieldOf f) h v && markAllows a v)
+Met f h a b = MarkSays b (λ v. allows zoneF (fieldOf f) h v && markAllows a v)
 
 -- a field asks nothing of halves that it does not read
 pub asking-most : (c : Kind) (input many : ℕ) → many ≡ askingOf c input → many ≤ 2 * input
@@ -29,7 +29,7 @@ asking-most Copy input many e = omega arith
 asking-most Pack input many e = omega arith
 asking-most Unpack input many e = omega arith
 
-module _ (n m : ℕ) (f : Field) (ok : FairField n m f) (h : ℕ) where
+module _ (n m : ℕ) (f : Field) (ok : FieldInside n m f) (h : ℕ) where
   -- ---- marks
 
   from-is : readsFrom (fieldOf f) ≡ 2 * f .r - 2
@@ -44,7 +44,7 @@ module _ (n m : ℕ) (f : Field) (ok : FairField n m f) (h : ℕ) where
   unfolding Met
   met-above a b v l = rw (allows-after zoneF (fieldOf f) v h (omega (arith, from-is, input-of f)), any-of v l)
 
-  pub met-inside : (j a b : ℕ) → h ≡ 2 * f .r - 2 + j → j < 2 * f .input → Says b (kindAllows zoneF (fieldOf f .kind) j) → Met f h a (bitOr a b)
+  pub met-inside : (j a b : ℕ) → h ≡ 2 * f .r - 2 + j → j < 2 * f .input → MarkSays b (kindAllows zoneF (fieldOf f .kind) j) → Met f h a (bitOr a b)
   unfolding Met
   met-inside j a b e l says v s =
       ap (λ (x : ℕ). markAllows x v) (or-comm a b)
@@ -84,10 +84,10 @@ module _ (n m : ℕ) (f : Field) (ok : FairField n m f) (h : ℕ) where
   unfolding fieldOf
   put-above a b = record { before = λ l. refl; inside = λ j e l. absurd (omega (arith, ok .t-low)); after = λ l. refl }
 
-  pub put-inside : (j a b : ℕ) → h ≡ 2 * f .t - 2 + j → j < 2 * f .output → Gives f j b → Put f h a b
+  pub put-inside : (j a b : ℕ) → h ≡ 2 * f .t - 2 + j → j < 2 * f .output → SourceIs f j b → Put f h a b
   unfolding fieldOf
   put-inside j a b e l gives = record {
     before = λ p. absurd (omega (arith, ok .t-low));
-    inside = λ i p q. subst (λ (x : ℕ). Gives f x b) (let z : j ≡ i = omega (arith, ok .t-low) in z) gives;
+    inside = λ i p q. subst (λ (x : ℕ). SourceIs f x b) (let z : j ≡ i = omega (arith, ok .t-low) in z) gives;
     after = λ p. absurd (omega (arith, ok .t-low));
   }

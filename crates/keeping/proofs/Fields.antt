@@ -7,13 +7,13 @@ use Rattle.terms.specs.Meaning.{kindOf, fieldOf}
 use Rattle.terms.specs.declared.Field.{Field}
 use Rattle.terms.specs.declared.Kind.{Kind}
 use Rattle.terms.proofs.FieldLaws.{input-of, output-of}
-use Rattle.keeping.specs.Promise.{FairField}
+use Rattle.keeping.specs.Promise.{FieldInside}
 
 pub kind-of : (f : Field) (c : Kind) → f .kind ≡ c → fieldOf f .kind ≡ kindOf c (f .input) (f .output)
 unfolding fieldOf
 kind-of f c q = ap (λ (d : Kind). kindOf d (f .input) (f .output)) q
 
-pub fair-fits : (n m : ℕ) (f : Field) → FairField n m f → Fits n m (fieldOf f)
+pub fair-fits : (n m : ℕ) (f : Field) → FieldInside n m f → Fits n m (fieldOf f)
 unfolding fieldOf
 fair-fits n m f ok = record {
   r-low = ok .r-low;
@@ -25,7 +25,7 @@ fair-fits n m f ok = record {
 }
 
 -- inside records, and so inside longer ones
-pub fair-longer : (n m n′ m′ : ℕ) (f : Field) → n ≤ n′ → m ≤ m′ → FairField n m f → FairField n′ m′ f
+pub fair-longer : (n m n′ m′ : ℕ) (f : Field) → n ≤ n′ → m ≤ m′ → FieldInside n m f → FieldInside n′ m′ f
 fair-longer n m n′ m′ f a b ok = record {
   r-low = ok .r-low;
   r-high = omega (arith, ok .r-high);

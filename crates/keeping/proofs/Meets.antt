@@ -13,7 +13,7 @@ use Rattle.rules.specs.Twins.{lowest}
 use Rattle.rules.specs.Lent.{zoneF}
 use Rattle.rules.proofs.PermittedLaws.{any-of, digit-of, sign-of}
 use Rattle.rules.proofs.MarkLaws.{first-alike}
-use Rattle.keeping.specs.Marks.{markAllows, choicesOf, Says, lowestOf}
+use Rattle.keeping.specs.Marks.{markAllows, choicesOf, MarkSays, lowestOf}
 
 -- ---- a value by its bit
 
@@ -31,7 +31,7 @@ allows-zone a v l m = rw (any-of v m, lt-leb v 9 (omega arith), lt-leb v 14 l)
 
 -- a test of a half says what a mark does, where it does so of 0 to 9, of A to E and of F
 by-bits : (a : ℕ) (p : ℕ → Bool) → ((v : ℕ) → v ≤ 9 → p v ≡ eqb (a / 1 % 2) 0) → ((v : ℕ) → 9 < v → v ≤ 14 → p v ≡ eqb (a / 2 % 2) 0)
-    → ((v : ℕ) → 14 < v → v < 16 → p v ≡ eqb (a / 4 % 2) 0) → Says a p
+    → ((v : ℕ) → 14 < v → v < 16 → p v ≡ eqb (a / 4 % 2) 0) → MarkSays a p
 by-bits a p digits letters zones v l = elim (decLt 9 v) [
   | yes past ↦ elim (decLt 14 v) [
     | yes zone ↦ allows-zone a v zone l ∙ sym (zones v zone l)
@@ -42,19 +42,19 @@ by-bits a p digits letters zones v l = elim (decLt 9 v) [
 
 -- ---- the marks of the fields
 
-pub says-any : Says 0 any
+pub says-any : MarkSays 0 any
 says-any = by-bits 0 any (λ v l. any-of v (omega arith)) (λ v l m. any-of v (omega arith)) (λ v l m. any-of v m)
 
 not-digit : (v : ℕ) → 9 < v → digit v ≡ false
 not-digit v l = rw (le-leb 0 v (omega arith), lt-leb v 9 l)
 
-pub says-digit : Says 6 digit
+pub says-digit : MarkSays 6 digit
 says-digit = by-bits 6 digit (λ v l. digit-of v l) (λ v l m. not-digit v l) (λ v l m. not-digit v (omega arith))
 
-pub says-sign : Says 1 sign
+pub says-sign : MarkSays 1 sign
 says-sign = by-bits 1 sign (λ v l. rw (lt-leb 10 v (omega arith))) (λ v l m. sign-of v (omega arith, omega arith)) (λ v l m. sign-of v (omega arith, omega arith))
 
-pub says-zone : Says 3 (λ v. eqb v zoneF)
+pub says-zone : MarkSays 3 (λ v. eqb v zoneF)
 says-zone =
     by-bits 3 (λ v. eqb v zoneF) (λ v l. ne-eqb v 15 (λ e. omega arith)) (λ v l m. ne-eqb v 15 (λ e. omega arith)) (λ v l m. eq-eqb v 15 (omega arith))
 
@@ -75,7 +75,7 @@ or-bit a b = ap (λ (x : ℕ). eqb x 0) (or-mod a b 1) ∙ go (a % 2) (b % 2) (o
 or-at : (a b k : ℕ) → eqb (bitOr a b / 2 ^ k % 2) 0 ≡ (eqb (a / 2 ^ k % 2) 0 && eqb (b / 2 ^ k % 2) 0)
 or-at a b k = ap (λ (x : ℕ). eqb (x % 2) 0) (or-shr a b k) ∙ or-bit (a / 2 ^ k) (b / 2 ^ k)
 
-pub or-allows : (a b : ℕ) → Says (bitOr a b) (λ v. markAllows a v && markAllows b v)
+pub or-allows : (a b : ℕ) → MarkSays (bitOr a b) (λ v. markAllows a v && markAllows b v)
 or-allows a b =
     by-bits (bitOr a b) (λ v. markAllows a v && markAllows b v)
     (λ v l. ap₂ _&&_ (allows-digit a v l) (allows-digit b v l) ∙ sym (or-at a b 0))
@@ -176,6 +176,6 @@ module _ (a : ℕ) where
       sym (lowest-is ∙ rw (ne-eqb (a / 1 % 2) 0 (λ z. omega arith), ne-eqb (a / 2 % 2) 0 (λ z. omega arith), eq-eqb (a / 4 % 2) 0 (omega arith)))
 
 -- a mark has the lowest of the halves that it permits
-pub lowest-says : (a : ℕ) (q : ℕ → ℕ → Bool) (i : ℕ) → Says a (q i) → lowestOf a ≡ lowest q i
+pub lowest-says : (a : ℕ) (q : ℕ → ℕ → Bool) (i : ℕ) → MarkSays a (q i) → lowestOf a ≡ lowest q i
 unfolding lowestOf lowest
 lowest-says a q i says = first-alike (markAllows a) (q i) 0 16 (λ v l. says v (omega arith))

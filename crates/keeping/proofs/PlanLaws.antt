@@ -11,11 +11,11 @@ use Rattle.rules.proofs.RecordLaws.{sizes-low}
 use Rattle.terms.specs.Meaning.{fieldOf, OneSize}
 use Rattle.terms.proofs.FieldLaws.{input-of, output-of}
 use Rattle.terms.specs.declared.Field.{Field}
-use Rattle.keeping.specs.Promise.{FairField, barrenOf, lostOf, weighedOf}
+use Rattle.keeping.specs.Promise.{FieldInside, barrenOf, lostOf, weighedOf}
 
 -- ---- fair fields
 
-pub fair-field : (n m : ℕ) (f : Field) → FieldWithin (fieldOf f) → Inside n m (fieldOf f) → OneSize (f .kind) (f .input) (f .output) → FairField n m f
+pub fair-field : (n m : ℕ) (f : Field) → FieldWithin (fieldOf f) → Inside n m (fieldOf f) → OneSize (f .kind) (f .input) (f .output) → FieldInside n m f
 unfolding fieldOf
 fair-field n m f within inside one =
     let low = sizes-low (fieldOf f .kind) (within .kind) in

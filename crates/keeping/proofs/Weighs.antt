@@ -21,14 +21,14 @@ use Rattle.rules.proofs.Search.{first-most}
 use Rattle.rules.proofs.MarkLaws.{choices-alike, first-alike, lost-alike}
 use Rattle.rows.specs.Flat.{fieldAt}
 use Rattle.rows.specs.Kept.{fieldsIn}
-use Rattle.keeping.specs.Marks.{Says, permitsIn, numbered, nowhere, Stand}
-use Rattle.keeping.specs.Promise.{Fair, answerOf, barrenOf, lostOf, weighedOf}
+use Rattle.keeping.specs.Marks.{MarkSays, permitsIn, numbered, nowhere, Stand}
+use Rattle.keeping.specs.Promise.{RowInside, answerOf, barrenOf, lostOf, weighedOf}
 use Rattle.keeping.specs.declared.Weighed.{Weighed}
 use Rattle.keeping.specs.declared.Weighed.the-variants.{Barren, Kept, Lost}
 use Rattle.keeping.proofs.Fields.{fair-longer}
 
 -- fields inside their records lie inside the longest
-pub fair-longest : (row : List ℕ) (n m : ℕ) → Fair row n m → Fair row 4096 4096
+pub fair-longest : (row : List ℕ) (n m : ℕ) → RowInside row n m → RowInside row 4096 4096
 fair-longest row n m fair = record {
   few = fair .few;
   n-high = omega arith;
@@ -44,7 +44,7 @@ zeros zero i = refl
 zeros (suc many) zero = refl
 zeros (suc many) (suc i) = zeros many i
 
-module _ (marks : List ℕ) (fs : List RuleField) (n : ℕ) (small : n ≤ 4096) (says : (h : ℕ) → h < 8192 → Says (getD marks h 0) (permitted zoneF fs h)) where
+module _ (marks : List ℕ) (fs : List RuleField) (n : ℕ) (small : n ≤ 4096) (says : (h : ℕ) → h < 8192 → MarkSays (getD marks h 0) (permitted zoneF fs h)) where
   alike : (h v : ℕ) → h < 2 * n → v < 16 → permitsIn marks h v ≡ permitted zoneF fs h v
   unfolding permitsIn
   alike h v l s = says h (omega arith) v s

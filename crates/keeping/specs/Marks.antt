@@ -28,12 +28,12 @@ unfoldable pub choicesOf : ℕ → ℕ
 choicesOf a = count (markAllows a) 16
 
 -- a mark permits just the halves that pass a test
-abbrev pub Says : ℕ → (ℕ → Bool) → Type 0
-Says a p = (v : ℕ) → v < 16 → markAllows a v ≡ p v
+abbrev pub MarkSays : ℕ → (ℕ → Bool) → Type 0
+MarkSays a p = (v : ℕ) → v < 16 → markAllows a v ≡ p v
 
 -- an array of marks or sources at the beginning
-abbrev pub Zeros : List ℕ → Type 0
-Zeros xs = (length xs ≡ 8192) × ((i : ℕ) → getD xs i 0 ≡ 0)
+abbrev pub AllZero : List ℕ → Type 0
+AllZero xs = (length xs ≡ 8192) × ((i : ℕ) → getD xs i 0 ≡ 0)
 
 -- of how many halves of its input a field asks something: a copy takes any value
 unfoldable pub askingOf : Kind → ℕ → ℕ
@@ -61,19 +61,19 @@ abbrev pub nowhere : Source
 nowhere = constant (blank 0)
 
 -- the number of the source of half j of what a field writes, for an input of as many halves as the field reads, or more
-unfoldable pub Gives : Field → ℕ → ℕ → Type 0
-Gives f j s =
+unfoldable pub SourceIs : Field → ℕ → ℕ → Type 0
+SourceIs f j s =
     (many : ℕ) → readsFrom (fieldOf f) + readsMany (fieldOf f) ≤ many
     → s ≡ numbered (getD (fieldHalves zoneF constant (fieldOf f) (froms 0 many)) j nowhere)
 
 -- half g of the output has a source of number b after a field, where it had one of number a
 pub record Put (f : Field) (g a b : ℕ) : Type 0 where
   pub before : g < writesFrom (fieldOf f) → b ≡ a
-  pub inside : (j : ℕ) → g ≡ writesFrom (fieldOf f) + j → j < 2 * f .output → Gives f j b
+  pub inside : (j : ℕ) → g ≡ writesFrom (fieldOf f) + j → j < 2 * f .output → SourceIs f j b
   pub after : writesFrom (fieldOf f) + 2 * f .output ≤ g → b ≡ a
 
 -- the numbers of all halves after a field, where they were s
-pub record Covers (f : Field) (s r : List ℕ) : Type 0 where
+pub record SourcesAfter (f : Field) (s r : List ℕ) : Type 0 where
   pub long : length r ≡ 8192
   pub each : (g : ℕ) → g < 8192 → Put f g (getD s g 0) (getD r g 0)
 

@@ -17,7 +17,7 @@ use Rattle.keeping.specs.declared.Weighed.the-variants.{Barren, Kept, Lo
 -- ---- what it asks
 
 -- a field that lies inside records of n and m bytes
-pub record FairField (n m : ℕ) (f : Field) : Type 0 where
+pub record FieldInside (n m : ℕ) (f : Field) : Type 0 where
   pub r-low : 1 ≤ f .r
   pub r-high : f .r + f .input ≤ n + 1
   pub t-low : 1 ≤ f .t
@@ -27,11 +27,11 @@ pub record FairField (n m : ℕ) (f : Field) : Type 0 where
   pub one-size : OneSize (f .kind) (f .input) (f .output)
 
 -- the fields of a row, at most 64, lie inside records of n and m bytes
-pub record Fair (row : List ℕ) (n m : ℕ) : Type 0 where
+pub record RowInside (row : List ℕ) (n m : ℕ) : Type 0 where
   pub few : length row ≤ 320
   pub n-high : n ≤ 4096
   pub m-high : m ≤ 4096
-  pub each : (k : ℕ) → 5 * k + 5 ≤ length row → FairField n m (fieldAt row k)
+  pub each : (k : ℕ) → 5 * k + 5 ≤ length row → FieldInside n m (fieldAt row k)
 
 -- ---- what it answers
 

@@ -13,8 +13,8 @@ ghost use Rattle.rules.specs.Twins.{listed, lowest as lowestBy};
 ghost use Rattle.rules.specs.Lent.{zoneF};
 ghost use Rattle.terms.specs.Meaning.{fieldOf};
 ghost use Rattle.rows.specs.Kept.{fieldsIn};
-ghost use Rattle.keeping.specs.Marks.{choicesOf, Says, askingOf, permitsIn, lowestOf, Gives, Covers, Stand, Zeros};
-ghost use Rattle.keeping.specs.Promise.{FairField, Fair, answerOf, barrenOf, weighedOf};
+ghost use Rattle.keeping.specs.Marks.{choicesOf, MarkSays, askingOf, permitsIn, lowestOf, SourceIs, SourcesAfter, Stand, AllZero};
+ghost use Rattle.keeping.specs.Promise.{FieldInside, RowInside, answerOf, barrenOf, weighedOf};
 use terms::Field;
 use terms::Kind;
 
@@ -56,8 +56,8 @@ fn is_narrow(mark: u8) -> bool
 
 // What a field excludes in half j of its own input.
 fn mark_of(f: Field, j: usize) -> u8
-    requires { ⌜ FairField 4096 4096 f ⌝ }
-    ensures { λ r. ⌜ Says r (kindAllows zoneF (fieldOf f .kind) j) ⌝ }
+    requires { ⌜ FieldInside 4096 4096 f ⌝ }
+    ensures { λ r. ⌜ MarkSays r (kindAllows zoneF (fieldOf f .kind) j) ⌝ }
 {
     let kind = f.kind;
     match kind {
@@ -83,7 +83,7 @@ fn mark_of(f: Field, j: usize) -> u8
 
 // Of how many halves of its input a field asks something: a copy takes any value, so its halves need no walk.
 fn asking(f: Field) -> usize
-    requires { ⌜ FairField 4096 4096 f ⌝ }
+    requires { ⌜ FieldInside 4096 4096 f ⌝ }
     ensures { λ r. ⌜ r ≡ askingOf (f .kind) (f .input) ⌝ }
 {
     let kind = f.kind;
@@ -96,9 +96,9 @@ fn asking(f: Field) -> usize
 
 // The marks of all fields: a half read by several must satisfy them all. Each goes through those halves alone of which it asks something.
 fn permitted(fields: &[u16], marks: &mut [u8; 8192])
-    requires { ⌜ Fair (now fields) 4096 4096 ⌝ }
-    requires { ⌜ Zeros (now marks) ⌝ }
-    ensures { λ _. ⌜ (length (now (marks .exit)) ≡ 8192) × ((h : ℕ) → h < 8192 → Says (getD (now (marks .exit)) h 0) (permittedBy zoneF (fieldsIn (now (fields .entry))) h)) ⌝ }
+    requires { ⌜ RowInside (now fields) 4096 4096 ⌝ }
+    requires { ⌜ AllZero (now marks) ⌝ }
+    ensures { λ _. ⌜ (length (now (marks .exit)) ≡ 8192) × ((h : ℕ) → h < 8192 → MarkSays (getD (now (marks .exit)) h 0) (permittedBy zoneF (fieldsIn (now (fields .entry))) h)) ⌝ }
 {
     let count = fields.len() / 5;
     let mut k = 0;
@@ -154,9 +154,9 @@ fn barren_half(marks: &[u8], n: usize) -> usize
 
 // The source of half j of what a pack writes: the last byte's halves change places, the other low halves follow leftwards, then comes fill.
 fn pack_source(f: Field, j: usize) -> u16
-    requires { ⌜ FairField 4096 4096 f ⌝ }
+    requires { ⌜ FieldInside 4096 4096 f ⌝ }
     requires { ⌜ (j < 2 * f .output) × (f .kind ≡ Kind.Pack) ⌝ }
-    ensures { λ r. ⌜ Gives f j r ⌝ }
+    ensures { λ r. ⌜ SourceIs f j r ⌝ }
 {
     let end = 2 * (f.r + f.input) - 1;
     let right = 2 * f.output - 1 - j;
@@ -175,9 +175,9 @@ fn pack_source(f: Field, j: usize) -> u16
 // The source of half j of what an unpack writes: the last byte's halves change places, every other half has a byte of its own with the zone
 // before it, then comes fill.
 fn unpack_source(f: Field, j: usize) -> u16
-    requires { ⌜ FairField 4096 4096 f ⌝ }
+    requires { ⌜ FieldInside 4096 4096 f ⌝ }
     requires { ⌜ (j < 2 * f .output) × (f .kind ≡ Kind.Unpack) ⌝ }
-    ensures { λ r. ⌜ Gives f j r ⌝ }
+    ensures { λ r. ⌜ SourceIs f j r ⌝ }
 {
     let end = 2 * (f.r + f.input) - 1;
     let right = 2 * f.output - 1 - j;
@@ -199,9 +199,9 @@ fn unpack_source(f: Field, j: usize) -> u16
 // The sources of what a copy writes, in their places. Each kind has a walk of its own, so that nothing is asked at each half; here the source is
 // counted as wide as it is stored, which lets the compiler store many at a time.
 fn copy_sources(f: Field, out: &mut [u16; 8192])
-    requires { ⌜ FairField 4096 4096 f ⌝ }
+    requires { ⌜ FieldInside 4096 4096 f ⌝ }
     requires { ⌜ (length (now out) ≡ 8192) × (f .kind ≡ Kind.Copy) ⌝ }
-    ensures { λ _. ⌜ Covers f (now (out .entry)) (now (out .exit)) ⌝ }
+    ensures { λ _. ⌜ SourcesAfter f (now (out .entry)) (now (out .exit)) ⌝ }
 {
     let to = 2 * f.t - 2;
     let many = 2 * f.output;
@@ -216,9 +216,9 @@ fn copy_sources(f: Field, out: &mut [u16; 8192])
 
 // The sources of what a pack writes, in their places.
 fn pack_sources(f: Field, out: &mut [u16; 8192])
-    requires { ⌜ FairField 4096 4096 f ⌝ }
+    requires { ⌜ FieldInside 4096 4096 f ⌝ }
     requires { ⌜ (length (now out) ≡ 8192) × (f .kind ≡ Kind.Pack) ⌝ }
-    ensures { λ _. ⌜ Covers f (now (out .entry)) (now (out .exit)) ⌝ }
+    ensures { λ _. ⌜ SourcesAfter f (now (out .entry)) (now (out .exit)) ⌝ }
 {
     let to = 2 * f.t - 2;
     let many = 2 * f.output;
@@ -231,9 +231,9 @@ fn pack_sources(f: Field, out: &mut [u16; 8192])
 
 // The sources of what an unpack writes, in their places.
 fn unpack_sources(f: Field, out: &mut [u16; 8192])
-    requires { ⌜ FairField 4096 4096 f ⌝ }
+    requires { ⌜ FieldInside 4096 4096 f ⌝ }
     requires { ⌜ (length (now out) ≡ 8192) × (f .kind ≡ Kind.Unpack) ⌝ }
-    ensures { λ _. ⌜ Covers f (now (out .entry)) (now (out .exit)) ⌝ }
+    ensures { λ _. ⌜ SourcesAfter f (now (out .entry)) (now (out .exit)) ⌝ }
 {
     let to = 2 * f.t - 2;
     let many = 2 * f.output;
@@ -246,9 +246,9 @@ fn unpack_sources(f: Field, out: &mut [u16; 8192])
 
 // The sources of what a field writes, in their places.
 fn field_sources(f: Field, out: &mut [u16; 8192])
-    requires { ⌜ FairField 4096 4096 f ⌝ }
+    requires { ⌜ FieldInside 4096 4096 f ⌝ }
     requires { ⌜ length (now out) ≡ 8192 ⌝ }
-    ensures { λ _. ⌜ Covers f (now (out .entry)) (now (out .exit)) ⌝ }
+    ensures { λ _. ⌜ SourcesAfter f (now (out .entry)) (now (out .exit)) ⌝ }
 {
     let kind = f.kind;
     match kind {
@@ -260,9 +260,9 @@ fn field_sources(f: Field, out: &mut [u16; 8192])
 
 // The source of each half of the output record after all fields, a later one over an earlier one.
 fn sources(fields: &[u16], out: &mut [u16; 8192])
-    requires { ⌜ Fair (now fields) 4096 4096 ⌝ }
-    requires { ⌜ Zeros (now out) ⌝ }
-    ensures { λ _. ⌜ (length (now (out .exit)) ≡ 8192) × ((n m : ℕ) → Fair (now (fields .entry)) n m → Stand (now (out .exit)) (sourcesBy zoneF m (fieldsIn (now (fields .entry))) (2 * n))) ⌝ }
+    requires { ⌜ RowInside (now fields) 4096 4096 ⌝ }
+    requires { ⌜ AllZero (now out) ⌝ }
+    ensures { λ _. ⌜ (length (now (out .exit)) ≡ 8192) × ((n m : ℕ) → RowInside (now (fields .entry)) n m → Stand (now (out .exit)) (sourcesBy zoneF m (fieldsIn (now (fields .entry))) (2 * n))) ⌝ }
 {
     let count = fields.len() / 5;
     let mut i = 0;
@@ -327,7 +327,7 @@ fn lost_half(marks: &[u8; 8192], sources: &[u16; 8192], n: usize, m: usize) -> u
 
 // What the fields of a plan do to records of n bytes, which become m bytes.
 pub fn weigh(fields: &[u16], n: usize, m: usize) -> Weighed
-    requires { ⌜ Fair (now fields) n m ⌝ }
+    requires { ⌜ RowInside (now fields) n m ⌝ }
     ensures { λ r. ⌜ answerOf r ≡ weighedOf zoneF (fieldsIn (now (fields .entry))) n m ⌝ }
 {
     let mut marks = [0u8; 8192];
@@ -363,8 +363,8 @@ fn lowest(mark: u8) -> u8
 
 // The lowest value that each half may have, for all fields: the marks, each of which gives way to its value.
 pub fn lowest_halves(fields: &[u16], values: &mut [u8; 8192])
-    requires { ⌜ Fair (now fields) 4096 4096 ⌝ }
-    requires { ⌜ Zeros (now values) ⌝ }
+    requires { ⌜ RowInside (now fields) 4096 4096 ⌝ }
+    requires { ⌜ AllZero (now values) ⌝ }
     ensures { λ _. ⌜ now (values .exit) ≡ listed (lowestBy (permittedBy zoneF (fieldsIn (now (fields .entry))))) 0 8192 ⌝ }
 {
     permitted(fields, values);

@@ -8,7 +8,7 @@ use Rattle.rules.specs.Answer.{Answer, fine, refused, refusedAt, _>>=_}
 use Rattle.rules.specs.Reel.{reelOf}
 use Rattle.rules.specs.Asked.{askedOf}
 use Rattle.rules.specs.Plan.{Plan, PlanAnswer, planAnswer}
-use Rattle.rules.specs.Run.{Ran}
+use Rattle.rules.specs.Run.{RunOutput}
 use Rattle.rules.specs.Lent.{Entry, plan, tableAfter, run}
 use Rattle.rules.specs.Twins.{twinsInto}
 use Rattle.rules.specs.Keys.{throughUtility, throughAsked}
@@ -42,8 +42,8 @@ abbrev entry : ℕ → ℕ → ℕ → ℕ → ℕ → ℕ → Entry
 entry kind part r input output t = record { kind = kind; part = part; r = r; input = input; output = output; t = t }
 
 -- a reel of these blocks
-abbrev written : ℕ → ℕ → List (List ℕ) → Answer Ran
-written records blocks bs = fine (record { reel = reelOf bs; records = records; blocks = blocks })
+abbrev wrote : ℕ → ℕ → List (List ℕ) → Answer RunOutput
+wrote records blocks bs = fine (record { reel = reelOf bs; records = records; blocks = blocks })
 
 pub record Table : Type 0 where
   -- decks of document 001: data cell to tape, and near disk to disk, where data bytes 1 to 5 are dropped
@@ -91,9 +91,9 @@ pub record Table : Type 0 where
   pub counted :
       (askedOf (sample "TF" "B=(4,4)") >>= λ a. fine (throughAsked a)) ≡ askedOf (ascii "// U TF,FF,A=(5,5),B=(4,4)\n// FS 1,2,1/3,1,3/5,1,4\n// END")
   -- each block is one record, key then data
-  pub selected : run 99 (sample "TF" "B=(4,4)") (reelOf (hex "C1C2D1D2D3" ∷ hex "C3C4D4D5D6" ∷ [])) ≡ written 2 2 (hex "C1C2D1D3" ∷ hex "C3C4D4D6" ∷ [])
-  pub joined : run 99 (sample "TRF" "B=(4,8)") (reelOf (hex "C1C2D1D2D3" ∷ hex "C3C4D4D5D6" ∷ [])) ≡ written 2 1 (hex "C1C2D1D3C3C4D4D6" ∷ [])
-  pub later : run 99 (sample "TRF" "B=(4,8),R2") (reelOf (hex "C1C2D1D2D3" ∷ hex "C3C4D4D5D6" ∷ [])) ≡ written 1 1 (hex "C3C4D4D6" ∷ [])
+  pub selected : run 99 (sample "TF" "B=(4,4)") (reelOf (hex "C1C2D1D2D3" ∷ hex "C3C4D4D5D6" ∷ [])) ≡ wrote 2 2 (hex "C1C2D1D3" ∷ hex "C3C4D4D6" ∷ [])
+  pub joined : run 99 (sample "TRF" "B=(4,8)") (reelOf (hex "C1C2D1D2D3" ∷ hex "C3C4D4D5D6" ∷ [])) ≡ wrote 2 1 (hex "C1C2D1D3C3C4D4D6" ∷ [])
+  pub later : run 99 (sample "TRF" "B=(4,8),R2") (reelOf (hex "C1C2D1D2D3" ∷ hex "C3C4D4D5D6" ∷ [])) ≡ wrote 1 1 (hex "C3C4D4D6" ∷ [])
   pub short : run 99 (sample "TF" "B=(4,4)") (reelOf (hex "C1C2D1D2D3" ∷ hex "C3C4D4D5" ∷ [])) ≡ refused 12 2
   pub two-records : run 99 (sample "TF" "B=(4,4)") (reelOf (hex "C1C2D1D2D3C3C4D4D5D6" ∷ [])) ≡ refused 12 1
 

@@ -1,7 +1,7 @@
 -- Each promise allows one answer, since it names it.
 use mathlib.Core.Path.{_≡_, sym, _∙_}
 use Prim.Native.Nat.{ℕ}
-use Rattle.rules.specs.Words.{firstOf}
+use Rattle.rules.specs.Words.{firstColumn}
 use Rattle.terms.specs.declared.Part.{Part}
 use Rattle.terms.specs.declared.Field.{Field}
 use Rattle.terms.specs.declared.Format.{Format}
@@ -10,7 +10,7 @@ use Rattle.readers.specs.declared.Places.{Places}
 use Rattle.readers.specs.declared.UParameter.{UParameter}
 use Rattle.limits.specs.Limits.{fieldOutside, parameterOutside}
 
-pub first-only-one : (noted next : ℕ) {x y : ℕ} → x ≡ firstOf noted next → y ≡ firstOf noted next → x ≡ y
+pub first-only-one : (noted next : ℕ) {x y : ℕ} → x ≡ firstColumn noted next → y ≡ firstColumn noted next → x ≡ y
 first-only-one noted next e f = e ∙ sym f
 
 pub field-only-one : (part : Part) (f : Field) (places : Places) (column : ℕ) {x y : ℕ}

@@ -11,7 +11,7 @@ ghost use mathlib.Core.Path.{_≡_};
 ghost use mathlib.Core.Bool.{cond};
 ghost use Prim.Native.Nat.{_-_, _≤_};
 ghost use Rattle.rules.specs.Base.{within};
-ghost use Rattle.rules.specs.Words.{outsideColumn, firstOf};
+ghost use Rattle.rules.specs.Words.{outsideColumn, firstColumn};
 ghost use Rattle.rules.specs.Asked.{least, sizeNumbers, inputNumbers};
 ghost use Rattle.terms.specs.Meaning.{formatOf, sizeOf, inputOf, OneSize};
 ghost use Rattle.limits.specs.Limits.{Reaches, shifted, sizePlaces, inputPlaces, mostOf, fieldOutside, parameterOutside};
@@ -35,7 +35,7 @@ fn number_outside(low: usize, high: usize, number: usize, column: usize) -> usiz
 
 // The first of two columns or cards; 0 is none.
 pub fn first_of(noted: usize, next: usize) -> usize
-    ensures { λ r. ⌜ r ≡ firstOf noted next ⌝ }
+    ensures { λ r. ⌜ r ≡ firstColumn noted next ⌝ }
 {
     if noted == 0 {
         return next;

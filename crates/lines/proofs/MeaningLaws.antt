@@ -24,7 +24,7 @@ use Rattle.rules.proofs.CardLaws.{operand-of, card-exactly}
 use Rattle.rules.proofs.LineLaws.{next-line, last-line, no-line}
 use Rattle.rules.proofs.CardPlaces.{after-other, after-short, after-end, operand-slice, operand-blank, operand-end, card-untidy, card-U, card-UTT, card-FS, card-END, card-END-blank, card-END-other, card-none}
 use Rattle.lines.specs.Meaning.{BeginsSays, OperandEnds, CardSays, IsCard, inner, PassedSays, LineSays}
-use Rattle.lines.specs.Ordering.{kindOf, isOther}
+use Rattle.lines.specs.Ordering.{cardKindOf, isOther}
 use Rattle.lines.specs.declared.CardRead.the-variants.{UCard, FsCard, EndCard}
 use Rattle.lines.specs.declared.CardKind.the-variants.{Utility, Select, End, Other}
 use Rattle.lines.specs.declared.LineRead.the-variants.{Line, NoLine}
@@ -64,46 +64,46 @@ unfolding text
 text-read t l b = b .1
 
 module _ (l : List ℕ) where
-  pub kind-untidy : tidy l ≡ false → Other ≡ kindOf (cardOf l)
+  pub kind-untidy : tidy l ≡ false → Other ≡ cardKindOf (cardOf l)
   kind-untidy e = rw (card-untidy l e)
 
   module _ (plain : tidy l ≡ true) where
-    pub kind-U : BeginsSays (ascii "// U ") l true → Utility ≡ kindOf (cardOf l)
+    pub kind-U : BeginsSays (ascii "// U ") l true → Utility ≡ cardKindOf (cardOf l)
     kind-U b = rw (card-U l plain (drop 5 l) tt (text-read "// U " l b))
 
-    pub kind-UTT : BeginsSays (ascii "// UTT ") l true → Utility ≡ kindOf (cardOf l)
+    pub kind-UTT : BeginsSays (ascii "// UTT ") l true → Utility ≡ cardKindOf (cardOf l)
     kind-UTT b = rw (card-UTT l plain (drop 7 l) tt (text-read "// UTT " l b))
 
-    pub kind-FS : BeginsSays (ascii "// FS ") l true → Select ≡ kindOf (cardOf l)
+    pub kind-FS : BeginsSays (ascii "// FS ") l true → Select ≡ cardKindOf (cardOf l)
     kind-FS b = rw (card-FS l plain (drop 6 l) tt (text-read "// FS " l b))
 
     -- END alone, or with a blank behind it
-    pub kind-END : BeginsSays (ascii "// END") l true → length l ≡ 6 → End ≡ kindOf (cardOf l)
+    pub kind-END : BeginsSays (ascii "// END") l true → length l ≡ 6 → End ≡ cardKindOf (cardOf l)
     kind-END b e =
         rw (card-END l plain tt (text-read "// END" l b ∙ ap (λ (x : List ℕ). read tt x) (drop-of-length-le l {i = 6} (omega arith))))
 
-    pub kind-END-blank : BeginsSays (ascii "// END") l true → 6 < length l → getD l 6 0 ≡ 0x20 → End ≡ kindOf (cardOf l)
+    pub kind-END-blank : BeginsSays (ascii "// END") l true → 6 < length l → getD l 6 0 ≡ 0x20 → End ≡ cardKindOf (cardOf l)
     kind-END-blank b h e =
         rw (card-END-blank l plain tt (drop 7 l)
         (text-read "// END" l b ∙ ap (λ (x : List ℕ). read tt x) (drop-cons l 6 0 h ∙ ap (λ (z : ℕ). z ∷ drop 7 l) e)))
 
-  pub kind-END-other : BeginsSays (ascii "// END") l true → 6 < length l → (getD l 6 0 ≡ 0x20 → ⊥) → Other ≡ kindOf (cardOf l)
+  pub kind-END-other : BeginsSays (ascii "// END") l true → 6 < length l → (getD l 6 0 ≡ 0x20 → ⊥) → Other ≡ cardKindOf (cardOf l)
   kind-END-other b h n =
       rw (card-END-other l tt (getD l 6 0) (drop 7 l) (text-read "// END" l b ∙ ap (λ (x : List ℕ). read tt x) (drop-cons l 6 0 h)) n)
 
   pub kind-none : BeginsSays (ascii "// U ") l false → BeginsSays (ascii "// UTT ") l false → BeginsSays (ascii "// FS ") l false
-      → BeginsSays (ascii "// END") l false → Other ≡ kindOf (cardOf l)
+      → BeginsSays (ascii "// END") l false → Other ≡ cardKindOf (cardOf l)
   unfolding text
   kind-none a b c d = rw (card-none l a b c d)
 
 -- a line of another kind is no card, and every other line is one
-pub other-none : (card : Option Card) → isOther (kindOf card) ≡ true → card ≡ none
+pub other-none : (card : Option Card) → isOther (cardKindOf card) ≡ true → card ≡ none
 other-none none e = refl
 other-none (some (uCard b o)) e = absurd (not-both (sym e))
 other-none (some (fsCard o)) e = absurd (not-both (sym e))
 other-none (some endCard) e = absurd (not-both (sym e))
 
-pub known-card : (card : Option Card) → isOther (kindOf card) ≡ false → IsCard card
+pub known-card : (card : Option Card) → isOther (cardKindOf card) ≡ false → IsCard card
 known-card none e = absurd (not-both e)
 known-card (some c) e = tt
 

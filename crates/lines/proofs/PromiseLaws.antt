@@ -13,7 +13,7 @@ use Rattle.rules.specs.Deck.{uCard, fsCard, cardOf}
 use Rattle.rules.specs.Order.{operandsOf}
 use Rattle.rules.proofs.AnswerLaws.{not-fine, fine-same}
 use Rattle.lines.specs.Meaning.{CardSays, LineSays}
-use Rattle.lines.specs.Ordering.{kindOf, withLine, orderOf, cardCount, answerOf}
+use Rattle.lines.specs.Ordering.{cardKindOf, withLine, orderOf, cardCount, answerOf}
 use Rattle.lines.specs.declared.CardRead.{CardRead}
 use Rattle.lines.specs.declared.CardRead.the-variants.{UCard, FsCard, EndCard, NoCard}
 use Rattle.lines.specs.declared.LineRead.{LineRead}
@@ -79,7 +79,7 @@ module _ (l : List ℕ) where
 
 -- ---- kind
 
-pub kind-only-one : (l : List ℕ) {r q : CardKind} → r ≡ kindOf (cardOf l) → q ≡ kindOf (cardOf l) → r ≡ q
+pub kind-only-one : (l : List ℕ) {r q : CardKind} → r ≡ cardKindOf (cardOf l) → q ≡ cardKindOf (cardOf l) → r ≡ q
 kind-only-one l e f = e ∙ sym f
 
 -- ---- line

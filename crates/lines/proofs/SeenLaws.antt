@@ -17,7 +17,7 @@ use Rattle.rules.proofs.AnswerLaws.{not-fine}
 use Rattle.rules.proofs.LineLaws.{lines-most}
 use Rattle.rules.proofs.ScanLaws.{cards-each, made-refused}
 use Rattle.lines.specs.Meaning.{LineSays}
-use Rattle.lines.specs.Ordering.{most, oneMore, kindOf, isOther, closed, misplaced, withLine, orderOf, cardCount}
+use Rattle.lines.specs.Ordering.{most, oneMore, cardKindOf, isOther, closed, misplaced, withLine, orderOf, cardCount}
 use Rattle.lines.specs.declared.CardKind.{CardKind}
 use Rattle.lines.specs.declared.CardKind.the-variants.{Utility, Select, End, Other}
 use Rattle.lines.specs.declared.LinesSeen.{LinesSeen}
@@ -38,10 +38,10 @@ with-lines-more t [] k = refl
 with-lines-more t (j ∷ ks) k = with-lines-more (withLine t j) ks k
 
 abbrev pub kinds : List (List ℕ) → List CardKind
-kinds ls = map (λ l. kindOf (cardOf l)) ls
+kinds ls = map (λ l. cardKindOf (cardOf l)) ls
 
 abbrev faces : List Card → List CardKind
-faces cs = map (λ c. kindOf (some c)) cs
+faces cs = map (λ c. cardKindOf (some c)) cs
 
 -- n lines have been judged, and nothing is marked
 record Clear (t : LinesSeen) (n : ℕ) (ended : Bool) : Type 0 where
@@ -64,17 +64,17 @@ fault-stays t (k ∷ ks) h =
     let e : withLine t k .fault ≡ t .fault = first-stays (t .fault) (misplaced k (oneMore (t .lines)) (t .ended)) (oneMore (t .lines)) h in
     fault-stays (withLine t k) ks (λ z. h (sym e ∙ z)) ∙ e
 
-is-card : (c : Card) → isOther (kindOf (some c)) ≡ false
+is-card : (c : Card) → isOther (cardKindOf (some c)) ≡ false
 is-card (uCard b o) = refl
 is-card (fsCard o) = refl
 is-card endCard = refl
 
-card-good : (t : LinesSeen) (c : Card) → withLine t (kindOf (some c)) .bad ≡ t .bad
-card-good t c = first-unmarked (t .bad) (isOther (kindOf (some c))) (oneMore (t .lines)) (is-card c)
+card-good : (t : LinesSeen) (c : Card) → withLine t (cardKindOf (some c)) .bad ≡ t .bad
+card-good t c = first-unmarked (t .bad) (isOther (cardKindOf (some c))) (oneMore (t .lines)) (is-card c)
 
 cards-good : (t : LinesSeen) (cs : List Card) → withLines t (faces cs) .bad ≡ t .bad
 cards-good t [] = refl
-cards-good t (c ∷ cs) = cards-good (withLine t (kindOf (some c))) cs ∙ card-good t c
+cards-good t (c ∷ cs) = cards-good (withLine t (cardKindOf (some c))) cs ∙ card-good t c
 
 -- ---- refusal 1
 
@@ -106,15 +106,15 @@ bad-first n (l ∷ ls) r t e g h f =
         )
     go ih (some c) d =
         let v = made-refused (cardsFrom (suc (suc n)) ls) (λ cs. c ∷ cs) r (rw d at f) in
-        rw d (ih (kindOf (some c)) place (card-good t c ∙ g) v)
+        rw d (ih (cardKindOf (some c)) place (card-good t c ∙ g) v)
 
 -- ---- refusal 2
 
 -- the card is at fault, and is the first
 module _ {t : LinesSeen} {n : ℕ} {e : Bool} (clear : Clear t n e) (less : n < most) where
-  at-fault : (c : Card) (cs : List Card) → misplaced (kindOf (some c)) (suc n) e ≡ true → orderOf (withLines t (faces (c ∷ cs))) ≡ refused 2 (suc n)
+  at-fault : (c : Card) (cs : List Card) → misplaced (cardKindOf (some c)) (suc n) e ≡ true → orderOf (withLines t (faces (c ∷ cs))) ≡ refused 2 (suc n)
   at-fault c cs m =
-      let k : CardKind = kindOf (some c) in
+      let k : CardKind = cardKindOf (some c) in
       let place : oneMore (t .lines) ≡ suc n = next-place t n (clear .count) less in
       let marked : misplaced k (oneMore (t .lines)) (t .ended) ≡ true = rw (place, clear .end) m in
       let f : withLine t k .fault ≡ suc n = first-place (t .fault) (misplaced k (oneMore (t .lines)) (t .ended)) (oneMore (t .lines)) (clear .right) marked ∙ place in
@@ -123,9 +123,9 @@ module _ {t : LinesSeen} {n : ℕ} {e : Bool} (clear : Clear t n e) (less : n < 
       order-fault (withLines (withLine t k) (faces cs)) b (λ z. omega arith) ∙ ap (λ (p : ℕ). refused 2 p) g
 
   -- the card is in its place
-  in-place : (c : Card) → misplaced (kindOf (some c)) (suc n) e ≡ false → Clear (withLine t (kindOf (some c))) (suc n) (closed (kindOf (some c)) e)
+  in-place : (c : Card) → misplaced (cardKindOf (some c)) (suc n) e ≡ false → Clear (withLine t (cardKindOf (some c))) (suc n) (closed (cardKindOf (some c)) e)
   in-place c m =
-      let k : CardKind = kindOf (some c) in
+      let k : CardKind = cardKindOf (some c) in
       let place : oneMore (t .lines) ≡ suc n = next-place t n (clear .count) less in
       let marked : misplaced k (oneMore (t .lines)) (t .ended) ≡ false = rw (place, clear .end) m in
       record {
@@ -152,7 +152,7 @@ end-seen t n (c ∷ cs) k h = at-fault k (omega arith) c cs (wrong c)
     second : suc (suc n) ≡ 1 → ⊥
     second z = omega arith
 
-    wrong : (c : Card) → misplaced (kindOf (some c)) (suc (suc n)) true ≡ true
+    wrong : (c : Card) → misplaced (cardKindOf (some c)) (suc (suc n)) true ≡ true
     wrong (uCard b o) = lt-ltb 1 (suc (suc n)) (omega arith)
     wrong (fsCard o) = faulty-ended (suc (suc n)) true second refl
     wrong endCard = faulty-ended (suc (suc n)) true second refl
@@ -208,13 +208,13 @@ ordered-seen t (endCard ∷ cs) k h = at-fault k (omega arith) endCard cs (fault
 
 -- ---- the lines
 
-map-kinds : (ls : List (List ℕ)) → map kindOf (map cardOf ls) ≡ kinds ls
+map-kinds : (ls : List (List ℕ)) → map cardKindOf (map cardOf ls) ≡ kinds ls
 map-kinds [] = refl
-map-kinds (l ∷ ls) = ap (kindOf (cardOf l) ∷_) (map-kinds ls)
+map-kinds (l ∷ ls) = ap (cardKindOf (cardOf l) ∷_) (map-kinds ls)
 
-map-faces : (cs : List Card) → map kindOf (map some cs) ≡ faces cs
+map-faces : (cs : List Card) → map cardKindOf (map some cs) ≡ faces cs
 map-faces [] = refl
-map-faces (c ∷ cs) = ap (kindOf (some c) ∷_) (map-faces cs)
+map-faces (c ∷ cs) = ap (cardKindOf (some c) ∷_) (map-faces cs)
 
 lines-seen : (t : LinesSeen) (ls : List (List ℕ)) → Clear t 0 false → length ls < most
     → orderOf (withLines t (kinds ls)) ≡ cardCount (cardsFrom 1 ls >>= ordered)
@@ -245,7 +245,7 @@ Left x at t = withLines noLine (kinds (lines x)) ≡ withLines t (kinds (lines (
 
 -- one more is judged
 pub left-line : (x : List ℕ) (at end next : ℕ) (t : LinesSeen) → LineSays x at (Line end next) → Left x at t
-    → Left x next (withLine t (kindOf (cardOf (slice at end x))))
+    → Left x next (withLine t (cardKindOf (cardOf (slice at end x))))
 left-line x at end next t l e = e ∙ ap (λ (ls : List (List ℕ)). withLines t (kinds ls)) (l .4)
 
 -- none is left

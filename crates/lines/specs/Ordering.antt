@@ -30,11 +30,11 @@ firstMarked old marked place = cond (eqb old 0 && marked) place old
 
 -- ---- cards
 
-abbrev pub kindOf : Option Card → CardKind
-kindOf none = Other
-kindOf (some (uCard b o)) = Utility
-kindOf (some (fsCard o)) = Select
-kindOf (some endCard) = End
+abbrev pub cardKindOf : Option Card → CardKind
+cardKindOf none = Other
+cardKindOf (some (uCard b o)) = Utility
+cardKindOf (some (fsCard o)) = Select
+cardKindOf (some endCard) = End
 
 abbrev pub isOther : CardKind → Bool
 isOther Utility = false

@@ -7,7 +7,7 @@ ghost use Rattle.rules.specs.Base.{ascii, within, every};
 ghost use Rattle.rules.specs.Deck.{tidy, cardOf};
 ghost use Rattle.rules.specs.Order.{operandsOf};
 ghost use Rattle.lines.specs.Meaning.{BeginsSays, OperandEnds, CardSays, IsCard, inner, PassedSays, LineSays};
-ghost use Rattle.lines.specs.Ordering.{oneMore, kindOf, firstMarked, isOther, faulty, misplaced, closed, withLine, orderOf, cardCount, answerOf};
+ghost use Rattle.lines.specs.Ordering.{oneMore, cardKindOf, firstMarked, isOther, faulty, misplaced, closed, withLine, orderOf, cardCount, answerOf};
 
 // The most bytes of a card.
 const LONGEST: usize = 80;
@@ -124,7 +124,7 @@ fn is_other(kind: CardKind) -> bool
 fn end_kind(line: &[u8]) -> CardKind
     requires { ⌜ tidy (now line) ≡ true ⌝ }
     requires { ⌜ BeginsSays (ascii "// END") (now line) true ⌝ }
-    ensures { λ r. ⌜ r ≡ kindOf (cardOf (now (line .entry))) ⌝ }
+    ensures { λ r. ⌜ r ≡ cardKindOf (cardOf (now (line .entry))) ⌝ }
 {
     if line.len() == 6 {
         return CardKind::End;
@@ -138,7 +138,7 @@ fn end_kind(line: &[u8]) -> CardKind
 // A line that has the length and the bytes of a card: its first bytes say which it is.
 fn tidy_kind(line: &[u8]) -> CardKind
     requires { ⌜ tidy (now line) ≡ true ⌝ }
-    ensures { λ r. ⌜ r ≡ kindOf (cardOf (now (line .entry))) ⌝ }
+    ensures { λ r. ⌜ r ≡ cardKindOf (cardOf (now (line .entry))) ⌝ }
 {
     if begins(line, b"// U ") {
         return CardKind::Utility;
@@ -157,7 +157,7 @@ fn tidy_kind(line: &[u8]) -> CardKind
 
 // Where an operand ends is not looked for: the order of the cards does not ask it.
 pub fn kind(line: &[u8]) -> CardKind
-    ensures { λ r. ⌜ r ≡ kindOf (cardOf (now (line .entry))) ⌝ }
+    ensures { λ r. ⌜ r ≡ cardKindOf (cardOf (now (line .entry))) ⌝ }
 {
     if is_tidy(line) {
         return tidy_kind(line);

@@ -14,10 +14,10 @@ use Rattle.pieces.specs.declared.Form.{Form}
 use Rattle.pieces.specs.Form.{FormIs}
 use Rattle.walks.specs.declared.Walk.{Walk}
 use Rattle.walks.specs.Marks.{markedAll}
-use Rattle.walks.specs.Promise.{Good, Walks, Sound, bytesLeft, Taken}
+use Rattle.walks.specs.Promise.{Good, Walks, Sound, bytesLeft, WalkTaken}
 use Rattle.tasks.specs.Promise.{formOf}
 use Rattle.tasks.proofs.LengthLaws.{form-given}
-use Rattle.measures.specs.Promise.{Fair, answerAt}
+use Rattle.measures.specs.Promise.{GoodTask, answerAt}
 
 pub answer-at : (number i : ℕ) → 1 ≤ i → refused number i ≡ answerAt number i
 answer-at number zero l = absurd (omega arith)
@@ -33,7 +33,7 @@ pub record Asks (form : Form) (first : ℕ) (s : List ℕ) (p : Plan) (recs : Li
   pub first-is : first ≡ p .first
   pub good : Good p s recs
 
-pub asks : {task : Task} {s : List ℕ} {p : Plan} {recs : List (List (List ℕ))} {form : Form} → form ≡ formOf task → Fair task s p recs → Asks form (task .first) s p recs
+pub asks : {task : Task} {s : List ℕ} {p : Plan} {recs : List (List (List ℕ))} {form : Form} → form ≡ formOf task → GoodTask task s p recs → Asks form (task .first) s p recs
 asks e x = record { form-is = form-given (x .is) e; first-is = x .is .first; good = x .good }
 
 module _ {form : Form} {first : ℕ} {s : List ℕ} {p : Plan} {recs : List (List (List ℕ))} (x : Asks form first s p recs) where
@@ -51,5 +51,5 @@ module _ {form : Form} {first : ℕ} {s : List ℕ} {p : Plan} {recs : List (Lis
   sound = record { p = p; recs = recs; form-is = x .form-is; good = x .good }
 
   -- before the first turn
-  pub walks-first : {w : Walk} → Taken form s first w → Walks p s w (markedAll (takenFrom (p .first) recs))
+  pub walks-first : {w : Walk} → WalkTaken form s first w → Walks p s w (markedAll (takenFrom (p .first) recs))
   walks-first {w} t = subst (λ (n : ℕ). Walks p s w (markedAll (takenFrom n recs))) (x .first-is) (t .all p recs (x .form-is) (x .good))

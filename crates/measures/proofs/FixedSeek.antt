@@ -25,7 +25,7 @@ use Rattle.values.specs.Promise.{Permits}
 use Rattle.walks.specs.Walking.{fixedStart}
 use Rattle.fillings.proofs.FixedLaws.{record-some, data-even}
 use Rattle.tasks.specs.Promise.{formOf}
-use Rattle.measures.specs.Promise.{Fair, Selected, answerAt, FirstUnpermitted}
+use Rattle.measures.specs.Promise.{GoodTask, Selected, answerAt, FirstUnpermitted}
 use Rattle.measures.proofs.FairLaws.{answer-at, asks, first-high, s-short}
 use Rattle.measures.proofs.SeekLaws.{Lent, lent-of, readable, permits-is}
 
@@ -101,11 +101,11 @@ module _ {n first : ℕ} {fields block : List ℕ} {at number : ℕ} (some : 1 �
 
 module _ (task : Task) (fields s : List ℕ) {form : Form} {from : ℕ} {block : List ℕ} (f : task .format ≡ FF) (g : form ≡ formOf task) (b : from ≡ fixedStart form s (task .first))
     (d : block ≡ drop from s) where
-  all-even : {p : Plan} {recs : List (List (List ℕ))} → Fair task s p recs → Even (task .n) block (joined (takenFrom (p .first) recs))
+  all-even : {p : Plan} {recs : List (List (List ℕ))} → GoodTask task s p recs → Even (task .n) block (joined (takenFrom (p .first) recs))
   all-even {p} {recs} x = subst (λ (z : List ℕ). Even (task .n) z (joined (takenFrom (p .first) recs))) (sym d) (data-even (x .is) (x .good) f g b)
 
   module _ (y : Selected task fields s) where
-    fair : Fair task s (y .p) (y .recs)
+    fair : GoodTask task s (y .p) (y .recs)
     fair = y .given .fair
 
     pub seek-some : 1 ≤ task .n

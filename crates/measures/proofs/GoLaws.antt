@@ -22,11 +22,11 @@ use Rattle.pieces.specs.declared.Form.{Form}
 use Rattle.walks.specs.declared.Walk.{Walk}
 use Rattle.walks.specs.declared.RecordRead.{RecordRead}
 use Rattle.walks.specs.declared.RecordRead.the-variants.{Record, End}
-use Rattle.walks.specs.Promise.{Walks, Sound, Standing, Passed, bytesLeft, Told, Taken}
+use Rattle.walks.specs.Promise.{Walks, Sound, Standing, Passed, bytesLeft, RecordTold, WalkTaken}
 use Rattle.walks.proofs.PromiseLaws.{inside, lent-length, passed, ended}
 use Rattle.fillings.specs.declared.Tally.{Tally}
 use Rattle.measures.specs.declared.Measured.the-variants.{TooLong, Fits}
-use Rattle.tasks.specs.Promise.{formOf, lengthOf}
+use Rattle.tasks.specs.Promise.{formOf, outputLengthOf}
 use Rattle.tasks.proofs.LengthLaws.{length-most, out-length}
 use Rattle.fillings.specs.Tallying.{tallyOf, Small}
 use Rattle.measures.specs.Promise.{Measuring, Measurable, fitAnswer, answerOf, measuredOf, Measures}
@@ -90,7 +90,7 @@ go-stands f k y =
     record { p = y .p; rest = q .rest; form-is = asks f (y .given .fair) .form-is; walks = q .walks }
 
 module _ (task : Task) {s : List ℕ} {form : Form} (f : form ≡ formOf task) {w : Walk} where
-  pub go-start : Taken form s (task .first) w → Going task s w (task .first) empty
+  pub go-start : WalkTaken form s (task .first) w → Going task s w (task .first) empty
   go-start t =
       record {
         few = omega (arith, left-few s w);
@@ -108,7 +108,7 @@ module _ (task : Task) {s : List ℕ} {form : Form} (f : form ≡ formOf task) {
         };
       }
 
-  module _ {number : ℕ} {t : Tally} {r : RecordRead} (k : Going task s w number t) (h : Told form s w r) where
+  module _ {number : ℕ} {t : Tally} {r : RecordRead} (k : Going task s w number t) (h : RecordTold form s w r) where
     pub go-few : Measurable task s → number ≤ 131072
     go-few y = let x = asks f (y .given .fair) in omega (arith, k .few, first-high x, s-short x)
 
@@ -122,7 +122,7 @@ module _ (task : Task) {s : List ℕ} {form : Form} (f : form ≡ formOf task) {
           let b = bounded (y .given .fair .is) (y .given .fair .good .accepted) in
           (omega (arith, b .width), omega (arith, inside h e .ends, s-short (asks f (y .given .fair))))
 
-      pub go-small : Measurable task s → (n : ℕ) → n ≡ lengthOf task size → Small task t n
+      pub go-small : Measurable task s → (n : ℕ) → n ≡ outputLengthOf task size → Small task t n
       go-small y n q =
           let g = go-short y in
           let b = bounded (y .given .fair .is) (y .given .fair .good .accepted) in
@@ -142,36 +142,36 @@ module _ (task : Task) {s : List ℕ} {form : Form} (f : form ≡ formOf task) {
         passes : Passed p s (goes-in .rest) start size begins next
         passes = passed h e (asks f (x .fair) .form-is) (goes-in .walks)
 
-        out-long : length (outRecord p (slice start (start + size) s)) ≡ lengthOf task size
+        out-long : length (outRecord p (slice start (start + size) s)) ≡ outputLengthOf task size
         out-long =
             out-length (x .fair .is) (x .fair .good .accepted) (slice start (start + size) s)
             (let z : leastData p ≤ length (slice start (start + size) s) = omega (arith, passes .long, lent-length h e) in z)
-            ∙ ap (lengthOf task) (lent-length h e)
+            ∙ ap (outputLengthOf task) (lent-length h e)
 
-        left-is : lengths p (goes-in .rest) ≡ (begins, lengthOf task size) ∷ lengths p (passes .more)
+        left-is : lengths p (goes-in .rest) ≡ (begins, outputLengthOf task size) ∷ lengths p (passes .more)
         left-is =
             ap (lengths p) (passes .is)
             ∙ ap (λ (n : ℕ). (begins, n) ∷ lengths p (passes .more)) out-long
 
         -- the blocks so far, with this record
         filled-next : (next : List (List (List ℕ))) × (last : List (List ℕ))
-            × Filled (p .format) task (outputBlocks p recs) next last (tallyOf task t begins (lengthOf task size)) (outs p (passes .more))
+            × Filled (p .format) task (outputBlocks p recs) next last (tallyOf task t begins (outputLengthOf task size)) (outs p (passes .more))
         filled-next =
             let w = subst (λ (l : List (Bool × List ℕ)). Filled (p .format) task (outputBlocks p recs) (goes-in .closed) (goes-in .now) t (outs p l)) (passes .is) (goes-in .filled) in
             let m = filled-more (p .format) task (x .fair .is .costs) (outputBlocks p recs) (goes-in .closed) t begins (outRecord p (slice start (start + size) s)) (outs p (passes .more)) (goes-in .now) w in
             (m .0, m .1, subst (λ (n : ℕ). Filled (p .format) task (outputBlocks p recs) (m .0) (m .1) (tallyOf task t begins n) (outs p (passes .more))) out-long (m .2))
 
-        step-is : planStep p (measureOf t) (begins, lengthOf task size) ≡ measureOf (tallyOf task t begins (lengthOf task size))
-        step-is = sym (tally-is (x .fair .is) t begins (lengthOf task size))
+        step-is : planStep p (measureOf t) (begins, outputLengthOf task size) ≡ measureOf (tallyOf task t begins (outputLengthOf task size))
+        step-is = sym (tally-is (x .fair .is) t begins (outputLengthOf task size))
 
-        goes-stop : task .limit < tallyOf task t begins (lengthOf task size) .size → answerOf (TooLong number) ≡ measuredOf p recs
+        goes-stop : task .limit < tallyOf task t begins (outputLengthOf task size) .size → answerOf (TooLong number) ≡ measuredOf p recs
         goes-stop l =
             measured-long p recs number (goes-in .tests
-            ∙ turn-stop (planStep p) (blockLength (p .output)) number (measureOf t) _ (begins, lengthOf task size) _ (lengths p (passes .more)) left-is step-is
-            (let z : blockLength (p .output) < tallyOf task t begins (lengthOf task size) .size = omega (arith, x .fair .is .limit) in z))
+            ∙ turn-stop (planStep p) (blockLength (p .output)) number (measureOf t) _ (begins, outputLengthOf task size) _ (lengths p (passes .more)) left-is step-is
+            (let z : blockLength (p .output) < tallyOf task t begins (outputLengthOf task size) .size = omega (arith, x .fair .is .limit) in z))
 
-        goes-more : tallyOf task t begins (lengthOf task size) .size ≤ task .limit
-            → Goes task p s recs next (number + 1) (tallyOf task t begins (lengthOf task size))
+        goes-more : tallyOf task t begins (outputLengthOf task size) .size ≤ task .limit
+            → Goes task p s recs next (number + 1) (tallyOf task t begins (outputLengthOf task size))
         goes-more l =
             let m = filled-next in
             record {
@@ -179,16 +179,16 @@ module _ (task : Task) {s : List ℕ} {form : Form} (f : form ≡ formOf task) {
               walks = passes .walks;
               tests =
                   goes-in .tests
-                  ∙ turn-pass (planStep p) (blockLength (p .output)) number (measureOf t) _ (begins, lengthOf task size) _ (lengths p (passes .more)) left-is step-is
-                  (let z : tallyOf task t begins (lengthOf task size) .size ≤ blockLength (p .output) = omega (arith, x .fair .is .limit) in z);
+                  ∙ turn-pass (planStep p) (blockLength (p .output)) number (measureOf t) _ (begins, outputLengthOf task size) _ (lengths p (passes .more)) left-is step-is
+                  (let z : tallyOf task t begins (outputLengthOf task size) .size ≤ blockLength (p .output) = omega (arith, x .fair .is .limit) in z);
               closed = m .0;
               now = m .1;
               filled = m .2;
               counts = omega (arith, goes-in .counts, ap length (passes .is));
             }
 
-      module _ (y : Measurable task s) (n : ℕ) (q : n ≡ lengthOf task size) (u : Tally) (v : u ≡ tallyOf task t begins n) where
-        u-is : tallyOf task t begins (lengthOf task size) ≡ u
+      module _ (y : Measurable task s) (n : ℕ) (q : n ≡ outputLengthOf task size) (u : Tally) (v : u ≡ tallyOf task t begins n) where
+        u-is : tallyOf task t begins (outputLengthOf task size) ≡ u
         u-is = ap (tallyOf task t begins) (sym q) ∙ sym v
 
         pub go-stop : task .limit < u .size → Measures task s (TooLong number)

@@ -25,7 +25,7 @@ use Rattle.walks.specs.declared.Walk.{Walk}
 use Rattle.walks.specs.declared.RecordRead.{RecordRead}
 use Rattle.walks.specs.declared.RecordRead.the-variants.{Record, End}
 use Rattle.walks.specs.Marks.{markedAll, bytesOf}
-use Rattle.walks.specs.Promise.{Walks, Sound, Standing, Passed, bytesLeft, Told, Taken}
+use Rattle.walks.specs.Promise.{Walks, Sound, Standing, Passed, bytesLeft, RecordTold, WalkTaken}
 use Rattle.walks.proofs.MarksLaws.{all-records}
 use Rattle.walks.proofs.PromiseLaws.{inside, lent, lent-length, passed, ended}
 use Rattle.tasks.specs.Promise.{formOf}
@@ -76,7 +76,7 @@ pub record Seeking (form : Form) (first : ℕ) (fields s : List ℕ) (w : Walk) 
   pub few : number + bytesLeft s w ≤ first + length s
   pub seeks : (p : Plan) (recs : List (List (List ℕ))) → Asks form first s p recs → Lent fields p → Seeks p s recs w number
 
-pub seek-start : {task : Task} {fields s : List ℕ} {form : Form} {w : Walk} → form ≡ formOf task → Selected task fields s → Taken form s (task .first) w
+pub seek-start : {task : Task} {fields s : List ℕ} {form : Form} {w : Walk} → form ≡ formOf task → Selected task fields s → WalkTaken form s (task .first) w
     → Seeking form (task .first) fields s w (task .first)
 seek-start {task} {fields} {s} {form} {w} f y t =
     record {
@@ -89,7 +89,7 @@ seek-start {task} {fields} {s} {form} {w} f y t =
         → each 13 (permits p) (p .first) (joined (takenFrom (p .first) recs)) ≡ each 13 (permits p) (task .first) (map bytesOf (markedAll (takenFrom (p .first) recs)))
     start p recs e = ap₂ (each 13 (permits p)) (sym e) (sym (all-records (takenFrom (p .first) recs)))
 
-module _ {form : Form} {first : ℕ} {fields s : List ℕ} {w : Walk} {number : ℕ} {r : RecordRead} (k : Seeking form first fields s w number) (t : Told form s w r) where
+module _ {form : Form} {first : ℕ} {fields s : List ℕ} {w : Walk} {number : ℕ} {r : RecordRead} (k : Seeking form first fields s w number) (t : RecordTold form s w r) where
   module _ {start size : ℕ} {begins : Bool} {next : Walk} (e : r ≡ Record start size begins next) where
     abbrev one : List ℕ
     one = take (start + size - start) (drop start s)
@@ -124,7 +124,7 @@ module _ {form : Form} {first : ℕ} {fields s : List ℕ} {w : Walk} {number : 
 
 -- by the numbers of the plan
 module _ (task : Task) {fields s : List ℕ} {form : Form} (f : form ≡ formOf task) {w : Walk} {number : ℕ} {r : RecordRead}
-    (k : Seeking form (task .first) fields s w number) (t : Told form s w r) where
+    (k : Seeking form (task .first) fields s w number) (t : RecordTold form s w r) where
   module _ {start size : ℕ} {begins : Bool} {next : Walk} (e : r ≡ Record start size begins next) where
     pub seek-readable : Selected task fields s → Readable fields (length (take (start + size - start) (drop start s)))
     seek-readable y =

@@ -23,7 +23,7 @@ use Rattle.measures.specs.declared.Measured.{Measured}
 use Rattle.measures.specs.declared.Measured.the-variants.{TooLong, Fits}
 
 -- the numbers are those of a plan, and the reel is good by it, with these records
-pub record Fair (task : Task) (s : List ℕ) (p : Plan) (recs : List (List (List ℕ))) : Type 0 where
+pub record GoodTask (task : Task) (s : List ℕ) (p : Plan) (recs : List (List (List ℕ))) : Type 0 where
   pub is : TaskIs task p
   pub good : Good p s recs
 
@@ -31,7 +31,7 @@ pub record Fair (task : Task) (s : List ℕ) (p : Plan) (recs : List (List (List
 
 -- the plan selects fields, and these are lent
 pub record Selecting (task : Task) (fields s : List ℕ) (p : Plan) (recs : List (List (List ℕ))) : Type 0 where
-  pub fair : Fair task s p recs
+  pub fair : GoodTask task s p recs
   pub flat : fields ≡ flatOf (p .fields)
   pub zone : p .zone ≡ zoneF
   pub selecting : selects (p .mode) ≡ true
@@ -57,7 +57,7 @@ FirstUnpermitted task fields s r =
 
 -- the plan is no copy
 pub record Measuring (task : Task) (s : List ℕ) (p : Plan) (recs : List (List (List ℕ))) : Type 0 where
-  pub fair : Fair task s p recs
+  pub fair : GoodTask task s p recs
   pub other : isTC (p .mode) ≡ false
 
 -- there is such a plan

@@ -8,7 +8,7 @@ use lib.Dec.{ltb}
 use lib.ListN.{length, drop}
 use borrow.Author.Tests.{ltb-true, ltb-false, lt-ltb, le-ltb, le-leb, lt-leb}
 use Rattle.rules.specs.Answer.{Answer, fine, refuse, _>>_, unless}
-use Rattle.rules.specs.Run.{Ran as RuleRan, housed}
+use Rattle.rules.specs.Run.{RunOutput, housed}
 use Rattle.rules.specs.Halves.{over}
 use Rattle.rules.specs.Lent.{RunAnswer, runAnswer, outputAfter}
 use Rattle.rules.proofs.LentParts.{front-over}
@@ -23,10 +23,10 @@ run-told x = refl
 
 -- ---- 15
 
-abbrev pub roomAnswer : ℕ → RuleRan → Ran
+abbrev pub roomAnswer : ℕ → RunOutput → Ran
 roomAnswer room x = housedRun room (length (x .reel)) (x .records) (x .blocks)
 
-pub room-is : (room : ℕ) (x : RuleRan) → ranStruct (runAnswer (housed room x)) ≡ roomAnswer room x
+pub room-is : (room : ℕ) (x : RunOutput) → ranStruct (runAnswer (housed room x)) ≡ roomAnswer room x
 unfolding housed housedRun unless _>>_
 room-is room x = go (ltb room (length (x .reel))) refl (ltb 65536 (length (x .reel))) refl
   where
@@ -52,12 +52,12 @@ room-enough room size records blocks k l = rw (le-ltb room size k, le-ltb 65536 
 -- ---- the lent output
 
 -- a refusal leaves it as it was
-pub refuses : (a : Answer RuleRan) (r : Ran) → r ≡ ranStruct (runAnswer a) → 0 < r .refusal → (old : List ℕ) → old ≡ outputAfter old a
+pub refuses : (a : Answer RunOutput) (r : Ran) → r ≡ ranStruct (runAnswer a) → 0 < r .refusal → (old : List ℕ) → old ≡ outputAfter old a
 refuses (fine x) r e l old = absurd (let z = ap (λ (q : Ran). q .refusal) e in omega arith)
 refuses (refuse f) r e l old = refl
 
 -- a finished run puts its reel at the front
-pub over-front : (v old new : List ℕ) (x : RuleRan) → x .reel ≡ v → new ≡ over 0 v old → new ≡ outputAfter old (fine x)
+pub over-front : (v old new : List ℕ) (x : RunOutput) → x .reel ≡ v → new ≡ over 0 v old → new ≡ outputAfter old (fine x)
 over-front v old new x e h = h ∙ sym (front-over (length v) old v refl) ∙ ap (λ (z : List ℕ). z ++ drop (length z) old) (sym e)
 
 -- ---- one answer

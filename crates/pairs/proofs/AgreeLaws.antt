@@ -25,11 +25,11 @@ use Rattle.terms.specs.declared.Mode.{Mode}
 use Rattle.terms.specs.declared.Task.{Task}
 use Rattle.rows.specs.Flat.{flatOf, Fielded}
 use Rattle.rows.proofs.ReadLaws.{fair-of}
-use Rattle.records.specs.Promise.{Writes}
-use Rattle.tasks.specs.Promise.{tailOf, lengthOf}
+use Rattle.records.specs.Promise.{FieldsWritten}
+use Rattle.tasks.specs.Promise.{tailLengthOf, outputLengthOf}
 use Rattle.tasks.proofs.LengthLaws.{tail-dropped, length-selected}
-use Rattle.checks.specs.Promise.{Given}
-use Rattle.pairs.specs.Promise.{WrittenOver, Comparable, Selecting, AgreesAs}
+use Rattle.checks.specs.Promise.{PlanGiven}
+use Rattle.pairs.specs.Promise.{WrittenOver, Comparable, SelectingPair, AgreesAs}
 
 -- a test that is passed exactly where two lists are the same
 abbrev pub Tells : Bool → List ℕ → List ℕ → Type 0
@@ -42,9 +42,9 @@ copied-front : (theirs room : List ℕ) → take (length theirs) (over 0 theirs 
 unfolding over
 copied-front theirs room = take-at theirs (drop (0 + length theirs) room) (length theirs) refl
 
-pub over-copy : (xs r theirs room copy new rest : List ℕ) (x : Bool) → copy ≡ over 0 theirs room → Writes xs r (take (length theirs) copy) new → length new ≡ length theirs
+pub over-copy : (xs r theirs room copy new rest : List ℕ) (x : Bool) → copy ≡ over 0 theirs room → FieldsWritten xs r (take (length theirs) copy) new → length new ≡ length theirs
     → Tells x (take (length theirs) (new ++ rest)) theirs → WrittenOver xs r theirs x
-unfolding Writes WrittenOver
+unfolding FieldsWritten WrittenOver
 over-copy xs r theirs room copy new rest x e w long t fs flat =
     let is : take (length theirs) (new ++ rest) ≡ writtenBytes zoneF fs r theirs =
     take-at new rest (length theirs) long
@@ -58,18 +58,18 @@ over-copy xs r theirs room copy new rest x e w long t fs flat =
 
 -- theirs is as long, the fields over its first bytes change nothing, and it ends with the tail
 pub record Parts (task : Task) (fs : List Field) (r theirs : List ℕ) : Type 0 where
-  pub size : length theirs ≡ lengthOf task (length r)
+  pub size : length theirs ≡ outputLengthOf task (length r)
   pub front : writtenBytes zoneF fs r (take (task .width) theirs) ≡ take (task .width) theirs
   pub tail : drop (task .width) theirs ≡ cond (task .carries) (drop (task .n) r) []
 
-module _ (task : Task) (fields r theirs : List ℕ) (p : Plan) (g : Given task fields p) (sel : selects (p .mode) ≡ true) (long : recordLength (p .input) ≤ length r) where
+module _ (task : Task) (fields r theirs : List ℕ) (p : Plan) (g : PlanGiven task fields p) (sel : selects (p .mode) ≡ true) (long : recordLength (p .input) ≤ length r) where
   tail-as : cond (task .carries) (drop (task .n) r) [] ≡ tailOut p r
   tail-as = ap₂ (λ (c : Bool) (n : ℕ). cond {A = List ℕ} c (drop n r) []) (g .is .carries) (g .is .n)
 
-  length-as : lengthOf task (length r) ≡ recordLength (p .output) + length (tailOut p r)
-  unfolding lengthOf tailOf
+  length-as : outputLengthOf task (length r) ≡ recordLength (p .output) + length (tailOut p r)
+  unfolding outputLengthOf tailLengthOf
   length-as =
-      ap (λ (b : Bool). cond b (task .width + tailOf task (length r)) (length r)) (ap selects (g .is .mode) ∙ sel)
+      ap (λ (b : Bool). cond b (task .width + tailLengthOf task (length r)) (length r)) (ap selects (g .is .mode) ∙ sel)
       ∙ ap₂ (λ (m k : ℕ). m + k) (g .is .width) (many (task .carries) ∙ ap length tail-as)
     where
       many : (c : Bool) → cond c (length r - task .n) 0 ≡ length (cond {A = List ℕ} c (drop (task .n) r) [])
@@ -103,12 +103,12 @@ width-least (fixed la lb) w = w .0 .1
 width-least (variable la lb) w = w .0 .1
 
 -- the fields of the plan, for a record that may be longer than A's n
-given-fields : {task : Task} {fields : List ℕ} (p : Plan) → Given task fields p → (k : ℕ) → recordLength (p .input) ≤ k → (m : ℕ) → m ≡ recordLength (p .output) → Fielded fields k m
+given-fields : {task : Task} {fields : List ℕ} (p : Plan) → PlanGiven task fields p → (k : ℕ) → recordLength (p .input) ≤ k → (m : ℕ) → m ≡ recordLength (p .output) → Fielded fields k m
 given-fields p g k l m e =
     let fair = fair-of p (g .accepted) in
     record { fields = p .fields; fair = record { flat = g .flat; fits = all-imply (fits-wider k m l (omega arith)) (fair .fits); sizes = fair .sizes } }
 
-module _ {task : Task} {fields r : List ℕ} {room : ℕ} (s : Selecting task fields r room) where
+module _ {task : Task} {fields r : List ℕ} {room : ℕ} (s : SelectingPair task fields r room) where
   pub width-most : task .width ≤ 4096
   width-most =
       let c = s .comparable in
@@ -123,12 +123,12 @@ module _ {task : Task} {fields r : List ℕ} {room : ℕ} (s : Selecting task fi
   mode-selects : selects (modeOf (task .mode)) ≡ true
   mode-selects = ap selects (s .comparable .given .is .mode) ∙ s .selecting
 
-  plan-selects : (p : Plan) → Given task fields p → selects (p .mode) ≡ true
+  plan-selects : (p : Plan) → PlanGiven task fields p → selects (p .mode) ≡ true
   plan-selects p g = ap selects (sym (g .is .mode)) ∙ mode-selects
 
   module _ (theirs : List ℕ) where
     -- theirs has B's n bytes
-    pub width-inside : (n : ℕ) → n ≡ lengthOf task (length r) → length theirs ≡ n → task .width ≤ length theirs
+    pub width-inside : (n : ℕ) → n ≡ outputLengthOf task (length r) → length theirs ≡ n → task .width ≤ length theirs
     width-inside n e l = omega (arith, length-selected task (length r) refl mode-selects)
 
     -- what is asked of them
@@ -153,10 +153,10 @@ module _ {task : Task} {fields r : List ℕ} {room : ℕ} (s : Selecting task fi
               same-test x (agrees p (outRecord p r) theirs) (λ e. parts .1 (told .0 e)) (λ e. told .1 (parts .0 e));
         }
 
-    pub other-length : (n : ℕ) → n ≡ lengthOf task (length r) → (length theirs ≡ n → ⊥) → AgreesAs task fields r theirs false
+    pub other-length : (n : ℕ) → n ≡ outputLengthOf task (length r) → (length theirs ≡ n → ⊥) → AgreesAs task fields r theirs false
     other-length n e d = decided false (λ fs flat. (λ f. absurd (false≢true f), λ h. absurd (d (h .size ∙ sym e))))
 
-    module _ (n : ℕ) (e : n ≡ lengthOf task (length r)) (size : length theirs ≡ n) (x : Bool) (w : WrittenOver fields r (take (task .width) theirs) x) where
+    module _ (n : ℕ) (e : n ≡ outputLengthOf task (length r)) (size : length theirs ≡ n) (x : Bool) (w : WrittenOver fields r (take (task .width) theirs) x) where
       pub front-changed : x ≡ false → AgreesAs task fields r theirs false
       unfolding WrittenOver
       front-changed f = decided false (λ fs flat. (λ z. absurd (false≢true z), λ h. absurd (true≢false (sym (w fs flat .1 (h .front)) ∙ f))))
@@ -182,7 +182,7 @@ module _ {task : Task} {fields r : List ℕ} {room : ℕ} (s : Selecting task fi
 -- ---- by the mode
 
 module _ {task : Task} {fields r : List ℕ} where
-  pub selecting-by : {room : ℕ} → Comparable task fields r room → {m : Mode} → task .mode ≡ m → selects (modeOf m) ≡ true → Selecting task fields r room
+  pub selecting-by : {room : ℕ} → Comparable task fields r room → {m : Mode} → task .mode ≡ m → selects (modeOf m) ≡ true → SelectingPair task fields r room
   selecting-by c e s = record { comparable = c; selecting = ap selects (sym (c .given .is .mode)) ∙ ap (λ (m : Mode). selects (modeOf m)) e ∙ s }
 
   -- TC and TR carry records unchanged

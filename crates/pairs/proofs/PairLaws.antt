@@ -21,12 +21,12 @@ use Rattle.walks.specs.declared.Walk.{Walk}
 use Rattle.walks.specs.declared.RecordRead.{RecordRead}
 use Rattle.walks.specs.declared.RecordRead.the-variants.{Record, End}
 use Rattle.walks.specs.Marks.{markedAll, bytesOf}
-use Rattle.walks.specs.Promise.{Good, Walks, Sound, Standing, Passed, bytesLeft, Told, Taken}
+use Rattle.walks.specs.Promise.{Good, Walks, Sound, Standing, Passed, bytesLeft, RecordTold, WalkTaken}
 use Rattle.walks.proofs.MarksLaws.{all-records}
 use Rattle.walks.proofs.PromiseLaws.{inside, lent, lent-length, passed, ended}
 use Rattle.tasks.specs.Promise.{formOf, formUnder}
 use Rattle.tasks.proofs.LengthLaws.{form-given, form-judged}
-use Rattle.checks.specs.Promise.{Given}
+use Rattle.checks.specs.Promise.{PlanGiven}
 use Rattle.pairs.specs.Promise.{Comparable, AgreesAs, BothRead, Lacks, ApartAt}
 
 -- ---- the search
@@ -43,7 +43,7 @@ record Pairs (p : Plan) (ours theirs : List ℕ) (recs others : List (List (List
 
 pub record Pairing (task : Task) (fields ours theirs : List ℕ) (w v : Walk) (number : ℕ) : Type 0 where
   few : number + bytesLeft ours w ≤ 1 + length ours
-  pairs : (p : Plan) (recs others : List (List (List ℕ))) → Given task fields p → Good p ours recs → Good (underB p) theirs others → Pairs p ours theirs recs others w v number
+  pairs : (p : Plan) (recs others : List (List (List ℕ))) → PlanGiven task fields p → Good p ours recs → Good (underB p) theirs others → Pairs p ours theirs recs others w v number
 
 module _ {task : Task} {fields ours theirs : List ℕ} {form under : Form} (f : form ≡ formOf task) (u : under ≡ formUnder task) (y : BothRead task fields ours theirs) where
   pub ours-sound : Sound form ours
@@ -59,7 +59,7 @@ module _ {task : Task} {fields ours theirs : List ℕ} {form under : Form} (f : 
   theirs-short = reel-most theirs (y .good′ .reel)
 
   -- before the first turn
-  pub pair-start : {w v : Walk} → Taken form ours (task .first) w → Taken under theirs 1 v → Pairing task fields ours theirs w v 1
+  pub pair-start : {w v : Walk} → WalkTaken form ours (task .first) w → WalkTaken under theirs 1 v → Pairing task fields ours theirs w v 1
   unfolding bytesLeft
   pair-start {w} {v} a b =
       record {
@@ -90,7 +90,7 @@ module _ {task : Task} {fields ours theirs : List ℕ} {form under : Form} (f : 
 
     -- ---- ours has a further record
 
-    module _ {r : RecordRead} (t : Told form ours w r) {start size : ℕ} {begins : Bool} {next : Walk} (e : r ≡ Record start size begins next) where
+    module _ {r : RecordRead} (t : RecordTold form ours w r) {start size : ℕ} {begins : Bool} {next : Walk} (e : r ≡ Record start size begins next) where
       abbrev one : List ℕ
       one = take (start + size - start) (drop start ours)
 
@@ -108,7 +108,7 @@ module _ {task : Task} {fields ours theirs : List ℕ} {form under : Form} (f : 
           }
 
       -- theirs has none
-      pub pair-lacks : {r′ : RecordRead} → Told under theirs v r′ → r′ ≡ End → ApartAt task fields ours theirs number
+      pub pair-lacks : {r′ : RecordRead} → RecordTold under theirs v r′ → r′ ≡ End → ApartAt task fields ours theirs number
       pair-lacks t′ e′ =
           record {
             is = λ p recs others x g h.
@@ -119,11 +119,11 @@ module _ {task : Task} {fields ours theirs : List ℕ} {form under : Form} (f : 
           }
 
       -- theirs has one too
-      module _ {r′ : RecordRead} (t′ : Told under theirs v r′) {from size′ : ℕ} {begins′ : Bool} {behind : Walk} (e′ : r′ ≡ Record from size′ begins′ behind) where
+      module _ {r′ : RecordRead} (t′ : RecordTold under theirs v r′) {from size′ : ℕ} {begins′ : Bool} {behind : Walk} (e′ : r′ ≡ Record from size′ begins′ behind) where
         abbrev other : List ℕ
         other = take (from + size′ - from) (drop from theirs)
 
-        turn : (b : Bool) → AgreesAs task fields one other b → (p : Plan) (recs others : List (List (List ℕ))) (x : Given task fields p) (q : Pairs p ours theirs recs others w v number)
+        turn : (b : Bool) → AgreesAs task fields one other b → (p : Plan) (recs others : List (List (List ℕ))) (x : PlanGiven task fields p) (q : Pairs p ours theirs recs others w v number)
             (g : Passed p ours (q .rest) start size begins next) (h : Passed (underB p) theirs (q .rest′) from size′ begins′ behind)
             → firstApart (agrees p) 1 (map (outRecord p) (joined (takenFrom (p .first) recs))) (joined others)
             ≡ cond b (firstApart (agrees p) (suc number) (map (outRecord p) (map bytesOf (g .more))) (map bytesOf (h .more))) number
@@ -164,7 +164,7 @@ module _ {task : Task} {fields ours theirs : List ℕ} {form under : Form} (f : 
 
     -- ---- ours has none
 
-    pub pair-end : {r : RecordRead} → Told form ours w r → r ≡ End → (n : ℕ) → Lacks under theirs v number n → ApartAt task fields ours theirs n
+    pub pair-end : {r : RecordRead} → RecordTold form ours w r → r ≡ End → (n : ℕ) → Lacks under theirs v number n → ApartAt task fields ours theirs n
     pair-end t e n l =
         record {
           is = λ p recs others x g h.
@@ -180,7 +180,7 @@ module _ {task : Task} {fields ours theirs : List ℕ} {form under : Form} (f : 
 
 -- ---- behind our last record
 
-module _ {form : Form} {theirs : List ℕ} {v : Walk} {number : ℕ} {r : RecordRead} (t : Told form theirs v r) where
+module _ {form : Form} {theirs : List ℕ} {v : Walk} {number : ℕ} {r : RecordRead} (t : RecordTold form theirs v r) where
   pub lacks-one : {start size : ℕ} {begins : Bool} {next : Walk} → r ≡ Record start size begins next → Lacks form theirs v number number
   lacks-one e = record { is = λ q rest f w. sym (ap (λ (xs : List (Bool × List ℕ)). cond (isEmpty xs) 0 number) (passed t e f w .is)) }
 

@@ -19,7 +19,7 @@ use Rattle.pieces.specs.declared.Form.{Form}
 use Rattle.pieces.specs.Form.{FormIs}
 use Rattle.walks.specs.declared.Walk.{Walk}
 use Rattle.walks.specs.Promise.{Good, Walks}
-use Rattle.checks.specs.Promise.{Given}
+use Rattle.checks.specs.Promise.{PlanGiven}
 
 -- ---- two records
 
@@ -30,19 +30,19 @@ WrittenOver xs r theirs x = (fs : List Field) → xs ≡ flatOf fs → (x ≡ tr
 -- the record is one that the plan may take, and there is room for B's n bytes
 pub record Comparable (task : Task) (fields r : List ℕ) (room : ℕ) : Type 0 where
   pub p : Plan
-  pub given : Given task fields p
+  pub given : PlanGiven task fields p
   pub long : selects (p .mode) ≡ true → recordLength (p .input) ≤ length r
   pub short : length r ≤ 65536
   pub roomy : 4096 ≤ room
 
 -- with TF or TRF
-pub record Selecting (task : Task) (fields r : List ℕ) (room : ℕ) : Type 0 where
+pub record SelectingPair (task : Task) (fields r : List ℕ) (room : ℕ) : Type 0 where
   pub comparable : Comparable task fields r room
   pub selecting : selects (comparable .p .mode) ≡ true
 
 -- whether theirs agrees with the output of r
 pub record AgreesAs (task : Task) (fields r theirs : List ℕ) (x : Bool) : Type 0 where
-  pub is : (p : Plan) → Given task fields p → (selects (p .mode) ≡ true → recordLength (p .input) ≤ length r) → x ≡ agrees p (outRecord p r) theirs
+  pub is : (p : Plan) → PlanGiven task fields p → (selects (p .mode) ≡ true → recordLength (p .input) ≤ length r) → x ≡ agrees p (outRecord p r) theirs
 
 -- ---- two reels
 
@@ -51,7 +51,7 @@ pub record BothRead (task : Task) (fields ours theirs : List ℕ) : Type 0 where
   pub p : Plan
   pub recs : List (List (List ℕ))
   pub others : List (List (List ℕ))
-  pub given : Given task fields p
+  pub given : PlanGiven task fields p
   pub good : Good p ours recs
   pub good′ : Good (underB p) theirs others
 
@@ -62,5 +62,5 @@ pub record Lacks (form : Form) (theirs : List ℕ) (v : Walk) (number r : ℕ) :
 -- the number of the first record that disagrees or lacks a partner, or 0
 pub record ApartAt (task : Task) (fields ours theirs : List ℕ) (n : ℕ) : Type 0 where
   pub is :
-      (p : Plan) (recs others : List (List (List ℕ))) → Given task fields p → Good p ours recs → Good (underB p) theirs others
+      (p : Plan) (recs others : List (List (List ℕ))) → PlanGiven task fields p → Good p ours recs → Good (underB p) theirs others
       → n ≡ firstApart (agrees p) 1 (map (outRecord p) (joined (takenFrom (p .first) recs))) (joined others)

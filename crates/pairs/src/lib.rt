@@ -4,7 +4,7 @@ ghost use Prim.Native.Nat.{_≤_};
 ghost use lib.ListN.{length};
 ghost use Rattle.rows.specs.Flat.{Fielded};
 ghost use Rattle.walks.specs.Promise.{Standing};
-ghost use Rattle.pairs.specs.Promise.{WrittenOver, Selecting, Comparable, AgreesAs, Lacks, BothRead, ApartAt};
+ghost use Rattle.pairs.specs.Promise.{WrittenOver, SelectingPair, Comparable, AgreesAs, Lacks, BothRead, ApartAt};
 use pieces::Form;
 use terms::Mode;
 use terms::Task;
@@ -25,7 +25,7 @@ fn written_over(fields: &[u16], record: &[u8], theirs: &[u8], room: &mut [u8]) -
 
 // In TRF: the lengths, the positions that a field writes, and the tail.
 fn agree_selected(task: Task, fields: &[u16], record: &[u8], theirs: &[u8], room: &mut [u8]) -> bool
-    requires { ⌜ Selecting task (now fields) (now «record») (length (now room)) ⌝ }
+    requires { ⌜ SelectingPair task (now fields) (now «record») (length (now room)) ⌝ }
     ensures { λ r. ⌜ AgreesAs task (now (fields .entry)) (now («record» .entry)) (now (theirs .entry)) r ⌝ }
 {
     let m = task.width;

@@ -7,7 +7,7 @@ use Rattle.rules.specs.Output.{lengthWord}
 use Rattle.rules.specs.Spanned.{codedWord}
 use Rattle.rules.specs.Reel.{word}
 use Rattle.rules.specs.ReelPlaces.{wordAt}
-use Rattle.pieces.specs.Pieces.{variableStart, startOf, pieceOf, wordedIn}
+use Rattle.pieces.specs.Pieces.{variableStart, startOf, pieceReadOf, wordedIn}
 use Rattle.pieces.specs.declared.Form.{Form}
 use Rattle.pieces.specs.declared.StartRead.{StartRead}
 use Rattle.pieces.specs.declared.PieceRead.{PieceRead}
@@ -21,7 +21,7 @@ only-one-start form b r r′ e f = e ∙ sym f
 pub only-one-variable-start : (b : List ℕ) (r r′ : StartRead) → r ≡ variableStart b → r′ ≡ variableStart b → r ≡ r′
 only-one-variable-start b r r′ e f = e ∙ sym f
 
-pub only-one-piece : (form : Form) (b : List ℕ) (i : ℕ) (r r′ : PieceRead) → r ≡ pieceOf form b i → r′ ≡ pieceOf form b i → r ≡ r′
+pub only-one-piece : (form : Form) (b : List ℕ) (i : ℕ) (r r′ : PieceRead) → r ≡ pieceReadOf form b i → r′ ≡ pieceReadOf form b i → r ≡ r′
 only-one-piece form b i r r′ e f = e ∙ sym f
 
 pub only-one-segment : (b : List ℕ) (i : ℕ) (r r′ : PieceRead) → r ≡ wordedIn 3 b i → r′ ≡ wordedIn 3 b i → r ≡ r′

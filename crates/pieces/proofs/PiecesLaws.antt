@@ -19,7 +19,7 @@ use Rattle.rules.proofs.SpannedSteps.{walkAt, walkAt-end, walkAt-good, walkAt-b
 use Rattle.rules.proofs.BlockSteps.{pieces-start, pieces-end, good-inside, pieces-good, pieces-bad}
 use Rattle.rules.proofs.PieceLaws.{takes-some, pieces-none}
 use Rattle.rules.proofs.Tests.{never-true, failing}
-use Rattle.pieces.specs.Pieces.{lengthOf, startIn, variableStart, found, pieceIn, wordedIn, fixedPiece}
+use Rattle.pieces.specs.Pieces.{lengthWordOf, startIn, variableStart, found, pieceIn, wordedIn, fixedPiece}
 use Rattle.pieces.specs.declared.Cursor.{Cursor}
 use Rattle.pieces.specs.declared.LengthRead.the-variants.{Length, NoLength}
 use Rattle.pieces.specs.declared.StartRead.{StartRead}
@@ -29,27 +29,27 @@ use Rattle.pieces.specs.declared.PieceRead.the-variants.{Piece as Found,
 
 -- ---- the word at a place
 
-no-length : (top low : ℕ) (s : List ℕ) → headedTo top low s ≡ false → NoLength ≡ lengthOf top low s
-unfolding lengthOf
+no-length : (top low : ℕ) (s : List ℕ) → headedTo top low s ≡ false → NoLength ≡ lengthWordOf top low s
+unfolding lengthWordOf
 no-length top low s e = rw e
 
-not-headed : (top low : ℕ) (s : List ℕ) → (HeadedTo top low s → ⊥) → NoLength ≡ lengthOf top low s
+not-headed : (top low : ℕ) (s : List ℕ) → (HeadedTo top low s → ⊥) → NoLength ≡ lengthWordOf top low s
 not-headed top low s f = no-length top low s (failing (headedTo top low s) (headedTo-exactly top low s) f)
 
 module _ (top low : ℕ) (b : List ℕ) (i : ℕ) where
   -- the ways in which there is no word
-  pub word-short : 4 ≤ low → length b < i + 4 → NoLength ≡ lengthOf top low (drop i b)
+  pub word-short : 4 ≤ low → length b < i + 4 → NoLength ≡ lengthWordOf top low (drop i b)
   word-short l h = no-length top low (drop i b) (headedTo-short top low b i l h)
 
   module _ (v : ℕ) (says : v ≡ 256 * getD b i 0 + getD b (i + 1) 0) where
-    pub word-low : v < low → NoLength ≡ lengthOf top low (drop i b)
+    pub word-low : v < low → NoLength ≡ lengthWordOf top low (drop i b)
     word-low l = not-headed top low (drop i b) (λ h. omega (arith, h .least, wordLength-at b i))
 
-    pub word-high : length b - i < v → NoLength ≡ lengthOf top low (drop i b)
+    pub word-high : length b - i < v → NoLength ≡ lengthWordOf top low (drop i b)
     word-high l = not-headed top low (drop i b) (λ h. omega (arith, h .most, wordLength-at b i, length-drop i b))
 
-    pub word-good : low ≤ v → v ≤ length b - i → getD b (i + 2) 0 ≤ top → getD b (i + 3) 0 ≡ 0 → Length v ≡ lengthOf top low (drop i b)
-    unfolding lengthOf
+    pub word-good : low ≤ v → v ≤ length b - i → getD b (i + 2) 0 ≤ top → getD b (i + 3) 0 ≡ 0 → Length v ≡ lengthWordOf top low (drop i b)
+    unfolding lengthWordOf
     word-good l m x y =
         let h : headedTo top low (drop i b) ≡ true =
         headedTo-exactly top low (drop i b) .1
@@ -61,26 +61,26 @@ module _ (top low : ℕ) (b : List ℕ) (i : ℕ) where
         }) in
         rw (h, wordLength-at b i, ← says)
 
-  pub word-third : top < getD b (i + 2) 0 → NoLength ≡ lengthOf top low (drop i b)
+  pub word-third : top < getD b (i + 2) 0 → NoLength ≡ lengthWordOf top low (drop i b)
   word-third l = not-headed top low (drop i b) (λ h. omega (arith, h .third, getD-drop i b 2 0))
 
-  pub word-fourth : (getD b (i + 3) 0 ≡ 0 → ⊥) → NoLength ≡ lengthOf top low (drop i b)
+  pub word-fourth : (getD b (i + 3) 0 ≡ 0 → ⊥) → NoLength ≡ lengthWordOf top low (drop i b)
   word-fourth f = not-headed top low (drop i b) (λ h. f (sym (getD-drop i b 3 0) ∙ h .fourth))
 
 -- what a reading says of the word
-pub length-told : (top low : ℕ) (s : List ℕ) (v : ℕ) → lengthOf top low s ≡ Length v → (headedTo top low s ≡ true) × (v ≡ wordLength s)
-unfolding lengthOf
+pub length-told : (top low : ℕ) (s : List ℕ) (v : ℕ) → lengthWordOf top low s ≡ Length v → (headedTo top low s ≡ true) × (v ≡ wordLength s)
+unfolding lengthWordOf
 length-told top low s v e = go (headedTo top low s) refl
   where
     go : (t : Bool) → headedTo top low s ≡ t → (headedTo top low s ≡ true) × (v ≡ wordLength s)
     go true t = let e′ : Length (wordLength s) ≡ Length v = rw t at e in (t, cc)
     go false t = let e′ : NoLength ≡ Length v = rw t at e in let z : _≡_ {A = ℕ} 0 1 = cc in absurd (omega arith)
 
-pub none-told : (top low : ℕ) (s : List ℕ) → lengthOf top low s ≡ NoLength → headedTo top low s ≡ false
-unfolding lengthOf
+pub none-told : (top low : ℕ) (s : List ℕ) → lengthWordOf top low s ≡ NoLength → headedTo top low s ≡ false
+unfolding lengthWordOf
 none-told top low s e = never-true (headedTo top low s) (λ t. let e′ : Length (wordLength s) ≡ NoLength = rw t at e in let z : _≡_ {A = ℕ} 0 1 = cc in omega arith)
 
-pub length-within : (top low : ℕ) (s : List ℕ) (v : ℕ) → lengthOf top low s ≡ Length v → (low ≤ v) × (v ≤ length s)
+pub length-within : (top low : ℕ) (s : List ℕ) (v : ℕ) → lengthWordOf top low s ≡ Length v → (low ≤ v) × (v ≤ length s)
 length-within top low s v e =
     let h = length-told top low s v e in
     let w = headedTo-exactly top low s .0 (h .0) in
@@ -96,17 +96,17 @@ pub start-bad : (f : Format) (b : List ℕ) → goodStart f b ≡ false → NoSt
 unfolding startIn
 start-bad f b e = rw e
 
-pub variable-good : (b : List ℕ) (v : ℕ) → lengthOf 0 4 b ≡ Length v → v ≡ length b → From (record { at = 4 }) ≡ variableStart b
+pub variable-good : (b : List ℕ) (v : ℕ) → lengthWordOf 0 4 b ≡ Length v → v ≡ length b → From (record { at = 4 }) ≡ variableStart b
 variable-good b v e l =
     let h = length-told 0 4 b v e in
     start-good fv b (rw (h .0) (eq-eqb (wordLength b) (length b) (sym (h .1) ∙ l)))
 
-pub variable-other : (b : List ℕ) (v : ℕ) → lengthOf 0 4 b ≡ Length v → (v ≡ length b → ⊥) → NoStart ≡ variableStart b
+pub variable-other : (b : List ℕ) (v : ℕ) → lengthWordOf 0 4 b ≡ Length v → (v ≡ length b → ⊥) → NoStart ≡ variableStart b
 variable-other b v e f =
     let h = length-told 0 4 b v e in
     start-bad fv b (rw (h .0) (ne-eqb (wordLength b) (length b) (λ q. f (h .1 ∙ q))))
 
-pub variable-none : (b : List ℕ) → lengthOf 0 4 b ≡ NoLength → NoStart ≡ variableStart b
+pub variable-none : (b : List ℕ) → lengthWordOf 0 4 b ≡ NoLength → NoStart ≡ variableStart b
 variable-none b e = start-bad fv b (rw (none-told 0 4 b e))
 
 -- what a reading says of the block's word
@@ -170,7 +170,7 @@ module _ (top : ℕ) (b : List ℕ) (i : ℕ) where
   unfolding wordedIn
   worded-bad l e = rw (lt-leb (length b) i l, e)
 
-pub variable-piece : (top : ℕ) (b : List ℕ) (i v t : ℕ) → i < length b → lengthOf top 5 (drop i b) ≡ Length v → t ≡ getD b (i + 2) 0
+pub variable-piece : (top : ℕ) (b : List ℕ) (i v t : ℕ) → i < length b → lengthWordOf top 5 (drop i b) ≡ Length v → t ≡ getD b (i + 2) 0
     → Found (i + 4) (v - 4) t (record { at = i + v }) ≡ wordedIn top b i
 variable-piece top b i v t l e x =
     let h = length-told top 5 (drop i b) v e in
@@ -179,7 +179,7 @@ variable-piece top b i v t l e x =
     let third : t ≡ getD (drop i b) 2 0 = x ∙ sym (getD-drop i b 2 0) in
     rw (q, third, h .1) (worded-good top b i l (h .0))
 
-pub variable-bad : (top : ℕ) (b : List ℕ) (i : ℕ) → i < length b → lengthOf top 5 (drop i b) ≡ NoLength → Bad ≡ wordedIn top b i
+pub variable-bad : (top : ℕ) (b : List ℕ) (i : ℕ) → i < length b → lengthWordOf top 5 (drop i b) ≡ NoLength → Bad ≡ wordedIn top b i
 variable-bad top b i l e = worded-bad top b i l (none-told top 5 (drop i b) e)
 
 -- what a reading says of the word

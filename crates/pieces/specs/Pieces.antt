@@ -18,8 +18,8 @@ use Rattle.pieces.specs.declared.PieceRead.{PieceRead}
 use Rattle.pieces.specs.declared.PieceRead.the-variants.{Piece as Found, End, Bad}
 
 -- a word whose third byte is at most top
-unfoldable pub lengthOf : ℕ → ℕ → List ℕ → LengthRead
-lengthOf top low s = cond (headedTo top low s) (Length (wordLength s)) NoLength
+unfoldable pub lengthWordOf : ℕ → ℕ → List ℕ → LengthRead
+lengthWordOf top low s = cond (headedTo top low s) (Length (wordLength s)) NoLength
 
 -- where the pieces begin: at 0, in FV at 4; in FV the block's word is asked
 unfoldable pub startIn : Format → List ℕ → StartRead
@@ -41,8 +41,8 @@ pieceIn f n b i =
     cond (leb (length b) i) End
     (cond (goodFrom f n b i && ltb i (behind (pieceFrom f n b i))) (found (pieceFrom f n b i)) Bad)
 
-abbrev pub pieceOf : Form → List ℕ → ℕ → PieceRead
-pieceOf form b i = pieceIn (formatOf (form .format)) (form .n) b i
+abbrev pub pieceReadOf : Form → List ℕ → ℕ → PieceRead
+pieceReadOf form b i = pieceIn (formatOf (form .format)) (form .n) b i
 
 -- what stands at place i where each piece has a word, whose third byte is at most top: 0 in FV, 3 in FS
 unfoldable pub wordedIn : ℕ → List ℕ → ℕ → PieceRead

@@ -9,7 +9,7 @@ ghost use Rattle.rules.specs.Output.{lengthWord};
 ghost use Rattle.rules.specs.Spanned.{codedWord};
 ghost use Rattle.rules.specs.Reel.{word};
 ghost use Rattle.rules.specs.ReelPlaces.{wordAt};
-ghost use Rattle.pieces.specs.Pieces.{lengthOf, variableStart, startOf, fixedPiece, wordedIn, pieceOf};
+ghost use Rattle.pieces.specs.Pieces.{lengthWordOf, variableStart, startOf, fixedPiece, wordedIn, pieceReadOf};
 use terms::Format;
 
 // The big-endian 32-bit number at a place.
@@ -66,7 +66,7 @@ enum LengthRead {
 // zero byte.
 fn length_word(b: &[u8], at: usize, low: usize, top: u8) -> LengthRead
     requires { ⌜ (at ≤ length (now b)) × (4 ≤ low) ⌝ }
-    ensures { λ r. ⌜ r ≡ lengthOf top low (drop at (now (b .entry))) ⌝ }
+    ensures { λ r. ⌜ r ≡ lengthWordOf top low (drop at (now (b .entry))) ⌝ }
 {
     let left = b.len() - at;
     if left < 4 {
@@ -125,7 +125,7 @@ pub fn variable_start(b: &[u8]) -> StartRead
 
 // The piece at a place. Each takes a byte or more, so that the next place is higher.
 pub fn piece(form: Form, b: &[u8], c: Cursor) -> PieceRead
-    ensures { λ r. ⌜ r ≡ pieceOf form (now (b .entry)) (c .at) ⌝ }
+    ensures { λ r. ⌜ r ≡ pieceReadOf form (now (b .entry)) (c .at) ⌝ }
 {
     let at = c.at;
     let end = b.len();

@@ -19,7 +19,7 @@ use Rattle.rows.specs.Kept.{rowOf}
 use Rattle.plans.specs.Verdict.{planned, markOf, SaysAsked, SaysSome}
 use Rattle.plans.proofs.VerdictLaws.{fields-same, plan-same}
 use Rattle.cards.specs.Promise.{nothingAsked}
-use Rattle.plans.specs.Promise.{plannedOf, refusedDeck, plannedBy, Holds, HoldsFor, Plans}
+use Rattle.plans.specs.Promise.{plannedOf, refusedDeck, plannedBy, HoldsPlan, HoldsFor, Plans}
 use Rattle.plans.specs.declared.DeckPlan.{DeckPlan}
 
 -- ---- a deck that is refused by 1 to 7
@@ -64,7 +64,7 @@ module _ (deck : List ℕ) (a : RuleAsked) (asks : askedOf deck ≡ fine a) (x :
   numbers-are r e = ap (λ (s : DeckPlan). s .answer) e ∙ numbers-by x (planned zoneF a) many ∙ ap (λ (z : Answer Plan). plannedOf (planAnswer z)) (sym is-planned)
 
   -- accepted, and the row holds its fields
-  held : (row : List ℕ) → row ≡ rowOf fs → (p : Plan) → planned zoneF a ≡ fine p → Holds deck p x row
+  held : (row : List ℕ) → row ≡ rowOf fs → (p : Plan) → planned zoneF a ≡ fine p → HoldsPlan deck p x row
   held row e p q =
       record {
         is = plan-same x (flatOf fs) a (says (flatOf fs) refl) p q;
@@ -80,7 +80,7 @@ module _ (deck : List ℕ) (a : RuleAsked) (asks : askedOf deck ≡ fine a) (x :
       go : (q : Answer Plan) → planned zoneF a ≡ q → HoldsFor deck (plan deck) (r .asked) row
       go (fine p) w =
           let i : r .asked ≡ x = ap (λ (s : DeckPlan). s .asked) (e ∙ ap (λ (z : Answer Plan). plannedBy x (markOf z)) w) in
-          subst (λ (z : Answer Plan). HoldsFor deck z (r .asked) row) (sym (is-planned ∙ w)) (subst (λ (y : Asked). Holds deck p y row) (sym i) (held row full p w))
+          subst (λ (z : Answer Plan). HoldsFor deck z (r .asked) row) (sym (is-planned ∙ w)) (subst (λ (y : Asked). HoldsPlan deck p y row) (sym i) (held row full p w))
       go (refuse q) w = absurd (never-0 zoneF deck q (is-planned ∙ w) (sym (ap (λ (s : DeckPlan). s .answer .refusal) (e ∙ ap (λ (z : Answer Plan). plannedBy x (markOf z)) w)) ∙ z))
 
   -- refused, and the row is cleared

@@ -25,7 +25,7 @@ use Rattle.rows.specs.Flat.{fieldAt}
 use Rattle.rows.specs.Kept.{fieldsIn}
 use Rattle.rows.proofs.RowLaws.{many-in, field-in}
 use Rattle.combinations.specs.Promise.{combinedOf, FieldFair, AskedFair}
-use Rattle.keeping.specs.Promise.{FairField, Fair}
+use Rattle.keeping.specs.Promise.{FieldInside, RowInside}
 use Rattle.terms.proofs.FieldLaws.{input-of, output-of}
 
 -- no FS card in TC and TR, and every field inside its records
@@ -53,7 +53,7 @@ no-field x a fs m e s =
 -- ---- fields inside their records
 
 module _ (n m : ℕ) where
-  fair-one : (f : Field) → FieldFair f → Inside n m (fieldOf f) → FairField n m f
+  fair-one : (f : Field) → FieldFair f → Inside n m (fieldOf f) → FieldInside n m f
   unfolding fieldOf
   fair-one f fair w =
       record {
@@ -67,7 +67,7 @@ module _ (n m : ℕ) where
       }
 
 pub fair-sound : (x : Asked) (row : List ℕ) → AskedFair x row → length row ≤ 320 → combinedOf x (fieldsIn row) ≡ fine tt
-    → Fair row (recordLength (sizeOf (x .input))) (recordLength (sizeOf (x .output)))
+    → RowInside row (recordLength (sizeOf (x .input))) (recordLength (sizeOf (x .output)))
 fair-sound x row fair few e =
     let n = recordLength (sizeOf (x .input)) in
     let m = recordLength (sizeOf (x .output)) in

@@ -36,7 +36,7 @@ use Rattle.rows.specs.Fair.{PlanFair}
 use Rattle.rows.proofs.RowLaws.{fields-back, flat-front, length-row}
 use Rattle.combinations.specs.Promise.{FieldsFair}
 use Rattle.combinations.proofs.CombineLaws.{asked-fair}
-use Rattle.plans.specs.Promise.{plannedOf, numbersOf, refusedPlan, Holds, HoldsFor, Plans, onCard, tableOf, notFilled, filledFor}
+use Rattle.plans.specs.Promise.{plannedOf, numbersOf, refusedPlan, HoldsPlan, HoldsFor, Plans, onCard, tableOf, notFilled, filledFor}
 use Rattle.plans.specs.declared.DeckPlan.{DeckPlan}
 use Rattle.plans.specs.declared.Planned.{Planned}
 use Rattle.plans.specs.declared.TablePlan.{TablePlan}
@@ -66,11 +66,11 @@ module _ (deck : List ℕ) (r : DeckPlan) (row : List ℕ) (w : Plans deck r row
       go (fine p) e = absurd (h (ap (λ (n : Planned). n .refusal) (w .numbers ∙ ap answered e)))
 
   -- accepted, with the plan's own numbers
-  pub accepted-plan : r .answer .refusal ≡ 0 → (p : Plan) × (plan deck ≡ fine p) × (r .answer ≡ plannedOf (planAnswer (fine p))) × Holds deck p (r .asked) row
+  pub accepted-plan : r .answer .refusal ≡ 0 → (p : Plan) × (plan deck ≡ fine p) × (r .answer ≡ plannedOf (planAnswer (fine p))) × HoldsPlan deck p (r .asked) row
   unfolding plan
   accepted-plan z = go (plan deck) refl
     where
-      go : (x : Answer Plan) → plan deck ≡ x → (p : Plan) × (plan deck ≡ fine p) × (r .answer ≡ plannedOf (planAnswer (fine p))) × Holds deck p (r .asked) row
+      go : (x : Answer Plan) → plan deck ≡ x → (p : Plan) × (plan deck ≡ fine p) × (r .answer ≡ plannedOf (planAnswer (fine p))) × HoldsPlan deck p (r .asked) row
       go (refuse q) e = absurd (never-0 zoneF deck q e (sym (ap (λ (n : Planned). n .refusal) (w .numbers ∙ ap answered e)) ∙ z))
       go (fine p) e = (p, e, w .numbers ∙ ap answered e, subst (λ (x : Answer Plan). HoldsFor deck x (r .asked) row) e (w .held))
 
@@ -112,7 +112,7 @@ all-on-card f i b (also {x = x} l ls) (also e es) (also n ns) = rw (on-card i b 
 
 -- ---- the struct and the row of an accepted plan
 
-module _ (deck : List ℕ) (p : Plan) (x : Asked) (row : List ℕ) (h : Holds deck p x row) (end : ℕ) (all : end ≡ 5 * length (p .fields)) where
+module _ (deck : List ℕ) (p : Plan) (x : Asked) (row : List ℕ) (h : HoldsPlan deck p x row) (end : ℕ) (all : end ≡ 5 * length (p .fields)) where
   -- the row begins with the numbers of its fields
   front : take end row ≡ flatOf (p .fields)
   front = ap (take end) (h .fields) ∙ flat-front (p .fields) end all
@@ -153,7 +153,7 @@ module _ (deck : List ℕ) (p : Plan) (x : Asked) (row : List ℕ) (h : Holds de
         ∙ sym (ap cardFields (s .1))
 
 -- there is room for its fields, and they stand in the row
-pub row-holds : (deck : List ℕ) (p : Plan) → plan deck ≡ fine p → (x : Asked) (row : List ℕ) → Holds deck p x row → (length (p .fields) ≤ 64) × (length row ≡ 320)
+pub row-holds : (deck : List ℕ) (p : Plan) → plan deck ≡ fine p → (x : Asked) (row : List ℕ) → HoldsPlan deck p x row → (length (p .fields) ≤ 64) × (length row ≡ 320)
 unfolding plan
 row-holds deck p e x row h = let few = accepted zoneF deck p e .few in (few, ap length (h .fields) ∙ length-row (p .fields) few)
 

@@ -10,10 +10,10 @@ use Rattle.rules.proofs.AnswerLaws.{bind-fine}
 use Rattle.terms.specs.Meaning.{laidFields}
 use Rattle.terms.specs.declared.Asked.{Asked}
 use Rattle.rows.specs.Kept.{rowOf}
-use Rattle.cards.specs.Promise.{Reads, DeckSays}
+use Rattle.cards.specs.Promise.{DeckAnswered, DeckSays}
 use Rattle.cards.specs.declared.DeckRead.{DeckRead}
 use Rattle.cards.proofs.PromiseLaws.{only-one as read-once}
-use Rattle.plans.specs.Promise.{Holds, HoldsFor, Plans, filledFor}
+use Rattle.plans.specs.Promise.{HoldsPlan, HoldsFor, Plans, filledFor}
 use Rattle.plans.specs.declared.DeckPlan.{DeckPlan}
 use Rattle.plans.specs.declared.TablePlan.{TablePlan}
 use Rattle.plans.proofs.DeckLaws.{row-fields}
@@ -21,19 +21,19 @@ use Rattle.plans.proofs.DeckLaws.{row-fields}
 -- ---- of a plan
 
 module _ (deck : List ℕ) (p : Plan) (e : plan deck ≡ fine p) where
-  held-read : (x : Asked) (row : List ℕ) → Holds deck p x row → DeckSays deck (record { refusal = 0; place = 0; column = 0; asked = x }) row
+  held-read : (x : Asked) (row : List ℕ) → HoldsPlan deck p x row → DeckSays deck (record { refusal = 0; place = 0; column = 0; asked = x }) row
   unfolding plan planOf
   held-read x row h =
       let s = bind-fine _ _ p e in
       let same : p .fields ≡ laidFields (s .0) = sym (row-fields deck (s .0) (s .1) x (h .means (s .0) (s .1)) p (s .2)) in
       record {
         reads =
-            subst (λ (z : Answer RuleAsked). Reads z (record { refusal = 0; place = 0; column = 0; asked = x }) row) (sym (s .1))
+            subst (λ (z : Answer RuleAsked). DeckAnswered z (record { refusal = 0; place = 0; column = 0; asked = x }) row) (sym (s .1))
             (record { refusal = refl; place = refl; column = refl; means = h .means (s .0) (s .1); fields = h .fields ∙ ap rowOf same });
         none = λ n. absurd (n refl);
       }
 
-  held-once : (x y : Asked) (one other : List ℕ) → Holds deck p x one → Holds deck p y other → (x ≡ y) × (one ≡ other)
+  held-once : (x y : Asked) (one other : List ℕ) → HoldsPlan deck p x one → HoldsPlan deck p y other → (x ≡ y) × (one ≡ other)
   held-once x y one other h k =
       let w = read-once deck _ _ one other (held-read x one h) (held-read y other k) in
       (ap (λ (d : DeckRead). d .asked) (w .0), w .1)

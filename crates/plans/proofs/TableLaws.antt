@@ -18,11 +18,11 @@ use Rattle.terms.proofs.FieldLaws.{kind-number, input-size, output-size}
 use Rattle.rows.specs.Flat.{fieldAt}
 use Rattle.rows.specs.Kept.{fieldsIn}
 use Rattle.rows.proofs.RowLaws.{many-in, field-in}
-use Rattle.plans.specs.Promise.{partAt, placeAt, onCard, tableOf}
+use Rattle.plans.specs.Promise.{partOnCard, placeOnCard, onCard, tableOf}
 
 -- ---- one entry
 
-pub entry-is : (f : Field) (key k p r : ℕ) → k ≡ kindNumber (kindOf (f .kind) 0 0) → p ≡ partAt key (f .r) → r ≡ placeAt key (f .r) → OneSize (f .kind) (f .input) (f .output)
+pub entry-is : (f : Field) (key k p r : ℕ) → k ≡ kindNumber (kindOf (f .kind) 0 0) → p ≡ partOnCard key (f .r) → r ≡ placeOnCard key (f .r) → OneSize (f .kind) (f .input) (f .output)
     → _≡_ {A = Entry} (record { kind = k; part = p; r = r; input = f .input; output = f .output; t = f .t }) (entryFor (entryOf (onCard key (fieldOf f))))
 unfolding fieldOf onCard
 entry-is f key k p r e h q one =
@@ -42,7 +42,7 @@ entry-is f key k p r e h q one =
     part-said false = refl
 
 -- its place on the card is no further on
-pub place-most : (key r : ℕ) → placeAt key r ≤ r
+pub place-most : (key r : ℕ) → placeOnCard key r ≤ r
 place-most key r = go (leb r key)
   where
     go : (t : Bool) → cond t r (r - key) ≤ r

@@ -50,7 +50,7 @@ unfoldable pub Verdicts : Asked → List ℕ → DeckPlan → Type 0
 Verdicts x row r = (a : RuleAsked) → SaysAsked x row a → r ≡ plannedBy x (markOf (planned zoneF a))
 
 -- the struct and the row hold the plan p of the deck: they say just what the deck asks for
-pub record Holds (deck : List ℕ) (p : Plan) (x : Asked) (row : List ℕ) : Type 0 where
+pub record HoldsPlan (deck : List ℕ) (p : Plan) (x : Asked) (row : List ℕ) : Type 0 where
   pub is : planIn zoneF x (p .fields) ≡ p
   pub fields : row ≡ rowOf (p .fields)
   pub count : x .count ≡ length (p .fields)
@@ -58,7 +58,7 @@ pub record Holds (deck : List ℕ) (p : Plan) (x : Asked) (row : List ℕ) : Typ
 
 -- where the deck is refused they hold nothing
 abbrev pub HoldsFor : List ℕ → Answer Plan → Asked → List ℕ → Type 0
-HoldsFor deck (fine p) x row = Holds deck p x row
+HoldsFor deck (fine p) x row = HoldsPlan deck p x row
 HoldsFor deck (refuse r) x row = (x ≡ nothingAsked) × (row ≡ rowOf [])
 
 pub record Plans (deck : List ℕ) (r : DeckPlan) (row : List ℕ) : Type 0 where
@@ -73,14 +73,14 @@ pub record OfDeck (r : DeckPlan) (row : List ℕ) : Type 0 where
 -- ---- the fields for a lent table
 
 -- a field of a plan as it stands on its card, behind a key of so many bytes: what begins in the key is taken from it, and behind it data count from 1 again
-abbrev pub partAt : ℕ → ℕ → ℕ
-partAt key r = cond (leb r key) 1 0
+abbrev pub partOnCard : ℕ → ℕ → ℕ
+partOnCard key r = cond (leb r key) 1 0
 
-abbrev pub placeAt : ℕ → ℕ → ℕ
-placeAt key r = cond (leb r key) r (r - key)
+abbrev pub placeOnCard : ℕ → ℕ → ℕ
+placeOnCard key r = cond (leb r key) r (r - key)
 
 unfoldable pub onCard : ℕ → RuleField → CardField
-onCard key f = record { part = cond (leb (f .r) key) inKey inData; field = record { r = placeAt key (f .r); kind = f .kind; t = f .t } }
+onCard key f = record { part = cond (leb (f .r) key) inKey inData; field = record { r = placeOnCard key (f .r); kind = f .kind; t = f .t } }
 
 -- an entry for each field, and nothing behind them: 64 in all
 unfoldable pub tableOf : List CardField → List Entry

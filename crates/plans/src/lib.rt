@@ -14,7 +14,7 @@ ghost use Rattle.terms.specs.Meaning.{fieldOf, entryFor};
 ghost use Rattle.rows.specs.Kept.{fieldsIn, rowOf};
 ghost use Rattle.combinations.specs.Promise.{FieldFair, FieldsFair};
 ghost use Rattle.plans.specs.Verdict.{SaysSome};
-ghost use Rattle.plans.specs.Promise.{refusedPlan, refusedDeck, keptAs, Verdicts, Plans, OfDeck, partAt, placeAt, onCard, tableOf, notFilled, filledFor};
+ghost use Rattle.plans.specs.Promise.{refusedPlan, refusedDeck, keptAs, Verdicts, Plans, OfDeck, partOnCard, placeOnCard, onCard, tableOf, notFilled, filledFor};
 
 // What a plan answers: refusal, place, column, 1 for keeping or 0, lost place or 0, field count. In C it lies as it stands here.
 #[repr(C)]
@@ -107,7 +107,7 @@ pub fn plan_deck(deck: &[u8], row: &mut [u16; 320]) -> DeckPlan
 
 // The part that a field of a plan reads, behind a key of so many bytes: what begins in the key is taken from it.
 fn part_number(r: usize, key: usize) -> u8
-    ensures { λ x. ⌜ x ≡ partAt key r ⌝ }
+    ensures { λ x. ⌜ x ≡ partOnCard key r ⌝ }
 {
     if r <= key {
         return 1;
@@ -117,7 +117,7 @@ fn part_number(r: usize, key: usize) -> u8
 
 // Its first position as on the card: behind the key data count from 1 again.
 fn card_place(r: usize, key: usize) -> usize
-    ensures { λ x. ⌜ x ≡ placeAt key r ⌝ }
+    ensures { λ x. ⌜ x ≡ placeOnCard key r ⌝ }
 {
     if r <= key {
         return r;

@@ -13,7 +13,7 @@ use borrow.Author.Tests.{eqb-true}
 use Rattle.rules.specs.Reader.{read, stopped, pure, _>>_, after, isDigit, number}
 use Rattle.rules.specs.Places.{All, noMore, also}
 use Rattle.rules.specs.Words.{numberColumns}
-use Rattle.rules.specs.Texts.{Digit, NumberText}
+use Rattle.rules.specs.Texts.{DigitByte, NumberText}
 use Rattle.rules.specs.TextParts.{numberThen}
 use Rattle.rules.proofs.Lists.{slice-rest, slice-slice}
 use Rattle.rules.proofs.NumberLaws.{digit-of, number-sound}
@@ -22,7 +22,7 @@ use Rattle.readers.specs.Meaning.{ReadsFrom, numbersIn}
 
 -- ---- runs of digits
 
-digits-passed : (k : ℕ) {x : List ℕ} (y : List ℕ) → All Digit x → numberColumns true k (x ++ y) ≡ numberColumns true (k + length x) y
+digits-passed : (k : ℕ) {x : List ℕ} (y : List ℕ) → All DigitByte x → numberColumns true k (x ++ y) ≡ numberColumns true (k + length x) y
 digits-passed k y noMore = ap (λ (i : ℕ). numberColumns true i y) (let z : k ≡ k + 0 = omega arith in z)
 digits-passed k y (also {x = b} {xs = x} d a) =
     rw (digit-of b (d .0) (d .1))
@@ -31,7 +31,7 @@ digits-passed k y (also {x = b} {xs = x} d a) =
 text-passed : (k : ℕ) {x : List ℕ} {v : ℕ} (y : List ℕ) → NumberText x v → numberColumns false k (x ++ y) ≡ k ∷ numberColumns true (k + length x) y
 text-passed k {x} y n = go x (n .digits) (n .one)
   where
-    go : (x : List ℕ) → All Digit x → 1 ≤ length x → numberColumns false k (x ++ y) ≡ k ∷ numberColumns true (k + length x) y
+    go : (x : List ℕ) → All DigitByte x → 1 ≤ length x → numberColumns false k (x ++ y) ≡ k ∷ numberColumns true (k + length x) y
     go [] a l = absurd (omega arith)
     go (b ∷ x) (also d a) l =
         rw (digit-of b (d .0) (d .1))

@@ -151,8 +151,8 @@ behindPlaces Unpack p = p .input ∷ p .output ∷ p .t ∷ []
 abbrev pub fieldPlaces : Kind → Places → List ℕ
 fieldPlaces k p = p .r ∷ behindPlaces k p
 
-abbrev pub fieldWith : Kind → ℕ → ℕ → ℕ → ℕ → Field
-fieldWith k r input output t = record { kind = k; r = r; input = input; output = output; t = t }
+abbrev pub fieldStruct : Kind → ℕ → ℕ → ℕ → ℕ → Field
+fieldStruct k r input output t = record { kind = k; r = r; input = input; output = output; t = t }
 
 -- from a place on, where r stands at another
 abbrev pub ItemFrom : Reader Item → ℕ → ℕ → List ℕ → ItemRead → Type 0

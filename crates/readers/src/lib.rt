@@ -10,7 +10,7 @@ ghost use Rattle.rules.specs.Reader.{number as ruleNumber};
 ghost use Rattle.rules.specs.Grammar.{sizeReader, inputReader, start, kindReader};
 ghost use Rattle.rules.specs.TextParts.{numberThen, sizeBehind, dataBehind, keyedBehind, keyThen, sizesBehind, fieldBehind};
 ghost use Rattle.terms.specs.Meaning.{partOf, kindOf};
-ghost use Rattle.readers.specs.Meaning.{digitValue, NumberSays, NumberFrom, firstIn, secondIn, SizeFrom, InputFrom, KindFrom, Sized, ParameterSays, ItemSays, fieldWith, ItemFrom};
+ghost use Rattle.readers.specs.Meaning.{digitValue, NumberSays, NumberFrom, firstIn, secondIn, SizeFrom, InputFrom, KindFrom, Sized, ParameterSays, ItemSays, fieldStruct, ItemFrom};
 use terms::Field;
 use terms::Format;
 use terms::Input;
@@ -599,7 +599,7 @@ fn kind(s: &[u8], from: usize) -> KindRead
 }
 
 fn field(kind: Kind, r: usize, input: usize, output: usize, t: usize) -> Field
-    ensures { λ x. ⌜ x ≡ fieldWith kind r input output t ⌝ }
+    ensures { λ x. ⌜ x ≡ fieldStruct kind r input output t ⌝ }
 {
     Field {
         kind,

@@ -13,7 +13,7 @@ use Rattle.rules.specs.Lent.{zoneF}
 use Rattle.rules.specs.RecordParts.{writtenBytes}
 use Rattle.rules.proofs.FieldSteps.{out-bytes, length-writtenBytes}
 use Rattle.rows.specs.Flat.{flatOf, FlatFair, Fielded}
-use Rattle.records.specs.Promise.{Writes, reachOf, Covers, outBytes, Puts}
+use Rattle.records.specs.Promise.{FieldsWritten, reachOf, Covers, outBytes, Puts}
 use Rattle.records.proofs.CoverLaws.{covered-same}
 
 -- ---- fields that cover the output
@@ -60,6 +60,6 @@ pub put-only-one : (xs : List ℕ) (n m : ℕ) (carries : Bool) (r old : List �
 unfolding Puts
 put-only-one xs n m carries r old k x y h g = h (k .fields) (k .fair) ∙ sym (g (k .fields) (k .fair))
 
-pub fields-only-one : (xs : List ℕ) (n m : ℕ) (r old : List ℕ) → Fielded xs n m → (x y : List ℕ) → Writes xs r old x → Writes xs r old y → x ≡ y
-unfolding Writes
+pub fields-only-one : (xs : List ℕ) (n m : ℕ) (r old : List ℕ) → Fielded xs n m → (x y : List ℕ) → FieldsWritten xs r old x → FieldsWritten xs r old y → x ≡ y
+unfolding FieldsWritten
 fields-only-one xs n m r old k x y h g = h (k .fields) (k .fair .flat) ∙ sym (g (k .fields) (k .fair .flat))

@@ -24,7 +24,7 @@ use Rattle.terms.specs.declared.Field.{Field}
 use Rattle.halves.specs.Promise.{packedInto, unpackedInto}
 use Rattle.halves.proofs.PromiseLaws.{packed-whole, unpacked-whole}
 use Rattle.rows.specs.Flat.{flatOf, kindAt, fieldAt, FlatFair, Fielded}
-use Rattle.records.specs.Promise.{Writes, outBytes, Puts, Covers, groundOf}
+use Rattle.records.specs.Promise.{FieldsWritten, outBytes, Puts, Covers, groundOf}
 use Rattle.rows.proofs.FlatLaws.{fields-many, field-is, output-of-row, fits-at, sizes-at}
 use Rattle.rows.proofs.ReadLaws.{kind-copy, kind-pack, kind-unpack, lentInput, part-input, Reads, reads-inside, length-input}
 use Rattle.records.proofs.CoverLaws.{grounded}
@@ -145,8 +145,8 @@ module _ (xs r old new : List ℕ) (i : ℕ) (w : Writing xs r old new i) where
           ∙ sym (writtenBytes-step zoneF r d fs i (omega (arith, fields-many fs flat)) old)
           ∙ ap (λ (k : ℕ). writtenBytes zoneF (take k fs) r old) (sym (add-one i))
 
-  pub write-end : length xs ≤ 5 * i + 4 → Writes xs r old new
-  unfolding Writes
+  pub write-end : length xs ≤ 5 * i + 4 → FieldsWritten xs r old new
+  unfolding FieldsWritten
   write-end l fs flat =
       let all : length fs ≤ i = omega (arith, fields-many fs flat) in
       w .is fs flat ∙ ap (λ (gs : List RuleField). writtenBytes zoneF gs r old) (take-all i fs all)
@@ -163,12 +163,12 @@ pub tail-room : (carries : Bool) (m k l : ℕ) → carries ≡ true → m + cond
 tail-room carries m k l e h = subst (λ (c : Bool). m + cond c k 0 ≤ l) e h
 
 -- B's n bytes of hex 40, the fields over them, and what lay behind them
-module _ (xs : List ℕ) (n m : ℕ) (covered : Bool) (r old base new : List ℕ) (long : n ≤ length r) (room : m ≤ length old) (told : Covers xs m covered) (laid : base ≡ groundOf m covered old) (w : Writes xs r base new) where
+module _ (xs : List ℕ) (n m : ℕ) (covered : Bool) (r old base new : List ℕ) (long : n ≤ length r) (room : m ≤ length old) (told : Covers xs m covered) (laid : base ≡ groundOf m covered old) (w : FieldsWritten xs r base new) where
   length-fixed : (fs : List RuleField) → FlatFair xs fs n m → length (writtenBytes zoneF fs r (replicate m 0x40)) ≡ m
   length-fixed fs fair = length-writtenBytes zoneF n m r long fs (replicate m 0x40) (fair .fits) (length-replicate {A = ℕ} m 0x40)
 
   put-fixed : (fs : List RuleField) → FlatFair xs fs n m → new ≡ over 0 (bytes (outHalves zoneF value m fs (halves (take n r)))) old
-  unfolding Writes
+  unfolding FieldsWritten
   put-fixed fs fair =
       w fs (fair .flat)
       ∙ ap (writtenBytes zoneF fs r) laid

@@ -11,8 +11,8 @@ use Rattle.rules.specs.RecordParts.{writtenBytes}
 use Rattle.rows.specs.Flat.{flatOf, FlatFair}
 
 -- the fields in order, a later one over an earlier one
-unfoldable pub Writes : List ℕ → List ℕ → List ℕ → List ℕ → Type 0
-Writes xs r old new = (fs : List Field) → xs ≡ flatOf fs → new ≡ writtenBytes zoneF fs r old
+unfoldable pub FieldsWritten : List ℕ → List ℕ → List ℕ → List ℕ → Type 0
+FieldsWritten xs r old new = (fs : List Field) → xs ≡ flatOf fs → new ≡ writtenBytes zoneF fs r old
 
 -- how many bytes are covered from the first on, where so many were, and a field of a size is written at a place: behind a gap it covers none
 unfoldable pub fartherOf : ℕ → ℕ → ℕ → ℕ

@@ -10,7 +10,7 @@ ghost use Rattle.rules.specs.Rows.{KindWithin};
 ghost use Rattle.rules.specs.RecordParts.{convertedBytes};
 ghost use Rattle.terms.specs.Meaning.{kindOf};
 ghost use Rattle.rows.specs.Flat.{kindAt, Fielded};
-ghost use Rattle.records.specs.Promise.{Writes, Puts, Covers, fartherOf, groundOf};
+ghost use Rattle.records.specs.Promise.{FieldsWritten, Puts, Covers, fartherOf, groundOf};
 use terms::Field;
 
 // What stands where no field writes.
@@ -47,7 +47,7 @@ fn put_field(kind: u16, input: &[u8], out: &mut [u8])
 // Writes the fields in order, a later one over an earlier one.
 pub fn put_fields(fields: &[u16], record: &[u8], out: &mut [u8])
     requires { ⌜ Fielded (now fields) (length (now «record»)) (length (now out)) ⌝ }
-    ensures { λ _. ⌜ Writes (now (fields .entry)) (now («record» .entry)) (now (out .entry)) (now (out .exit)) ⌝ }
+    ensures { λ _. ⌜ FieldsWritten (now (fields .entry)) (now («record» .entry)) (now (out .entry)) (now (out .exit)) ⌝ }
 {
     let count = fields.len() / 5;
     let mut i = 0;

@@ -14,7 +14,7 @@ use Rattle.rules.proofs.HeaderSteps.{next-at}
 use Rattle.rules.proofs.ReelLaws.{header-is}
 use Rattle.rules.proofs.ReelSteps.{offset-most, blocks-step, block-at, length-block}
 use Rattle.rules.proofs.Tests.{never-true}
-use Rattle.reels.specs.Header.{headerOf, partAt}
+use Rattle.reels.specs.Header.{headerOf, blockPart}
 use Rattle.reels.specs.declared.HeaderRead.the-variants.{Reel, NoReel}
 
 pub no-reel : (s : List ℕ) → isReel s ≡ false → NoReel ≡ headerOf s
@@ -40,41 +40,41 @@ no-reel-told s e = never-true (isReel s) (λ t. let e′ : Reel (blockCount s) �
 
 -- ---- the parts between the offsets
 
-pub part-there : (s : List ℕ) (i : ℕ) → 4 * i + 12 ≤ length s → offsetAt s (suc i) ≤ length s → partAt s i ≡ slice (offsetAt s i) (offsetAt s (suc i)) s
-unfolding partAt
+pub part-there : (s : List ℕ) (i : ℕ) → 4 * i + 12 ≤ length s → offsetAt s (suc i) ≤ length s → blockPart s i ≡ slice (offsetAt s i) (offsetAt s (suc i)) s
+unfolding blockPart
 part-there s i l m = rw (le-leb (4 * i + 12) (length s) l, le-leb (offsetAt s (suc i)) (length s) m)
 
 -- the ways in which there is no part
-pub words-missing : (s : List ℕ) (i : ℕ) → length s < 4 * i + 12 → [] ≡ partAt s i
-unfolding partAt
+pub words-missing : (s : List ℕ) (i : ℕ) → length s < 4 * i + 12 → [] ≡ blockPart s i
+unfolding blockPart
 words-missing s i l = rw (lt-leb (4 * i + 12) (length s) l)
 
-pub part-outside : (s : List ℕ) (i e : ℕ) → 4 * i + 12 ≤ length s → e ≡ wordAt s (4 * i + 8) → length s < e → [] ≡ partAt s i
-unfolding partAt
+pub part-outside : (s : List ℕ) (i e : ℕ) → 4 * i + 12 ≤ length s → e ≡ wordAt s (4 * i + 8) → length s < e → [] ≡ blockPart s i
+unfolding blockPart
 part-outside s i e l n m = rw (le-leb (4 * i + 12) (length s) l, lt-leb (offsetAt s (suc i)) (length s) (omega (arith, next-at s i)))
 
-pub part-backwards : (s : List ℕ) (i a e : ℕ) → 4 * i + 12 ≤ length s → a ≡ wordAt s (4 * i + 4) → e ≡ wordAt s (4 * i + 8) → e ≤ length s → e < a → [] ≡ partAt s i
+pub part-backwards : (s : List ℕ) (i a e : ℕ) → 4 * i + 12 ≤ length s → a ≡ wordAt s (4 * i + 4) → e ≡ wordAt s (4 * i + 8) → e ≤ length s → e < a → [] ≡ blockPart s i
 part-backwards s i a e l f n m d =
     let o : offsetAt s (suc i) ≡ e = next-at s i ∙ sym n in
     let z : length (take (offsetAt s (suc i)) s) ≤ offsetAt s i = omega (arith, length-take (offsetAt s (suc i)) s) in
     sym (part-there s i l (omega arith) ∙ drop-of-length-le (take (offsetAt s (suc i)) s) {i = offsetAt s i} z)
 
 pub part-taken : (s : List ℕ) (i a e : ℕ) → 4 * i + 12 ≤ length s → a ≡ wordAt s (4 * i + 4) → e ≡ wordAt s (4 * i + 8) → e ≤ length s → a ≤ e
-    → take (e - a) (drop a s) ≡ partAt s i
+    → take (e - a) (drop a s) ≡ blockPart s i
 part-taken s i a e l f n m d =
     let o : offsetAt s (suc i) ≡ e = next-at s i ∙ sym n in
     sym (part-there s i l (omega arith) ∙ ap (λ (x : ℕ). slice (offsetAt s i) x s) o ∙ ap (λ (x : ℕ). slice x e s) (sym f) ∙ slice-part a e s d)
 
 -- block i of a reel is the part between offset i and offset i+1
-pub part-is : (s : List ℕ) (i : ℕ) → isReel s ≡ true → i < blockCount s → partAt s i ≡ slice (offsetAt s i) (offsetAt s (suc i)) s
+pub part-is : (s : List ℕ) (i : ℕ) → isReel s ≡ true → i < blockCount s → blockPart s i ≡ slice (offsetAt s i) (offsetAt s (suc i)) s
 part-is s i e l = part-there s i (omega (arith, header-is s e .there)) (omega (arith, offset-most s e (suc i) l))
 
-pub part-block : (s : List ℕ) (i : ℕ) → isReel s ≡ true → i < blockCount s → partAt s i ≡ getD (blocksOf s) i []
+pub part-block : (s : List ℕ) (i : ℕ) → isReel s ≡ true → i < blockCount s → blockPart s i ≡ getD (blocksOf s) i []
 part-block s i e l = part-is s i e l ∙ sym (block-at s e i l)
 
-pub part-length : (s : List ℕ) (i : ℕ) → isReel s ≡ true → i < blockCount s → length (partAt s i) ≡ offsetAt s (suc i) - offsetAt s i
+pub part-length : (s : List ℕ) (i : ℕ) → isReel s ≡ true → i < blockCount s → length (blockPart s i) ≡ offsetAt s (suc i) - offsetAt s i
 part-length s i e l = ap length (part-block s i e l) ∙ length-block s e i l
 
 -- the walk over the blocks
-pub part-step : (s : List ℕ) (i : ℕ) → isReel s ≡ true → i < blockCount s → drop i (blocksOf s) ≡ partAt s i ∷ drop (suc i) (blocksOf s)
+pub part-step : (s : List ℕ) (i : ℕ) → isReel s ≡ true → i < blockCount s → drop i (blocksOf s) ≡ blockPart s i ∷ drop (suc i) (blocksOf s)
 part-step s i e l = blocks-step s e i l ∙ ap (_∷ drop (suc i) (blocksOf s)) (sym (part-is s i e l))

@@ -18,8 +18,8 @@ use Rattle.terms.specs.Meaning.{formatOf}
 use Rattle.terms.specs.declared.Format.{Format}
 use Rattle.terms.specs.declared.Format.the-variants.{FF}
 use Rattle.pieces.specs.Form.{planBy}
-use Rattle.pieces.specs.Pieces.{startOf, pieceOf}
-use Rattle.reels.specs.Records.{countFrom, Counted, blockRead, Judged}
+use Rattle.pieces.specs.Pieces.{startOf, pieceReadOf}
+use Rattle.reels.specs.Records.{countFrom, PiecesCounted, blockRead, BlockSays}
 use Rattle.pieces.specs.declared.Form.{Form}
 use Rattle.pieces.specs.declared.Cursor.{Cursor}
 use Rattle.pieces.specs.declared.StartRead.the-variants.{From, NoStart}
@@ -54,14 +54,14 @@ counting-start form b from = record { same = refl; few = omega arith; most = ome
 
 module _ {form : Form} {b : List ℕ} {from at count : ℕ} (w : Counting form b from at count) where
   -- what is left is what the reading at this place says
-  counting-read : (r : PieceRead) → pieceOf form b at ≡ r
+  counting-read : (r : PieceRead) → pieceReadOf form b at ≡ r
       → countFrom (leastData (planBy form)) 0 (piecesAt (formatOf (form .format)) (form .n) b from) ≡ countFrom (leastData (planBy form)) count (followed (formatOf (form .format)) (form .n) b r)
   counting-read r e = w .same ∙ ap (countFrom (leastData (planBy form)) count) (pieces-read (formatOf (form .format)) (form .n) b at ∙ ap (followed (formatOf (form .format)) (form .n) b) e)
 
-  pub counting-further : (r : PieceRead) → pieceOf form b at ≡ r → further at (length b) r
+  pub counting-further : (r : PieceRead) → pieceReadOf form b at ≡ r → further at (length b) r
   counting-further r e = subst (further at (length b)) e (piece-further (formatOf (form .format)) (form .n) b at)
 
-  module _ (place size third : ℕ) (next : Cursor) (e : pieceOf form b at ≡ Found place size third next) where
+  module _ (place size third : ℕ) (next : Cursor) (e : pieceReadOf form b at ≡ Found place size third next) where
     pub counting-step : leastData (planBy form) ≤ size → Counting form b from (next .at) (count + 1)
     counting-step l =
         let g = counting-further (Found place size third next) e in
@@ -72,7 +72,7 @@ module _ {form : Form} {b : List ℕ} {from at count : ℕ} (w : Counting form b
           most = omega (arith, w .few, g);
         }
 
-    pub counting-short : size < leastData (planBy form) → Counted form b from Breaks
+    pub counting-short : size < leastData (planBy form) → PiecesCounted form b from Breaks
     counting-short l =
         let x : Piece = record { place = place; size = size; third = third } in
         record {
@@ -80,14 +80,14 @@ module _ {form : Form} {b : List ℕ} {from at count : ℕ} (w : Counting form b
           most = omega arith;
         }
 
-  pub counting-bad : pieceOf form b at ≡ Bad → Counted form b from Breaks
+  pub counting-bad : pieceReadOf form b at ≡ Bad → PiecesCounted form b from Breaks
   counting-bad e = record { is = sym (counting-read Bad e); most = omega arith }
 
-  module _ (e : pieceOf form b at ≡ End) where
-    pub counting-none : count ≡ 0 → Counted form b from Breaks
+  module _ (e : pieceReadOf form b at ≡ End) where
+    pub counting-none : count ≡ 0 → PiecesCounted form b from Breaks
     counting-none z = record { is = sym (counting-read End e ∙ rw (eq-eqb (count + 0) 0 (omega arith))); most = omega arith }
 
-    pub counting-end : (count ≡ 0 → ⊥) → Counted form b from (Records count)
+    pub counting-end : (count ≡ 0 → ⊥) → PiecesCounted form b from (Records count)
     counting-end z =
         let q : count + 0 ≡ count = omega arith in
         record { is = sym (counting-read End e ∙ rw (q, ne-eqb count 0 z)); most = w .most }
@@ -117,13 +117,13 @@ module _ (form : Form) (b : List ℕ) (full : 1 ≤ length b) where
   unfolding recordsIn planBy
   count-is = count-meets (planBy form) b (piecesIn (formatOf (form .format)) (form .n) b) ∙ rw (pieces-begun (formatOf (form .format)) (form .n) b full)
 
-  pub judged-long : form .m < length b → Judged form b Breaks
+  pub judged-long : form .m < length b → BlockSays form b Breaks
   judged-long l = record { is = sym (count-is ∙ rw (lt-leb (length b) (form .m) l)); most = omega arith }
 
-  pub judged-counted : (c : Cursor) (r : BlockRead) → length b ≤ form .m → startOf form b ≡ From c → Counted form b (c .at) r → Judged form b r
+  pub judged-counted : (c : Cursor) (r : BlockRead) → length b ≤ form .m → startOf form b ≡ From c → PiecesCounted form b (c .at) r → BlockSays form b r
   judged-counted c r l s w = record { is = w .is ∙ sym (count-is ∙ rw (le-leb (length b) (form .m) l, s)); most = w .most }
 
-  pub judged-no-start : length b ≤ form .m → startOf form b ≡ NoStart → Judged form b Breaks
+  pub judged-no-start : length b ≤ form .m → startOf form b ≡ NoStart → BlockSays form b Breaks
   judged-no-start l s = record { is = sym (count-is ∙ rw (le-leb (length b) (form .m) l, s)); most = omega arith }
 
 -- ---- in FF the pieces of n bytes are counted by a division
@@ -155,13 +155,13 @@ module _ (form : Form) (b : List ℕ) (f : form .format ≡ FF) (full : 1 ≤ le
       count-meets (planBy form) b (piecesIn (formatOf (form .format)) (form .n) b)
       ∙ rw (le-leb (length b) (form .m) short) (ap (λ (g : Format). countFrom (leastData (planBy form)) 0 (piecesIn (formatOf g) (form .n) b)) f)
 
-  pub divided-over : (length b % form .n ≡ 0 → ⊥) → Judged form b Breaks
+  pub divided-over : (length b % form .n ≡ 0 → ⊥) → BlockSays form b Breaks
   divided-over z = record { is = sym (fixed-is ∙ rw (ne-eqb (length b % form .n) 0 z)); most = omega arith }
 
-  pub divided-none : form .n ≡ 0 → Judged form b Breaks
+  pub divided-none : form .n ≡ 0 → BlockSays form b Breaks
   divided-none e = divided-over (λ z. let q : length b % form .n ≡ length b = ap (length b %_) e ∙ mod-zero (length b) in omega arith)
 
-  pub divided-even : (form .n ≡ 0 → ⊥) → length b % form .n ≡ 0 → Judged form b (Records (length b / form .n))
+  pub divided-even : (form .n ≡ 0 → ⊥) → length b % form .n ≡ 0 → BlockSays form b (Records (length b / form .n))
   divided-even o z =
       let n = form .n in
       let k = length b / n in

@@ -16,8 +16,8 @@ use Rattle.rules.specs.ReelPlaces.{offsetAt}
 use Rattle.rules.proofs.ReelSteps.{offset-most, offset-rises, blocks-end}
 use Rattle.rules.proofs.TakenLaws.{after, after-none, blocks-good, blocks-bad}
 use Rattle.pieces.specs.Form.{planBy}
-use Rattle.reels.specs.Header.{headerOf, partAt}
-use Rattle.reels.specs.Records.{blockRead, Judged, reelRead, ReadAs}
+use Rattle.reels.specs.Header.{headerOf, blockPart}
+use Rattle.reels.specs.Records.{blockRead, BlockSays, reelRead, ReadAs}
 use Rattle.pieces.specs.declared.Form.{Form}
 use Rattle.reels.specs.declared.HeaderRead.the-variants.{Reel, NoReel}
 use Rattle.reels.specs.declared.BlockRead.the-variants.{Records, Breaks}
@@ -102,40 +102,40 @@ module _ {form : Form} {s : List ℕ} {blocks records i : ℕ} (w : Reading form
     here = let c = w .count in omega arith
 
     -- block i
-    left : recordsFrom p (suc i) (drop i (blocksOf s)) ≡ recordsFrom p (suc i) (partAt s i ∷ drop (suc i) (blocksOf s))
+    left : recordsFrom p (suc i) (drop i (blocksOf s)) ≡ recordsFrom p (suc i) (blockPart s i ∷ drop (suc i) (blocksOf s))
     left = ap (recordsFrom p (suc i)) (part-step s i (w .reel) here)
 
     -- it is not empty, since the offsets rise
-    pub part-full : 1 ≤ length (partAt s i)
+    pub part-full : 1 ≤ length (blockPart s i)
     part-full = omega (arith, part-length s i (w .reel) here, offset-rises s (w .reel) i here)
 
     -- its records are counted
-    pub reading-step : (k : ℕ) → Judged form (partAt s i) (Records k) → Reading form s blocks (records + k) (i + 1)
+    pub reading-step : (k : ℕ) → BlockSays form (blockPart s i) (Records k) → Reading form s blocks (records + k) (i + 1)
     reading-step k j =
         record {
           reel = w .reel;
           count = w .count;
           inside = omega arith;
           few = subst (λ (n : ℕ). records + k ≤ offsetAt s n) (sym (add-one i)) (omega (arith, w .few, j .most, part-length s i (w .reel) here, offset-rises s (w .reel) i here));
-          same = step (block-some (recordsIn p (partAt s i)) k (j .is));
+          same = step (block-some (recordsIn p (blockPart s i)) k (j .is));
         }
       where
-        step : (rs : List (List ℕ)) × (recordsIn p (partAt s i) ≡ some rs) × (k ≡ length rs)
+        step : (rs : List (List ℕ)) × (recordsIn p (blockPart s i) ≡ some rs) × (k ≡ length rs)
             → reelRead p s ≡ countedFrom (i + 1) (records + k) (recordsFrom p (suc (i + 1)) (drop (i + 1) (blocksOf s)))
         step (rs, e, n) =
             let bs = drop (suc i) (blocksOf s) in
             w .same
-            ∙ ap (countedFrom i records) (left ∙ sym (after-none (recordsFrom p (suc i) (partAt s i ∷ bs))) ∙ blocks-good p [] (suc i) (partAt s i) bs rs e)
+            ∙ ap (countedFrom i records) (left ∙ sym (after-none (recordsFrom p (suc i) (blockPart s i ∷ bs))) ∙ blocks-good p [] (suc i) (blockPart s i) bs rs e)
             ∙ read-more i records rs (recordsFrom p (suc (suc i)) bs)
             ∙ ap₂ (λ (m x : ℕ). countedFrom (i + 1) (records + m) (recordsFrom p (suc x) (drop x (blocksOf s)))) (sym n) (sym (add-one i))
 
     -- it breaks its rule
-    pub reading-bad : Judged form (partAt s i) Breaks → ReadAs form s (BadBlock (i + 1))
+    pub reading-bad : BlockSays form (blockPart s i) Breaks → ReadAs form s (BadBlock (i + 1))
     reading-bad j =
         let bs = drop (suc i) (blocksOf s) in
-        let bad = blocks-bad p [] (suc i) (partAt s i) bs (block-none (recordsIn p (partAt s i)) (j .is)) in
+        let bad = blocks-bad p [] (suc i) (blockPart s i) bs (block-none (recordsIn p (blockPart s i)) (j .is)) in
         record {
-          is = sym (w .same ∙ ap (countedFrom i records) (left ∙ sym (after-none (recordsFrom p (suc i) (partAt s i ∷ bs))) ∙ bad)
+          is = sym (w .same ∙ ap (countedFrom i records) (left ∙ sym (after-none (recordsFrom p (suc i) (blockPart s i ∷ bs))) ∙ bad)
               ∙ read-refused i records (suc i) ∙ ap (λ (n : ℕ). refused 12 n) (sym (add-one i)));
           most = omega arith;
         }

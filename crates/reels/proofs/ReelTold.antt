@@ -23,8 +23,8 @@ use Rattle.rules.proofs.RecordSteps.{fixed-pos, records-next, records-done, siz
 use Rattle.rules.proofs.ReelLaws.{length-blocks}
 use Rattle.rules.proofs.PieceLaws.{refused-block, read-at}
 use Rattle.pieces.specs.Form.{FormIs}
-use Rattle.reels.specs.Header.{partAt}
-use Rattle.pieces.specs.Pieces.{startIn, startOf, pieceIn, pieceOf}
+use Rattle.reels.specs.Header.{blockPart}
+use Rattle.pieces.specs.Pieces.{startIn, startOf, pieceIn, pieceReadOf}
 use Rattle.reels.specs.Records.{answerOf, reelRead, ReadAs}
 use Rattle.pieces.specs.declared.Form.{Form}
 use Rattle.pieces.specs.declared.StartRead.{StartRead}
@@ -77,7 +77,7 @@ tells form p h s r w = go (isReel s) refl (recordsFrom p 1 (blocksOf s)) refl
 
 -- block i is read as its records
 pub part-read : (p : Plan) (s : List ℕ) (bs : List (List (List ℕ))) → isReel s ≡ true → recordsFrom p 1 (blocksOf s) ≡ fine bs → (i : ℕ) → i < blockCount s
-    → recordsIn p (partAt s i) ≡ some (getD bs i [])
+    → recordsIn p (blockPart s i) ≡ some (getD bs i [])
 part-read p s bs t e i l = ap (recordsIn p) (part-block s i t l) ∙ read-at p 1 (blocksOf s) bs e i (omega (arith, length-blocks s t))
 
 -- ---- a block that is read as some records
@@ -104,7 +104,7 @@ module _ (form : Form) (p : Plan) (h : FormIs form p) (w : Accepted p) (b : List
           let x : recordsAt p b (cost (p .format)) ≡ some rs = rw t at (sym (records-start p w b) ∙ e) in
           subst (Starts p b rs) (start-good (p .format) b g ∙ ap (λ f. startIn f b) (sym (h .format))) x
 
-  pub goes-on : (i : ℕ) → recordsAt p b i ≡ some rs → GoesOn p b rs (pieceOf form b i)
+  pub goes-on : (i : ℕ) → recordsAt p b i ≡ some rs → GoesOn p b rs (pieceReadOf form b i)
   goes-on i e = subst (GoesOn p b rs) (ap₂ (λ f n. pieceIn f n b i) (sym (h .format)) (sym (h .n))) (go (leb (length b) i) refl)
     where
       go : (t : Bool) → leb (length b) i ≡ t → GoesOn p b rs (pieceIn (p .format) (recordLength (p .input)) b i)

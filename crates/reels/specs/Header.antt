@@ -16,8 +16,8 @@ headerOf s = cond (isReel s) (Reel (blockCount s)) NoReel
 
 -- the part between offset i and offset i+1: empty where the two words are not there, or where the second is past the end
 -- (or below the first)
-unfoldable pub partAt : List ℕ → ℕ → List ℕ
-partAt s i =
+unfoldable pub blockPart : List ℕ → ℕ → List ℕ
+blockPart s i =
     cond (leb (4 * i + 12) (length s) && leb (offsetAt s (suc i)) (length s))
     (slice (offsetAt s i) (offsetAt s (suc i)) s)
     []

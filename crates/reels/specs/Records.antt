@@ -32,7 +32,7 @@ abbrev pub countOf : BlockRead → ℕ
 countOf (Records k) = k
 countOf Breaks = 0
 
-pub record Counted (form : Form) (b : List ℕ) (from : ℕ) (r : BlockRead) : Type 0 where
+pub record PiecesCounted (form : Form) (b : List ℕ) (from : ℕ) (r : BlockRead) : Type 0 where
   pub is : r ≡ countFrom (leastData (planBy form)) 0 (piecesAt (formatOf (form .format)) (form .n) b from)
   pub most : countOf r ≤ length b
 
@@ -42,7 +42,7 @@ blockRead none = Breaks
 blockRead (some rs) = Records (length rs)
 
 -- the answer is that of the rules; no block has more records than bytes
-pub record Judged (form : Form) (b : List ℕ) (r : BlockRead) : Type 0 where
+pub record BlockSays (form : Form) (b : List ℕ) (r : BlockRead) : Type 0 where
   pub is : r ≡ blockRead (recordsIn (planBy form) b)
   pub most : countOf r ≤ length b
 
@@ -61,12 +61,12 @@ reelRead p s = do
   bs ← recordsFrom p 1 (blocksOf s)
   fine (length bs, length (joined bs))
 
-abbrev pub recordsOf : ReelRead → ℕ
-recordsOf (Read blocks records) = records
-recordsOf NotReel = 0
-recordsOf (BadBlock i) = 0
+abbrev pub recordCount : ReelRead → ℕ
+recordCount (Read blocks records) = records
+recordCount NotReel = 0
+recordCount (BadBlock i) = 0
 
 -- the answer is that of the rules; no reel has more records than bytes
 pub record ReadAs (form : Form) (s : List ℕ) (r : ReelRead) : Type 0 where
   pub is : answerOf r ≡ reelRead (planBy form) s
-  pub most : recordsOf r ≤ length s
+  pub most : recordCount r ≤ length s

@@ -5,8 +5,8 @@ ghost use Prim.Native.Nat.{_≤_};
 ghost use lib.ListN.{length};
 ghost use Rattle.rules.specs.Blocks.{leastData};
 ghost use Rattle.pieces.specs.Form.{planBy};
-ghost use Rattle.reels.specs.Header.{headerOf, partAt};
-ghost use Rattle.reels.specs.Records.{Counted, Judged, ReadAs};
+ghost use Rattle.reels.specs.Header.{headerOf, blockPart};
+ghost use Rattle.reels.specs.Records.{PiecesCounted, BlockSays, ReadAs};
 use pieces::Cursor;
 use pieces::Form;
 use pieces::PieceRead;
@@ -56,7 +56,7 @@ pub fn header(s: &[u8]) -> HeaderRead
 
 // The part of a reel from offset i to offset i+1, i from 0: block i. It is empty where the two offsets are not there or do not name a part.
 pub fn block(s: &[u8], i: usize) -> &[u8]
-    ensures { λ r. ⌜ now r ≡ partAt (now (s .entry)) i ⌝ }
+    ensures { λ r. ⌜ now r ≡ blockPart (now (s .entry)) i ⌝ }
 {
     let end = s.len();
     if end < 12 {
@@ -101,7 +101,7 @@ fn least_data(form: Form) -> usize
 
 // The pieces from a place on are counted; each has the least data or more, and there is one.
 fn counted(form: Form, b: &[u8], from: Cursor) -> BlockRead
-    ensures { λ r. ⌜ Counted form (now (b .entry)) (from .at) r ⌝ }
+    ensures { λ r. ⌜ PiecesCounted form (now (b .entry)) (from .at) r ⌝ }
 {
     let least = least_data(form);
     let mut at = from.at;
@@ -136,7 +136,7 @@ fn counted(form: Form, b: &[u8], from: Cursor) -> BlockRead
 fn divided(form: Form, b: &[u8]) -> BlockRead
     requires { ⌜ form .format ≡ Format.FF ⌝ }
     requires { ⌜ (1 ≤ length (now b)) × (length (now b) ≤ form .m) ⌝ }
-    ensures { λ r. ⌜ Judged form (now (b .entry)) r ⌝ }
+    ensures { λ r. ⌜ BlockSays form (now (b .entry)) r ⌝ }
 {
     let n = form.n;
     let size = b.len();
@@ -153,7 +153,7 @@ fn divided(form: Form, b: &[u8]) -> BlockRead
 // The pieces of a block, from its start on.
 fn walked(form: Form, b: &[u8]) -> BlockRead
     requires { ⌜ (1 ≤ length (now b)) × (length (now b) ≤ form .m) ⌝ }
-    ensures { λ r. ⌜ Judged form (now (b .entry)) r ⌝ }
+    ensures { λ r. ⌜ BlockSays form (now (b .entry)) r ⌝ }
 {
     let from = pieces::start(form, b);
     match from {
@@ -165,7 +165,7 @@ fn walked(form: Form, b: &[u8]) -> BlockRead
 // Whether a block obeys its rule, wherever it stands: at most m (or g) bytes, and what it holds are records; and how many it has. No block of a reel is empty.
 fn rule(form: Form, b: &[u8]) -> BlockRead
     requires { ⌜ 1 ≤ length (now b) ⌝ }
-    ensures { λ r. ⌜ Judged form (now (b .entry)) r ⌝ }
+    ensures { λ r. ⌜ BlockSays form (now (b .entry)) r ⌝ }
 {
     if b.len() > form.m {
         return BlockRead::Breaks;

@@ -5,7 +5,7 @@ use Prim.Native.Nat.{ℕ, _+_, _*_}
 use native.Mathlib.Omega.{arith}
 use lib.ListN.{length, length-append}
 use Rattle.rules.specs.Base.{joined}
-use Rattle.rules.specs.Reel.{word, ends}
+use Rattle.rules.specs.Reel.{word, offsetWords}
 use Rattle.rules.proofs.WordLaws.{length-word}
 
 -- the offsets at which blocks start, where the first starts at a
@@ -26,8 +26,8 @@ heads-snoc a (x ∷ bs) b =
     ∙ ap (λ (k : ℕ). heads (a + length x) bs ++ word k) (let z : a + length x + length (joined bs) ≡ a + length (x ++ joined bs) = omega (arith, length-append x (joined bs)) in z))
     ∙ sym (append-assoc (word a) (heads (a + length x) bs) (word (a + length (x ++ joined bs))))
 
--- and the last offset says where the last block ends
-pub heads-ends : (a : ℕ) (bs : List (List ℕ)) → heads a bs ++ word (a + length (joined bs)) ≡ ends a bs
+-- and the last offset says where the last block offsetWords
+pub heads-ends : (a : ℕ) (bs : List (List ℕ)) → heads a bs ++ word (a + length (joined bs)) ≡ offsetWords a bs
 heads-ends a [] = ap word (let z : a + 0 ≡ a = omega arith in z)
 heads-ends a (x ∷ bs) =
     append-assoc (word a) (heads (a + length x) bs) (word (a + length (x ++ joined bs)))

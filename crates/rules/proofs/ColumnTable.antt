@@ -20,9 +20,9 @@ use Rattle.rules.specs.Grammar.{Parameter, Item, uOperand, fsOperand}
 use Rattle.rules.specs.Words.{Worded, uWords, fsWords, againColumn, numberColumns, outsideColumn}
 use Rattle.rules.specs.Texts.{UText, FsText}
 use Rattle.rules.specs.Columns.{NoWay, RightTo}
-use Rattle.rules.specs.Asked.{grammatical, itemsFrom, cardsOf, letter, distinct, fieldsOf, cvs, sameLetter, cvColumn, upTo, once, Given, given, need, Utility, complete, utilityLimits, fieldLimits, parameterNumbers, fieldColumn, limits, Asked, askedOf}
+use Rattle.rules.specs.Asked.{grammatical, itemsFrom, cardsOf, letter, distinct, fieldsOf, cvs, sameLetter, cvColumn, upTo, once, GivenParameters, given, need, Utility, complete, utilityLimits, fieldLimits, parameterNumbers, fieldColumn, limits, Asked, askedOf}
 use Rattle.rules.specs.Plan.{assembled, barrenHalf, combined, planOf}
-use Rattle.rules.specs.Rows.{Operands, Alike, Twice, Complete, Row, Done, GivenBy}
+use Rattle.rules.specs.Rows.{OperandsAre, Alike, Twice, Complete, Row, Done, GivenBy}
 use Rattle.rules.specs.RunRows.{RowInto, RowRun}
 use Rattle.rules.specs.Run.{runOf}
 use Rattle.rules.specs.Lent.{zoneF, plan, planInto}
@@ -120,7 +120,7 @@ module _ (deck : List ℕ) where
   columned-need none = lowest-zero
   columned-need (some a) = tt
 
-  columned-complete : (g : Given) → Columned (complete g)
+  columned-complete : (g : GivenParameters) → Columned (complete g)
   unfolding complete
   columned-complete g =
       columned-bind (need (g .mode)) _ (columned-need (g .mode)) (λ a e.
@@ -130,9 +130,9 @@ module _ (deck : List ℕ) where
 
   -- ---- rows 3, 4 and 7 speak of the operands of the deck
 
-  module _ (os : Ordered) (o : Operands deck (os .before) (os .u) (os .fs)) where
+  module _ (os : Ordered) (o : OperandsAre deck (os .before) (os .u) (os .fs)) where
     -- what holds of the operands of the deck holds of these
-    own : (W : ℕ → List ℕ → List (List ℕ) → Type 0) (b : ℕ) (u : List ℕ) (fs : List (List ℕ)) → Operands deck b u fs → W b u fs → W (os .before) (os .u) (os .fs)
+    own : (W : ℕ → List ℕ → List (List ℕ) → Type 0) (b : ℕ) (u : List ℕ) (fs : List (List ℕ)) → OperandsAre deck b u fs → W b u fs → W (os .before) (os .u) (os .fs)
     own W b u fs t x =
         let w = operands-same deck b (os .before) u (os .u) fs (os .fs) t o in
         subst (λ (z : ℕ). W z (os .u) (os .fs)) (w .0) (subst (λ (z : List ℕ). W b z (os .fs)) (w .1) (subst (λ (z : List (List ℕ)). W b u z) (w .2) x))

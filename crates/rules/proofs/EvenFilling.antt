@@ -14,7 +14,7 @@ use borrow.Author.Tests.{leb-true, leb-false, lt-ltb, le-ltb}
 use Rattle.rules.specs.Base.{joined}
 use Rattle.rules.specs.Places.{All, noMore, also}
 use Rattle.rules.specs.Grammar.{ff}
-use Rattle.rules.specs.Reel.{word, ends}
+use Rattle.rules.specs.Reel.{word, offsetWords}
 use Rattle.rules.specs.Output.{blockOf, total, fill, filled}
 use Rattle.rules.specs.EvenRecords.{stepped}
 use Rattle.rules.proofs.AllLaws.{all-take, all-drop}
@@ -88,7 +88,7 @@ none-ends f step at w =
     sym (stepped-end f step at (at + 0 * w) (omega arith) ∙ ap word e)
 
 pub filled-ends : (limit w per : ℕ) → 1 ≤ w → 1 ≤ per → per * w ≤ limit → limit < per * w + w → (f at : ℕ) (rs : List (List ℕ)) → length rs ≤ f
-    → All (λ r. length r ≡ w) rs → ends at (map (blockOf ff) (filled limit 0 0 rs)) ≡ stepped f (per * w) at (at + length rs * w)
+    → All (λ r. length r ≡ w) rs → offsetWords at (map (blockOf ff) (filled limit 0 0 rs)) ≡ stepped f (per * w) at (at + length rs * w)
 filled-ends limit w per some one fit full zero at [] l a = none-ends zero (per * w) at w
 filled-ends limit w per some one fit full zero at (r ∷ rs) l a = absurd (omega arith)
 filled-ends limit w per some one fit full (suc f) at [] l a = none-ends (suc f) (per * w) at w
@@ -99,7 +99,7 @@ filled-ends limit w per some one fit full (suc f) at (r ∷ rs) l a =
     let end : next + length (drop per all) * w ≡ at + length all * w =
     omega (arith, first, add-mul (length (take per all)) (length (drop per all)) w, ap (λ (n : ℕ). n * w) (parts all)) in
     rw (lt-ltb at (at + length all * w) (omega (arith, suc-mul (length rs) w)))
-    (ap (λ (bs : List (List (List ℕ))). ends at (map (blockOf ff) bs)) (filled-step limit 0 0 w per one (omega arith) (omega arith) all (omega arith) a)
+    (ap (λ (bs : List (List (List ℕ))). offsetWords at (map (blockOf ff) bs)) (filled-step limit 0 0 w per one (omega arith) (omega arith) all (omega arith) a)
     ∙ ap (word at ++_)
     (filled-ends limit w per some one fit full f next (drop per all) (omega (arith, length-drop per all)) (all-drop per a)
     ∙ ap (λ (n : ℕ). stepped f (per * w) next n) end
@@ -133,5 +133,5 @@ module _ (limit w : ℕ) (some : 1 ≤ w) (holds : w ≤ limit) where
   even-count = filled-count limit 0 0 w (limit / w) per-one (omega (arith, per-fit)) (omega (arith, per-full))
 
   pub even-ends : (f at : ℕ) (rs : List (List ℕ)) → length rs ≤ f → All (λ r. length r ≡ w) rs
-      → ends at (map (blockOf ff) (filled limit 0 0 rs)) ≡ stepped f (limit / w * w) at (at + length rs * w)
+      → offsetWords at (map (blockOf ff) (filled limit 0 0 rs)) ≡ stepped f (limit / w * w) at (at + length rs * w)
   even-ends = filled-ends limit w (limit / w) some per-one per-fit per-full

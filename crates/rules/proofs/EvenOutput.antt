@@ -1,4 +1,4 @@
--- The output of FF, as code finds it: its bytes are the outputs joined, in TF a block ends where its input block does, and in TR and TRF every block but the last holds as many
+-- The output of FF, as code finds it: its bytes are the outputs joined, in TF a block offsetWords where its input block does, and in TR and TRF every block but the last holds as many
 -- records as fit. By the laws of records of equal length.
 use mathlib.Core.Path.{_≡_, refl, ap, ap₂, sym, _∙_}
 use mathlib.Core.Bool.{true, false, true≢false}
@@ -11,7 +11,7 @@ use Rattle.rules.specs.Base.{joined}
 use Rattle.rules.specs.Answer.{fine}
 use Rattle.rules.specs.Places.{All, Both}
 use Rattle.rules.specs.Grammar.{Mode, tc, tf, tr, trf, Format, ff}
-use Rattle.rules.specs.Reel.{word, blockCount, firstOffset, offsets, isReel, blocksOf, ends}
+use Rattle.rules.specs.Reel.{word, blockCount, firstOffset, offsets, isReel, blocksOf, offsetWords}
 use Rattle.rules.specs.Plan.{Plan, isTC, isTF, recordLength, blockLength}
 use Rattle.rules.specs.Blocks.{recordsFrom, takenAfter, takenFrom}
 use Rattle.rules.specs.Output.{outRecord, blockOf, cost, filled, nonEmpty, filledB, blocked}
@@ -96,18 +96,18 @@ module _ (p : Plan) (ok : Accepted p) (t : p .format ≡ ff) (s : List ℕ) (r :
     outs-all : {bs : List (List ℕ)} {rs : List (List (List ℕ))} → Both (EvenBlock n) bs rs → All (All (λ x. length (outRecord p x) ≡ w)) rs
     outs-all h = both-second (λ b rs v. all-imply (fixed-output p ok t) (v .even .each)) h
 
-    -- a block for each input block that ends behind that place
+    -- a block for each input block that offsetWords behind that place
     pub each-count : length (outputBlocks p recs) ≡ countBehind from (offsets s)
     each-count =
         ap length blocks-are
         ∙ taken-count n least (outRecord p) from (firstOffset s) (p .first - 1) (blocks-even p t 1 (blocksOf s) recs e) skipped
         ∙ ap (countBehind from) (sym (offsets-after s r))
 
-    pub each-ends : (a : ℕ) → ends a (map (blockOf (p .format)) (outputBlocks p recs)) ≡ word a ++ endsBehind n w from a (offsets s)
+    pub each-ends : (a : ℕ) → offsetWords a (map (blockOf (p .format)) (outputBlocks p recs)) ≡ word a ++ endsBehind n w from a (offsets s)
     each-ends a =
         let h = blocks-even p t 1 (blocksOf s) recs e in
         let z : a ≡ a + 0 * w = omega (arith, zero-mul w) in
-        ap₂ (λ (f : Format) (bs : List (List (List ℕ))). ends a (map (blockOf f) bs)) t blocks-are
+        ap₂ (λ (f : Format) (bs : List (List (List ℕ))). offsetWords a (map (blockOf f) bs)) t blocks-are
         ∙ ends-words a (map joined (nonEmpty (map (map (outRecord p)) (takenAfter (p .first - 1) recs))))
         ∙ ap (word a ++_)
         (ap (λ (k : ℕ). unwords (nexts k (map joined (nonEmpty (map (map (outRecord p)) (takenAfter (p .first - 1) recs)))))) z
@@ -136,8 +136,8 @@ module _ (p : Plan) (ok : Accepted p) (t : p .format ≡ ff) (s : List ℕ) (r :
         ∙ even-count limit w output-least (output-fits p ok t) (map (outRecord p) taken) outs-even
         ∙ ap (λ (k : ℕ). (k + limit / w - 1) / (limit / w)) (length-map taken (outRecord p))
 
-    pub filled-ends : (f a : ℕ) → length taken ≤ f → ends a (map (blockOf (p .format)) (outputBlocks p recs)) ≡ stepped f (limit / w * w) a (a + length taken * w)
+    pub filled-ends : (f a : ℕ) → length taken ≤ f → offsetWords a (map (blockOf (p .format)) (outputBlocks p recs)) ≡ stepped f (limit / w * w) a (a + length taken * w)
     filled-ends f a l =
-        ap₂ (λ (g : Format) (bs : List (List (List ℕ))). ends a (map (blockOf g) bs)) t filled-are
+        ap₂ (λ (g : Format) (bs : List (List (List ℕ))). offsetWords a (map (blockOf g) bs)) t filled-are
         ∙ even-ends limit w output-least (output-fits p ok t) f a (map (outRecord p) taken) (omega (arith, length-map taken (outRecord p))) outs-even
         ∙ ap (λ (k : ℕ). stepped f (limit / w * w) a (a + k * w)) (length-map taken (outRecord p))

@@ -14,7 +14,7 @@ use Rattle.rules.specs.Answer.{Answer, fine, refuse, refusalOf, placeOf,
 use Rattle.rules.specs.Places.{All, Both, Byte}
 use Rattle.rules.specs.Grammar.{Mode, tc, tf, tr, trf}
 use Rattle.rules.specs.Plan.{Plan, planOf, isTC, isFS, blockLength}
-use Rattle.rules.specs.Run.{Ran, outBlocks, ranOf, housed, convert, runOf, outputBlocks}
+use Rattle.rules.specs.Run.{RunOutput, outBlocks, ranOf, housed, convert, runOf, outputBlocks}
 use Rattle.rules.specs.Rows.{Done}
 use Rattle.rules.specs.ColumnRows.{Answered}
 use Rattle.rules.specs.InWords.{OutputOf}
@@ -263,7 +263,7 @@ module _ (zone : ℕ) (deck : List ℕ) (p : Plan) (e : planOf zone deck ≡ fin
   their-records s rs h = ap foreign (records-read (underB p) (underB-accepted p okay) s rs h)
 
   -- a finished run: its output records are ours, and its reel gives them under B
-  own-records : (room : ℕ) (s : List ℕ) (x : Ran) → All Byte s → runOf zone room deck s ≡ fine x
+  own-records : (room : ℕ) (s : List ℕ) (x : RunOutput) → All Byte s → runOf zone room deck s ≡ fine x
       → (outs : List (List ℕ)) × (ourRecords p s ≡ fine outs) × Records (underB p) (x .reel) outs
   unfolding convert
   own-records room s x a d = go (isFS (p .format)) refl

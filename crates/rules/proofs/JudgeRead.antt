@@ -18,7 +18,7 @@ use Rattle.rules.specs.Plan.{Plan, isTC, isFS, selects, blockLength}
 use Rattle.rules.specs.Blocks.{recordsIn, recordsFrom}
 use Rattle.rules.specs.Output.{blockOf}
 use Rattle.rules.specs.Spanned.{spannedFrom, BadSpan}
-use Rattle.rules.specs.Run.{Ran, outBlocks, ranOf, housed, convert, spannedOut, spannedRan, spannedRun, conversion}
+use Rattle.rules.specs.Run.{RunOutput, outBlocks, ranOf, housed, convert, spannedOut, spannedRan, spannedRun, conversion}
 use Rattle.rules.specs.RunRows.{BadBlock, BadIn}
 use Rattle.rules.specs.InWords.{OutputOf}
 use Rattle.rules.specs.Taken.{Records, of-blocks, of-spans, Takes}
@@ -174,7 +174,7 @@ module _ {A B C : Type 0} where
       (s2 .0, fine-then t (x >>= g) (s1 .0) ∙ fine-bind x g (s2 .0) (s2 .1))
 
 -- every reel has a header, for which there is no room
-housed-none : (x : Ran) (bs : List (List ℕ)) → x .reel ≡ reelOf bs → housed 0 x ≡ refused 15 (length (x .reel))
+housed-none : (x : RunOutput) (bs : List (List ℕ)) → x .reel ≡ reelOf bs → housed 0 x ≡ refused 15 (length (x .reel))
 unfolding housed unless _>>_
 housed-none x bs e = rw (lt-leb (length (x .reel)) 0 (omega (arith, ap length e, length-reel bs)))
 

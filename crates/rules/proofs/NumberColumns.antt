@@ -18,7 +18,7 @@ use Rattle.rules.specs.Deck.{beforeFS}
 use Rattle.rules.specs.Halves.{Kind}
 use Rattle.rules.specs.Grammar.{Format, Size, Input, Start, Parameter, inputIs, outputIs, firstIs, Item, field, cv}
 use Rattle.rules.specs.Words.{numberColumns, Limit, limit, withinLimits, outsideColumn}
-use Rattle.rules.specs.Texts.{Digit, NumberText, ListText, RestText, SizeText, InputText, ParameterText, UText, StartText, KindText, ItemText, FsText}
+use Rattle.rules.specs.Texts.{DigitByte, NumberText, ListText, RestText, SizeText, InputText, ParameterText, UText, StartText, KindText, ItemText, FsText}
 use Rattle.rules.specs.Asked.{Utility, utilityLimits, fieldLimits, fieldsOf, sizeNumbers, inputNumbers, parameterNumbers, kindNumbers, itemNumbers, fieldColumn}
 use Rattle.rules.specs.Rows.{IsR, Complete}
 use Rattle.rules.specs.ColumnRows.{Outside, this-number, later-number, NumberOn, number-here, number-later, Lowest}
@@ -50,14 +50,14 @@ runs-ends : {y : List ℕ} → Ends y → runValues true y ≡ runValues false y
 runs-ends at-end = refl
 runs-ends (before d f) = rw d
 
-runs-digits : {x : List ℕ} (y : List ℕ) → All Digit x → runValues true (x ++ y) ≡ runValues true y
+runs-digits : {x : List ℕ} (y : List ℕ) → All DigitByte x → runValues true (x ++ y) ≡ runValues true y
 runs-digits y noMore = refl
 runs-digits y (also {x = c} {xs = x} d a) = rw (digit-of c (d .0) (d .1)) (runs-digits y a)
 
 runs-number : {x : List ℕ} {v : ℕ} {y : List ℕ} → NumberText x v → Ends y → runValues false (x ++ y) ≡ v ∷ runValues false y
 runs-number {x} {v} {y} n e = go x (n .digits) (n .one) ∙ ap₂ _∷_ (n .value) (runs-ends e)
   where
-    go : (x : List ℕ) → All Digit x → 1 ≤ length x → runValues false (x ++ y) ≡ decimal 0 x ∷ runValues true y
+    go : (x : List ℕ) → All DigitByte x → 1 ≤ length x → runValues false (x ++ y) ≡ decimal 0 x ∷ runValues true y
     go [] a l = absurd (omega arith)
     go (c ∷ x) (also d a) l =
         let z : digits (c ∷ (x ++ y)) ≡ c ∷ x = digits-front (also d a) e in
@@ -73,12 +73,12 @@ columns-number {x} {v} {y} c n e = go x (n .digits) (n .one)
     ends k at-end = refl
     ends k (before d f) = rw d
 
-    on : (k : ℕ) {x : List ℕ} → All Digit x → numberColumns true k (x ++ y) ≡ numberColumns true (k + length x) y
+    on : (k : ℕ) {x : List ℕ} → All DigitByte x → numberColumns true k (x ++ y) ≡ numberColumns true (k + length x) y
     on k noMore = ap (λ (i : ℕ). numberColumns true i y) (let z : k ≡ k + 0 = omega arith in z)
     on k (also {x = b} {xs = x} d a) =
         rw (digit-of b (d .0) (d .1)) (on (suc k) a ∙ ap (λ (i : ℕ). numberColumns true i y) (let z : suc k + length x ≡ k + suc (length x) = omega arith in z))
 
-    go : (x : List ℕ) → All Digit x → 1 ≤ length x → numberColumns false c (x ++ y) ≡ c ∷ numberColumns false (c + length x) y
+    go : (x : List ℕ) → All DigitByte x → 1 ≤ length x → numberColumns false c (x ++ y) ≡ c ∷ numberColumns false (c + length x) y
     go [] a l = absurd (omega arith)
     go (b ∷ x) (also d a) l =
         rw (digit-of b (d .0) (d .1))

@@ -17,7 +17,7 @@ use Rattle.rules.specs.Grammar.{Parameter, Part, inData, inKey, CardFiel
 use Rattle.rules.specs.Asked.{Asked, fieldsOf, askedOf}
 use Rattle.rules.specs.Plan.{Plan, isTC, isFS, blockLength, combined, assembled, planOf, planAnswer}
 use Rattle.rules.specs.Output.{blockOf}
-use Rattle.rules.specs.Run.{Ran, runOf, ranOf, outputBlocks, convert, spannedOut, spannedRun, conversion}
+use Rattle.rules.specs.Run.{RunOutput, runOf, ranOf, outputBlocks, convert, spannedOut, spannedRun, conversion}
 use Rattle.rules.specs.Reel.{blocksOf, reelOf}
 use Rattle.rules.specs.Rows.{Says, Row, Done, GivenBy}
 use Rattle.rules.specs.ColumnRows.{Column, Lowest, Answered}
@@ -171,14 +171,14 @@ table-says deck before =
 
 module _ (deck reel : List ℕ) (bytes : All Byte reel) where
   -- what the run of a plan wrote, and that there is room for it
-  record Writes (p : Plan) (room : ℕ) (x : Ran) : Type 0 where
+  record Writes (p : Plan) (room : ℕ) (x : RunOutput) : Type 0 where
     blocks : List (List ℕ)
     records : ℕ
     writes : RunWrites p reel blocks records
     is : x ≡ record { reel = reelOf blocks; records = records; blocks = length blocks }
     roomy : length (x .reel) ≤ room
 
-  writes-of : (p : Plan) → planOf zoneF deck ≡ fine p → (room : ℕ) (x : Ran) → conversion room p reel ≡ fine x → Writes p room x
+  writes-of : (p : Plan) → planOf zoneF deck ≡ fine p → (room : ℕ) (x : RunOutput) → conversion room p reel ≡ fine x → Writes p room x
   unfolding conversion ranOf
   writes-of p e room x d = go (isFS (p .format)) refl
     where
@@ -209,11 +209,11 @@ module _ (deck reel : List ℕ) (bytes : All Byte reel) where
           }
 
   -- of the deck's plan
-  run-writes : (room : ℕ) (x : Ran) → run room deck reel ≡ fine x → (p : Plan) × (planOf zoneF deck ≡ fine p) × Writes p room x
+  run-writes : (room : ℕ) (x : RunOutput) → run room deck reel ≡ fine x → (p : Plan) × (planOf zoneF deck ≡ fine p) × Writes p room x
   unfolding run runOf
   run-writes room x d = let s = bind-fine (planOf zoneF deck) _ x d in (s .0, s .1, writes-of (s .0) (s .1) room x (s .2))
 
-  wrote-of : (before : List ℕ) (x : Ran) → run (length before) deck reel ≡ fine x → Wrote deck reel before (runAnswer (fine x)) (outputAfter before (fine x))
+  wrote-of : (before : List ℕ) (x : RunOutput) → run (length before) deck reel ≡ fine x → Wrote deck reel before (runAnswer (fine x)) (outputAfter before (fine x))
   wrote-of before x d =
       let s = run-writes (length before) x d in
       let w = s .2 in
@@ -225,18 +225,18 @@ module _ (deck reel : List ℕ) (bytes : All Byte reel) where
         writes = w .writes;
         place = refl;
         column = refl;
-        length-is = ap (λ (y : Ran). length (y .reel)) (w .is);
-        records-are = ap (λ (y : Ran). y .records) (w .is);
-        blocks-are = ap (λ (y : Ran). y .blocks) (w .is);
-        front = take-at (x .reel) (drop (length (x .reel)) before) (length (x .reel)) refl ∙ ap (λ (y : Ran). y .reel) (w .is);
+        length-is = ap (λ (y : RunOutput). length (y .reel)) (w .is);
+        records-are = ap (λ (y : RunOutput). y .records) (w .is);
+        blocks-are = ap (λ (y : RunOutput). y .blocks) (w .is);
+        front = take-at (x .reel) (drop (length (x .reel)) before) (length (x .reel)) refl ∙ ap (λ (y : RunOutput). y .reel) (w .is);
         rest = drop-at (x .reel) (drop (length (x .reel)) before) (length (x .reel)) refl;
       }
 
-  roomy-of : (before : List ℕ) (x : Ran) → run (length before) deck reel ≡ fine x → length (x .reel) ≤ length before
+  roomy-of : (before : List ℕ) (x : RunOutput) → run (length before) deck reel ≡ fine x → length (x .reel) ≤ length before
   roomy-of before x d = let s = run-writes (length before) x d in s .2 .roomy
 
-  run-says-of : (before : List ℕ) (x : Answer Ran) → run (length before) deck reel ≡ x → Answered (RowRun zoneF deck reel (length before)) deck (refusalOf x) (placeOf x) (columnOf x)
-      → (refusalOf x ≡ 0 → (y : Ran) × (x ≡ fine y)) → RunSays deck reel before (runAnswer x) (outputAfter before x)
+  run-says-of : (before : List ℕ) (x : Answer RunOutput) → run (length before) deck reel ≡ x → Answered (RowRun zoneF deck reel (length before)) deck (refusalOf x) (placeOf x) (columnOf x)
+      → (refusalOf x ≡ 0 → (y : RunOutput) × (x ≡ fine y)) → RunSays deck reel before (runAnswer x) (outputAfter before x)
   run-says-of before (fine x) d a h =
       record {
         table = a;

@@ -6,22 +6,22 @@ use Prim.Native.String.{String}
 use Rattle.rules.specs.Base.{ascii, hex}
 use Rattle.rules.specs.Answer.{Answer, fine, refused}
 use Rattle.rules.specs.Reel.{reelOf}
-use Rattle.rules.specs.Run.{Ran}
+use Rattle.rules.specs.Run.{RunOutput}
 use Rattle.rules.specs.Lent.{run}
 use Rattle.rules.specs.Open.{rules}
 
 -- records of 2 bytes, three of them to a block of A
-abbrev copy : List String → Answer Ran
+abbrev copy : List String → Answer RunOutput
 copy bs = run 65536 (ascii "// U TC,FF,A=(2,6),B=(2,6)\n// END") (reelOf (map (λ s. hex s) bs))
 
-abbrev reblock : List String → Answer Ran
+abbrev reblock : List String → Answer RunOutput
 reblock bs = run 65536 (ascii "// U TR,FF,A=(2,6),B=(2,4)\n// END") (reelOf (map (λ s. hex s) bs))
 
 -- the second byte of each record from record 2 on
-abbrev select : List String → Answer Ran
+abbrev select : List String → Answer RunOutput
 select bs = run 65536 (ascii "// U TF,FF,A=(2,6),B=(1,3),R2\n// FS 2,1,1\n// END") (reelOf (map (λ s. hex s) bs))
 
-abbrev ran : ℕ → ℕ → List String → Answer Ran
+abbrev ran : ℕ → ℕ → List String → Answer RunOutput
 ran records blocks bs = fine (record { reel = reelOf (map (λ s. hex s) bs); records = records; blocks = blocks })
 
 pub record Table : Type 0 where

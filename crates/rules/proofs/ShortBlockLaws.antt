@@ -15,7 +15,7 @@ use Rattle.rules.specs.Reel.{isReel, blocksOf}
 use Rattle.rules.specs.Plan.{Plan, isFS, planOf, recordLength}
 use Rattle.rules.specs.Blocks.{fixedFrom, dataOf, recordsFrom, takenFrom}
 use Rattle.rules.specs.Output.{outRecord, blockOf, nonEmpty, blocked}
-use Rattle.rules.specs.Run.{Ran, runOf, ranOf, outputs, outputBlocks}
+use Rattle.rules.specs.Run.{RunOutput, runOf, ranOf, outputs, outputBlocks}
 use Rattle.rules.specs.RunRows.{RecordIs, ReelIs, GoodBlock, Holds, Gives}
 use Rattle.rules.specs.ShortBlocks.{FixedGood, NeverRefused, OneByOne, Under, ReadsBack, EachGives, RunGives}
 use Rattle.rules.specs.Accepted.{Accepted}
@@ -156,7 +156,7 @@ each-gives p ok m {bs} {recs} h =
 
 -- ---- a finished run
 
-module _ (zone room : ℕ) (z : zone < 16) (deck s : List ℕ) (p : Plan) (x : Ran) (e : planOf zone deck ≡ fine p) (other : isFS (p .format) ≡ false) (a : All Byte s) (d : runOf zone room deck s ≡ fine x) where
+module _ (zone room : ℕ) (z : zone < 16) (deck s : List ℕ) (p : Plan) (x : RunOutput) (e : planOf zone deck ≡ fine p) (other : isFS (p .format) ≡ false) (a : All Byte s) (d : runOf zone room deck s ≡ fine x) where
   pub run-gives : RunGives zone p s x
   unfolding ranOf
   run-gives =

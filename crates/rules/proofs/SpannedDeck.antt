@@ -18,7 +18,7 @@ use Rattle.rules.specs.Output.{converts, permits, lengthWord}
 use Rattle.rules.specs.Spanned.{Segment, part, code, codedWord, spelled, spanOf, spannedFrom, Joined, no-segment, ending, going, Spans}
 use Rattle.rules.specs.Taken.{Takes, of-spans}
 use Rattle.rules.specs.Reel.{isReel, blocksOf}
-use Rattle.rules.specs.Run.{Ran, spannedRun, runOf}
+use Rattle.rules.specs.Run.{RunOutput, spannedRun, runOf}
 use Rattle.rules.specs.RunRows.{GivesSpanned}
 use Rattle.rules.specs.Accepted.{Accepted}
 use Rattle.rules.specs.ShortBlocks.{NeverRefused}
@@ -104,10 +104,10 @@ module _ (zone : ℕ) (deck : List ℕ) (p : Plan) (e : planOf zone deck ≡ fin
 
   -- ---- a finished run
 
-  abbrev pub Done : ℕ → List ℕ → Ran → Type 0
+  abbrev pub Done : ℕ → List ℕ → RunOutput → Type 0
   Done room s x = FinishedSpan (isTC (p .mode)) (blockLength (p .input)) (blockLength (p .output)) (p .first) room s x
 
-  pub done : (room : ℕ) (s : List ℕ) (x : Ran) → runOf zone room deck s ≡ fine x → Done room s x
+  pub done : (room : ℕ) (s : List ℕ) (x : RunOutput) → runOf zone room deck s ≡ fine x → Done room s x
   done room s x d = finished-span (isTC (p .mode)) A B (p .first) room s x (sym (the-span zone room deck s p e t) ∙ d)
 
   -- what is no refusal of the run in FS is none of the deck's
@@ -126,7 +126,7 @@ module _ (zone : ℕ) (deck : List ℕ) (p : Plan) (e : planOf zone deck ≡ fin
       never-of s n room
       (refuses-spanned _ room p s (isTC (p .mode)) A B (p .first) (refuses-fine _ _ tt (fine-unless (isReel s) 11 0 (w .0))) (refuses-fine _ _ (w .1) (w .2)) (λ q z. omega arith))
 
-  module _ (room : ℕ) (s : List ℕ) (a : All Byte s) (x : Ran) where
+  module _ (room : ℕ) (s : List ℕ) (a : All Byte s) (x : RunOutput) where
     -- the records of the reel that was read
     pub input-span : (w : Done room s x) → GivesSpanned (blockLength (p .input)) s (joined (w .recs))
     input-span w = span-input A B low high low′ high′ (p .first) room s a x (isTC (p .mode)) w
@@ -149,11 +149,11 @@ module _ (zone : ℕ) (deck : List ℕ) (p : Plan) (e : planOf zone deck ≡ fin
     taken-span w = record { records = joined (w .recs); gives = of-spans t (input-span w); from-R = refl }
 
   -- where two runs write the same reel, the same records were taken
-  pub told-span : (room room′ : ℕ) (s s′ : List ℕ) → All Byte s → All Byte s′ → (x x′ : Ran) (w : Done room s x) (w′ : Done room′ s′ x′) → x .reel ≡ x′ .reel
+  pub told-span : (room room′ : ℕ) (s s′ : List ℕ) → All Byte s → All Byte s′ → (x x′ : RunOutput) (w : Done room s x) (w′ : Done room′ s′ x′) → x .reel ≡ x′ .reel
       → drop (p .first - 1) (joined (w .recs)) ≡ drop (p .first - 1) (joined (w′ .recs))
   told-span room room′ s s′ a a′ x x′ w w′ q = span-tells A B low high low′ high′ (p .first) room room′ s s′ a a′ x x′ (isTC (p .mode)) w w′ q
 
-  pub convert-span : (room : ℕ) (s : List ℕ) → All Byte s → (x : Ran) (w : Done room s x) → All (λ r. converts p r ≡ true) (drop (p .first - 1) (joined (w .recs)))
+  pub convert-span : (room : ℕ) (s : List ℕ) → All Byte s → (x : RunOutput) (w : Done room s x) → All (λ r. converts p r ≡ true) (drop (p .first - 1) (joined (w .recs)))
   convert-span room s a x w =
       let g = input-span room s a x w in
       let b = subst (All (All Byte)) (reel-blocks s (g .0) (g .1)) (all-blocks s a) in

@@ -18,7 +18,7 @@ use Rattle.rules.specs.Asked.{askedOf}
 use Rattle.rules.specs.Plan.{Plan, planOf, isTC, isFS, recordLength, blockLength, inputHalves, allowed, barrenHalf, combined, assembled, sound, keeps}
 use Rattle.rules.specs.Spanned.{spanOf, segmented, spannedFrom}
 use Rattle.rules.specs.Reel.{isReel, blocksOf, reelOf}
-use Rattle.rules.specs.Run.{Ran, housed, spannedOut, spannedRan, spannedRun, runOf}
+use Rattle.rules.specs.Run.{RunOutput, housed, spannedOut, spannedRan, spannedRun, runOf}
 use Rattle.rules.specs.RunRows.{GivesSpanned, RunWrites, in-blocks, in-segments, Row15}
 use Rattle.rules.specs.Rows.{Done as NoMore, IsOne, one-number}
 use Rattle.rules.specs.Accepted.{Accepted}
@@ -60,7 +60,7 @@ module _ (zone : ℕ) (deck : List ℕ) (p : Plan) (e : planOf zone deck ≡ fin
 
   -- ---- a finished run
 
-  module _ (room : ℕ) (s : List ℕ) (a : All Byte s) (x : Ran) (w : Done zone deck p e t room s x) where
+  module _ (room : ℕ) (s : List ℕ) (a : All Byte s) (x : RunOutput) (w : Done zone deck p e t room s x) where
     abbrev taken : List (List ℕ)
     taken = drop (p .first - 1) (joined (w .recs))
 
@@ -104,7 +104,7 @@ module _ (zone : ℕ) (deck : List ℕ) (p : Plan) (e : planOf zone deck ≡ fin
             let g = back-span zone deck p e t room s a x q w in
             let is : x ≡ spannedRan (map spanOf (segmented B taken)) taken = w .writes ∙ ap (λ (c : Bool). spannedRan (spannedOut c B (blocksOf s) taken) taken) q in
             let r : blocksOf (x .reel) ≡ map spanOf (segmented B taken)
-            = ap (λ (z : Ran). blocksOf (z .reel)) is ∙ written-blocks (map spanOf (segmented B taken)) (subst (λ (z : Ran). length (z .reel) ≤ 65536) is (w .most)) in
+            = ap (λ (z : RunOutput). blocksOf (z .reel)) is ∙ written-blocks (map spanOf (segmented B taken)) (subst (λ (z : RunOutput). length (z .reel) ≤ 65536) is (w .most)) in
             record { rs = taken; given = g; same = is ∙ ap (λ (bs : List (List ℕ)). spannedRan bs taken) (sym r) }
 
     says : SpannedGives zone p s x
@@ -112,7 +112,7 @@ module _ (zone : ℕ) (deck : List ℕ) (p : Plan) (e : planOf zone deck ≡ fin
         record {
           records = joined (w .recs);
           gives = input-span zone deck p e t room s a x w;
-          counted = ap (λ (z : Ran). z .records) (w .writes);
+          counted = ap (λ (z : RunOutput). z .records) (w .writes);
           TC = λ m. copied-span zone deck p e t room s a x m w;
           TR = back-TR;
           only = λ m rs g. gives-once B (high′ zone deck p e t) (x .reel) rs taken g (back-TR m);

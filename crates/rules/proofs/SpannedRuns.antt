@@ -14,7 +14,7 @@ use Rattle.rules.specs.Answer.{fine, unless}
 use Rattle.rules.specs.Places.{All, noMore, also, Byte}
 use Rattle.rules.specs.Places.{Both, none-left, both}
 use Rattle.rules.specs.Reel.{isReel, blocksOf, reelOf}
-use Rattle.rules.specs.Run.{Ran, housed, spannedOut, spannedRan, spannedRun}
+use Rattle.rules.specs.Run.{RunOutput, housed, spannedOut, spannedRan, spannedRun}
 use Rattle.rules.specs.RunRows.{ReelIs}
 use Rattle.rules.specs.Spanned.{Segment, segment, part, spelled, spanOf, spannedFrom, segmented, Joined, no-segment, ending, going, SpanIs, Spans}
 use Rattle.rules.specs.RunRows.{GivesSpanned}
@@ -31,7 +31,7 @@ use Rattle.rules.proofs.SpannedMeasure.{spelled-append}
 
 -- ---- what a finished run wrote
 
-pub record FinishedSpan (copies : Bool) (g m first room : ℕ) (s : List ℕ) (x : Ran) : Type 0 where
+pub record FinishedSpan (copies : Bool) (g m first room : ℕ) (s : List ℕ) (x : RunOutput) : Type 0 where
   pub reel : isReel s ≡ true
   pub recs : List (List (List ℕ))
   pub reads : spannedFrom g 1 none (blocksOf s) ≡ fine recs
@@ -39,18 +39,18 @@ pub record FinishedSpan (copies : Bool) (g m first room : ℕ) (s : List ℕ) (x
   pub room-most : length (x .reel) ≤ room
   pub most : length (x .reel) ≤ 65536
 
-pub housed-fine : (room : ℕ) (y x : Ran) → housed room y ≡ fine x → (x ≡ y) × (length (x .reel) ≤ room) × (length (x .reel) ≤ 65536)
+pub housed-fine : (room : ℕ) (y x : RunOutput) → housed room y ≡ fine x → (x ≡ y) × (length (x .reel) ≤ room) × (length (x .reel) ≤ 65536)
 unfolding housed
 housed-fine room y x e =
     let w = then-fine (unless (leb (length (y .reel)) room && leb (length (y .reel)) 65536) 15 (length (y .reel))) (fine y) x e in
     let t = unless-fine (leb (length (y .reel)) room && leb (length (y .reel)) 65536) 15 (length (y .reel)) (w .0) in
     let q = fine-same y x (w .1) in (
       sym q,
-      subst (λ (z : Ran). length (z .reel) ≤ room) q (leb-true (length (y .reel)) room (and-left (leb (length (y .reel)) room) _ t)),
-      subst (λ (z : Ran). length (z .reel) ≤ 65536) q (leb-true (length (y .reel)) 65536 (and-right (leb (length (y .reel)) room) _ t)),
+      subst (λ (z : RunOutput). length (z .reel) ≤ room) q (leb-true (length (y .reel)) room (and-left (leb (length (y .reel)) room) _ t)),
+      subst (λ (z : RunOutput). length (z .reel) ≤ 65536) q (leb-true (length (y .reel)) 65536 (and-right (leb (length (y .reel)) room) _ t)),
     )
 
-pub finished-span : (copies : Bool) (g m first room : ℕ) (s : List ℕ) (x : Ran) → spannedRun copies g m first room s ≡ fine x → FinishedSpan copies g m first room s x
+pub finished-span : (copies : Bool) (g m first room : ℕ) (s : List ℕ) (x : RunOutput) → spannedRun copies g m first room s ≡ fine x → FinishedSpan copies g m first room s x
 unfolding spannedRun
 finished-span copies g m first room s x e =
     let t = then-fine (unless (isReel s) 11 0) _ x e in
@@ -64,7 +64,7 @@ module _ (g m : ℕ) (low : 9 ≤ g) (high : g < 65536) (low′ : 9 ≤ m) (high
   pub spans-data : (bs rs : List (List ℕ)) → Spans g bs rs → All (λ r. (1 ≤ length r) × (length r ≤ 32752)) rs
   spans-data bs rs w = all-with (joined-data (w .joins) (all-joined (both-second (λ b ss v. v .parts) (w .blocks)))) (w .most)
 
-  module _ (first room : ℕ) (s : List ℕ) (a : All Byte s) (x : Ran) where
+  module _ (first room : ℕ) (s : List ℕ) (a : All Byte s) (x : RunOutput) where
     -- the records of the input
     pub span-input : (copies : Bool) (w : FinishedSpan copies g m first room s x) → GivesSpanned g s (joined (w .recs))
     span-input copies w =
@@ -72,7 +72,7 @@ module _ (g m : ℕ) (low : 9 ≤ g) (high : g < 65536) (low′ : 9 ≤ m) (high
 
     -- TC: the same
     pub span-copy : FinishedSpan true g m first room s x → x .reel ≡ s
-    span-copy w = ap (λ (z : Ran). z .reel) (w .writes) ∙ blocks-reel s a (w .reel)
+    span-copy w = ap (λ (z : RunOutput). z .reel) (w .writes) ∙ blocks-reel s a (w .reel)
 
     -- TR: what was written gives the records taken
     pub span-back : (w : FinishedSpan false g m first room s x) → GivesSpanned m (x .reel) (drop (first - 1) (joined (w .recs)))
@@ -82,7 +82,7 @@ module _ (g m : ℕ) (low : 9 ≤ g) (high : g < 65536) (low′ : 9 ≤ m) (high
         let f = segmented-spanned m low′ (all-imply (λ r h. h .0) ok) in (
           map spanOf (segmented m taken),
           record {
-            is = ap (λ (z : Ran). z .reel) (w .writes);
+            is = ap (λ (z : RunOutput). z .reel) (w .writes);
             blocks = all-map spanOf (all-imply (λ c v. length-full (spanOf c) (omega (arith, length-span c))) (spanned-blocks m low′ f));
             most = w .most;
           },
@@ -96,7 +96,7 @@ gives-once g high s rs rs′ (bs, r, h) (bs′, r′, h′) =
 
 -- ---- the reel tells the records taken
 
-module _ (g m : ℕ) (low : 9 ≤ g) (high : g < 65536) (low′ : 9 ≤ m) (high′ : m < 65536) (first : ℕ) (room room′ : ℕ) (s s′ : List ℕ) (a : All Byte s) (a′ : All Byte s′) (x x′ : Ran) where
+module _ (g m : ℕ) (low : 9 ≤ g) (high : g < 65536) (low′ : 9 ≤ m) (high′ : m < 65536) (first : ℕ) (room room′ : ℕ) (s s′ : List ℕ) (a : All Byte s) (a′ : All Byte s′) (x x′ : RunOutput) where
   pub span-tells : (copies : Bool) (w : FinishedSpan copies g m first room s x) (w′ : FinishedSpan copies g m first room′ s′ x′) → x .reel ≡ x′ .reel
       → drop (first - 1) (joined (w .recs)) ≡ drop (first - 1) (joined (w′ .recs))
   span-tells true w w′ e =

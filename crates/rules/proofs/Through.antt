@@ -19,7 +19,7 @@ use Rattle.rules.specs.Asked.{Asked, askedOf, fieldsOf, cvs}
 use Rattle.rules.specs.Plan.{recordLength, blockLength, joinedSize, keyLength, partLength, bytesBefore, through, Plan, assembled, isFV, sound, isKeyed, keyFits, isKey, keyFields, cardFits, inside, insidePart, combined, planOf}
 use Rattle.rules.specs.RecordParts.{fieldInput}
 use Rattle.rules.specs.Rows.{InputWithin, UtilityWithin, FieldWithin, Required, IsKeyed, Inside}
-use Rattle.rules.specs.Keys.{partOf, ownInput, throughField, throughItem, throughUtility, throughAsked}
+use Rattle.rules.specs.Keys.{partBytes, ownInput, throughField, throughItem, throughUtility, throughAsked}
 use Rattle.rules.proofs.AllLaws.{all-map, all-unmap, all-imply, all-both, all-with}
 use Rattle.rules.proofs.Lists.{take-drop, map-joined, map-same}
 use Rattle.rules.proofs.Tests.{and-left, and-both}
@@ -58,7 +58,7 @@ counts-through zone a =
 -- ---- a field reads its own part
 
 -- bytes of a part are bytes of the record, behind what stands before the part
-part-read : (k s j : ℕ) (q : Part) (r : List ℕ) → 1 ≤ j → (q ≡ inKey → j + s - 1 ≤ k) → take s (drop (bytesBefore k q + j - 1) r) ≡ take s (drop (j - 1) (partOf k q r))
+part-read : (k s j : ℕ) (q : Part) (r : List ℕ) → 1 ≤ j → (q ≡ inKey → j + s - 1 ≤ k) → take s (drop (bytesBefore k q + j - 1) r) ≡ take s (drop (j - 1) (partBytes k q r))
 part-read k s j inData r l h = ap (take s) (ap (λ (i : ℕ). drop i r) (let z : k + j - 1 ≡ k + (j - 1) = omega arith in z) ∙ sym (drop-drop (j - 1) k r))
 part-read k s j inKey r l h =
     ap (λ (i : ℕ). take s (drop i r)) (let z : 0 + j - 1 ≡ j - 1 = omega arith in z) ∙ sym (take-drop s (j - 1) k r (omega (arith, h refl)))

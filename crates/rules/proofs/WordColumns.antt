@@ -14,7 +14,7 @@ use Rattle.rules.specs.Base.{ascii, every, joined}
 use Rattle.rules.specs.Places.{All, noMore, also}
 use Rattle.rules.specs.Reader.{Read, read, stopped, Reader, pure, onward, orElse, text, nothing, isDigit, restThen, listBy, listOf}
 use Rattle.rules.specs.Grammar.{Parameter}
-use Rattle.rules.specs.Words.{Worded, worded, valuesOf, againColumn, numberColumns, Limit, withinLimits, outsideColumn, firstOf, outsideIn, outsideAmong}
+use Rattle.rules.specs.Words.{Worded, worded, valuesOf, againColumn, numberColumns, Limit, withinLimits, outsideColumn, firstColumn, outsideIn, outsideAmong}
 use Rattle.rules.specs.Texts.{ListText, RestText}
 use Rattle.rules.specs.Asked.{letter, among, sameLetter}
 use Rattle.rules.specs.ColumnRows.{WordIs}
@@ -124,26 +124,26 @@ columns-mark t c m f (b ∷ x) z =
 
 -- ---- the first number outside its limits
 
-pub first-zero : (a : ℕ) → firstOf a 0 ≡ a
+pub first-zero : (a : ℕ) → firstColumn a 0 ≡ a
 first-zero zero = refl
 first-zero (suc a) = rw (ne-eqb (suc a) 0 (λ q. omega arith))
 
-pub first-some : (a b : ℕ) → 1 ≤ a → firstOf a b ≡ a
+pub first-some : (a b : ℕ) → 1 ≤ a → firstColumn a b ≡ a
 first-some a b l = rw (ne-eqb a 0 (λ q. omega arith))
 
-pub first-assoc : (a b c : ℕ) → firstOf (firstOf a b) c ≡ firstOf a (firstOf b c)
+pub first-assoc : (a b c : ℕ) → firstColumn (firstColumn a b) c ≡ firstColumn a (firstColumn b c)
 first-assoc zero b c = refl
 first-assoc (suc a) b c = rw (ne-eqb (suc a) 0 (λ q. omega arith), ne-eqb (suc a) 0 (λ q. omega arith))
 
 outside-append : (cs : List ℕ) (ls : List Limit) (ds : List ℕ) (ms : List Limit) → length cs ≡ length ls → All (λ k. 1 ≤ k) cs
-    → outsideColumn (cs ++ ds) (ls ++ ms) ≡ firstOf (outsideColumn cs ls) (outsideColumn ds ms)
+    → outsideColumn (cs ++ ds) (ls ++ ms) ≡ firstColumn (outsideColumn cs ls) (outsideColumn ds ms)
 outside-append [] [] ds ms e a = refl
 outside-append [] (l ∷ ls) ds ms e a = absurd (omega arith)
 outside-append (c ∷ cs) [] ds ms e a = absurd (omega arith)
 outside-append (c ∷ cs) (l ∷ ls) ds ms e (also p a) = go (withinLimits l) (outside-append cs ls ds ms (omega arith) a)
   where
-    go : (t : Bool) → outsideColumn (cs ++ ds) (ls ++ ms) ≡ firstOf (outsideColumn cs ls) (outsideColumn ds ms)
-        → cond t (outsideColumn (cs ++ ds) (ls ++ ms)) c ≡ firstOf (cond t (outsideColumn cs ls) c) (outsideColumn ds ms)
+    go : (t : Bool) → outsideColumn (cs ++ ds) (ls ++ ms) ≡ firstColumn (outsideColumn cs ls) (outsideColumn ds ms)
+        → cond t (outsideColumn (cs ++ ds) (ls ++ ms)) c ≡ firstColumn (cond t (outsideColumn cs ls) c) (outsideColumn ds ms)
     go true h = h
     go false h = sym (first-some c (outsideColumn ds ms) p)
 
@@ -197,8 +197,8 @@ module _ {A : Type 0} (mark : String) (m : ℕ) (only : ascii mark ≡ m ∷ [])
           let z = h (c + suc (length x)) (omega arith) in
           ap (λ (ks : List ℕ). outsideColumn ks (numbers (w .value) ++ joined (map numbers (valuesOf more)))) (z .stand x c refl)
           ∙ outside-append (numberColumns false c x) (numbers (w .value)) (z .columns) (joined (map numbers (valuesOf more))) (count x (w .value) (i .0) c) (columns-low false c x l)
-          ∙ ap (firstOf (outsideColumn (numberColumns false c x) (numbers (w .value)))) (z .outside)
-          ∙ ap (λ (u : List ℕ). firstOf (outsideColumn (numberColumns false c u) (numbers (w .value))) (outsideAmong numbers (c + suc (length u)) more)) (sym (i .1))
+          ∙ ap (firstColumn (outsideColumn (numberColumns false c x) (numbers (w .value)))) (z .outside)
+          ∙ ap (λ (u : List ℕ). firstColumn (outsideColumn (numberColumns false c u) (numbers (w .value))) (outsideAmong numbers (c + suc (length u)) more)) (sym (i .1))
 
 -- ---- one part more
 
@@ -216,23 +216,23 @@ values-last [] w = refl
 values-last (v ∷ ws) w = ap (λ l. v .value ∷ l) (values-last ws w)
 
 pub outside-last : {A : Type 0} (numbers : A → List Limit) (c : ℕ) (ws : List (Worded A)) (w : Worded A)
-    → outsideAmong numbers c (ws ++ (w ∷ [])) ≡ firstOf (outsideAmong numbers c ws) (outsideIn numbers (c + width ws) w)
+    → outsideAmong numbers c (ws ++ (w ∷ [])) ≡ firstColumn (outsideAmong numbers c ws) (outsideIn numbers (c + width ws) w)
 outside-last numbers c [] w = let e : c ≡ c + 0 = omega arith in first-zero (outsideIn numbers c w) ∙ ap (λ (k : ℕ). outsideIn numbers k w) e
 outside-last numbers c (v ∷ ws) w =
     let e : (c + suc (length (v .text))) + width ws ≡ c + (suc (length (v .text)) + width ws) = omega arith in
-    ap (firstOf (outsideIn numbers c v)) (outside-last numbers (c + suc (length (v .text))) ws w)
+    ap (firstColumn (outsideIn numbers c v)) (outside-last numbers (c + suc (length (v .text))) ws w)
     ∙ sym (first-assoc (outsideIn numbers c v) (outsideAmong numbers (c + suc (length (v .text))) ws) (outsideIn numbers ((c + suc (length (v .text))) + width ws) w))
-    ∙ ap (λ (k : ℕ). firstOf (outsideAmong numbers c (v ∷ ws)) (outsideIn numbers k w)) e
+    ∙ ap (λ (k : ℕ). firstColumn (outsideAmong numbers c (v ∷ ws)) (outsideIn numbers k w)) e
 
 pub again-last : (seen : List Parameter) (c : ℕ) → 1 ≤ c → (ws : List (Worded Parameter)) (w : Worded Parameter)
     → againColumn sameLetter seen c (ws ++ (w ∷ []))
-    ≡ firstOf (againColumn sameLetter seen c ws) (cond (among (letter (w .value)) (map letter (valuesOf ws)) || sameLetter (w .value) seen) (c + width ws) 0)
+    ≡ firstColumn (againColumn sameLetter seen c ws) (cond (among (letter (w .value)) (map letter (valuesOf ws)) || sameLetter (w .value) seen) (c + width ws) 0)
 again-last seen c l [] w = let e : c ≡ c + 0 = omega arith in ap (λ (k : ℕ). cond (sameLetter (w .value) seen) k 0) e
 again-last seen c l (v ∷ ws) w =
     let e : (c + suc (length (v .text))) + width ws ≡ c + (suc (length (v .text)) + width ws) = omega arith in
     go (sameLetter (v .value) seen)
     (again-last (v .value ∷ seen) (c + suc (length (v .text))) (omega arith) ws w
-    ∙ ap₂ (λ (t : Bool) (k : ℕ). firstOf (againColumn sameLetter (v .value ∷ seen) (c + suc (length (v .text))) ws) (cond t k 0))
+    ∙ ap₂ (λ (t : Bool) (k : ℕ). firstColumn (againColumn sameLetter (v .value ∷ seen) (c + suc (length (v .text))) ws) (cond t k 0))
     (turn (among (letter (w .value)) (map letter (valuesOf ws))) (eqb (letter (w .value)) (letter (v .value))) (sameLetter (w .value) seen)) e)
   where
     turn : (a b d : Bool) → (a || (b || d)) ≡ ((b || a) || d)
@@ -242,10 +242,10 @@ again-last seen c l (v ∷ ws) w =
     turn false false d = refl
 
     go : (t : Bool) → againColumn sameLetter (v .value ∷ seen) (c + suc (length (v .text))) (ws ++ (w ∷ []))
-        ≡ firstOf (againColumn sameLetter (v .value ∷ seen) (c + suc (length (v .text))) ws)
+        ≡ firstColumn (againColumn sameLetter (v .value ∷ seen) (c + suc (length (v .text))) ws)
         (cond (among (letter (w .value)) (map letter (valuesOf (v ∷ ws))) || sameLetter (w .value) seen) (c + (suc (length (v .text)) + width ws)) 0)
         → cond t c (againColumn sameLetter (v .value ∷ seen) (c + suc (length (v .text))) (ws ++ (w ∷ [])))
-        ≡ firstOf (cond t c (againColumn sameLetter (v .value ∷ seen) (c + suc (length (v .text))) ws))
+        ≡ firstColumn (cond t c (againColumn sameLetter (v .value ∷ seen) (c + suc (length (v .text))) ws))
         (cond (among (letter (w .value)) (map letter (valuesOf (v ∷ ws))) || sameLetter (w .value) seen) (c + (suc (length (v .text)) + width ws)) 0)
     go true h = sym (first-some c _ l)
     go false h = h

@@ -14,13 +14,13 @@ use Rattle.rules.specs.Words.{Worded, valuesOf, numberColumns, Limit}
 use Rattle.rules.specs.Texts.{ListText, ParameterText, UText, ItemText, FsText}
 use Rattle.rules.specs.Columns.{NoWay}
 use Rattle.rules.specs.Asked.{parameterNumbers, itemNumbers, Utility}
-use Rattle.rules.specs.Rows.{Operands, Alike, Complete, Within, _⊳_, GivenBy}
+use Rattle.rules.specs.Rows.{OperandsAre, Alike, Complete, Within, _⊳_, GivenBy}
 
 -- ---- row 3: the first column at which no continuation of the operand could be right
 
 abbrev pub At3 : List ℕ → ℕ → ℕ → Type 0
 At3 deck p c =
-    (before : ℕ) × (u : List ℕ) × (fs : List (List ℕ)) × Operands deck before u fs
+    (before : ℕ) × (u : List ℕ) × (fs : List (List ℕ)) × OperandsAre deck before u fs
     × (((p ≡ 1) × ((k : ℕ) × (c ≡ before + k) × NoWay UText u k)) ⊎ Found (λ o. (k : ℕ) × (c ≡ beforeFS + k) × NoWay FsText o k) p 2 fs)
 
 -- ---- row 4: the first byte of the second occurrence
@@ -54,7 +54,7 @@ pub data CVOn (p c : ℕ) : List Item → ℕ → List (List (Worded Item)) → 
 
 abbrev pub At4 : List ℕ → ℕ → ℕ → Type 0
 At4 deck p c =
-    (before : ℕ) × (u : List ℕ) × (fs : List (List ℕ)) × Operands deck before u fs
+    (before : ℕ) × (u : List ℕ) × (fs : List (List ℕ)) × OperandsAre deck before u fs
     × (((p ≡ 1) × ((ws : List (Worded Parameter)) × UParts u ws × Again Alike c [] (suc before) ws))
     ⊎ ((cards : List (List (Worded Item))) × Both FsParts fs cards × CVOn p c [] 2 cards))
 
@@ -74,7 +74,7 @@ pub data NumberOn (p c : ℕ) : ℕ → List (List ℕ) → List (List Item) →
 
 abbrev pub At7 : List ℕ → ℕ → ℕ → Type 0
 At7 deck p c =
-    (before : ℕ) × (u : List ℕ) × (fs : List (List ℕ)) × Operands deck before u fs
+    (before : ℕ) × (u : List ℕ) × (fs : List (List ℕ)) × OperandsAre deck before u fs
     × (((p ≡ 1)
     × ((us : List Parameter) × UText u us × (v : Utility) × Complete us v
     × Outside c (numberColumns false (suc before) u) (joined (map (parameterNumbers (v .format)) us))))

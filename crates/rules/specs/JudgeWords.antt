@@ -13,7 +13,7 @@ use Rattle.rules.specs.Plan.{Plan, recordLength}
 use Rattle.rules.specs.InWords.{OutputOf}
 use Rattle.rules.specs.Rows.{Says, Complete, Asks, Row8, Row9, Row10, CardRows, _⊳_, No, Done}
 use Rattle.rules.specs.ColumnRows.{Answered}
-use Rattle.rules.specs.Run.{Ran, runOf}
+use Rattle.rules.specs.Run.{RunOutput, runOf}
 use Rattle.rules.specs.RunRows.{ReelIs, BadIn, Row11, Row12, Row13, Row14}
 use Rattle.rules.specs.Taken.{Records, Takes}
 use Rattle.rules.specs.Lent.{zoneF}
@@ -121,7 +121,7 @@ pub record JudgeSays (deck ours theirs : List ℕ) (n : JudgeAnswer) : Type 0 wh
 -- of a deck of TR or TRF, whose plan is p
 pub record Judging (zone : ℕ) (deck : List ℕ) (p : Plan) : Type 0 where
   -- whatever our converter writes is judged true
-  pub own : (room : ℕ) (s : List ℕ) (x : Ran) → All Byte s → runOf zone room deck s ≡ fine x → judgeOf zone deck s (x .reel) ≡ fine 0
+  pub own : (room : ℕ) (s : List ℕ) (x : RunOutput) → All Byte s → runOf zone room deck s ≡ fine x → judgeOf zone deck s (x .reel) ≡ fine 0
   -- how the foreign records are cut into blocks does not matter
   pub cut-anew : (ours theirs others : List ℕ) (rs : List (List ℕ)) → Records (underB p) theirs rs → Records (underB p) others rs
       → judgeOf zone deck ours theirs ≡ judgeOf zone deck ours others

@@ -10,13 +10,13 @@ use Rattle.rules.specs.Plan.{joinedSize, keyLength, through}
 -- ---- the two parts of a record
 
 -- behind a key of so many bytes
-abbrev pub partOf : ℕ → Part → List ℕ → List ℕ
-partOf key inData r = drop key r
-partOf key inKey r = take key r
+abbrev pub partBytes : ℕ → Part → List ℕ → List ℕ
+partBytes key inData r = drop key r
+partBytes key inKey r = take key r
 
 -- what a field reads, as it stands on its card: so many bytes of its own part, from position r on
 unfoldable pub ownInput : ℕ → CardField → List ℕ → List ℕ
-ownInput key f r = take (inputSize (f .field .kind)) (drop (f .field .r - 1) (partOf key (f .part) r))
+ownInput key f r = take (inputSize (f .field .kind)) (drop (f .field .r - 1) (partBytes key (f .part) r))
 
 -- ---- the deck without keys that counts through
 

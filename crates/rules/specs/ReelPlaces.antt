@@ -65,10 +65,10 @@ goodStart fsp b = false
 -- ---- the records of a block
 
 -- the data of pieces that are all as long as they should be
-abbrev pub sized : Plan → List ℕ → Option (List Piece) → Option (List (List ℕ))
-sized p b none = none
-sized p b (some xs) = cond (every (λ x. leb (leastData p) (x .size)) xs) (some (map (dataOf b) xs)) none
+abbrev pub recordsSized : Plan → List ℕ → Option (List Piece) → Option (List (List ℕ))
+recordsSized p b none = none
+recordsSized p b (some xs) = cond (every (λ x. leb (leastData p) (x .size)) xs) (some (map (dataOf b) xs)) none
 
 -- the records from place i on
 unfoldable pub recordsAt : Plan → List ℕ → ℕ → Option (List (List ℕ))
-recordsAt p b i = sized p b (piecesAt (p .format) (recordLength (p .input)) b i)
+recordsAt p b i = recordsSized p b (piecesAt (p .format) (recordLength (p .input)) b i)

@@ -14,7 +14,7 @@ use Rattle.rules.specs.Plan.{Plan, PlanAnswer}
 use Rattle.rules.specs.Rows.{Says, Asks}
 use Rattle.rules.specs.ColumnRows.{Answered}
 use Rattle.rules.specs.RunRows.{RunWrites, RowRun, RowInto}
-use Rattle.rules.specs.Demand.{Judged}
+use Rattle.rules.specs.Demand.{Marked}
 use Rattle.rules.specs.Lent.{zoneF, Entry, RunAnswer}
 
 -- ---- a plan
@@ -25,7 +25,7 @@ pub record PlanSays (rows : ℕ → ℕ → Type 0) (deck : List ℕ) (n : PlanA
   -- the last three are 0 if refused
   pub refused : (n .refusal ≡ 0 → ⊥) → (n .keeping ≡ 0) × (n .lost ≡ 0) × (n .fields ≡ 0)
   -- else there is the plan that the deck asks for; keeping and lost place say of it what demand 3 asks, and its fields are counted
-  pub made : n .refusal ≡ 0 → (p : Plan) × Asks zoneF deck p × Judged p (n .keeping) (n .lost) × (n .fields ≡ length (p .fields))
+  pub made : n .refusal ≡ 0 → (p : Plan) × Asks zoneF deck p × Marked p (n .keeping) (n .lost) × (n .fields ≡ length (p .fields))
 
 -- ---- a lent table
 

@@ -12,7 +12,7 @@ use Rattle.rules.specs.Grammar.{tc, tf, tr, trf, ff}
 use Rattle.rules.specs.Plan.{Plan, planOf, selects, recordLength, blockLength}
 use Rattle.rules.specs.Blocks.{takenFrom}
 use Rattle.rules.specs.Output.{blockOf, nonEmpty}
-use Rattle.rules.specs.Run.{Ran, ranOf, runOf}
+use Rattle.rules.specs.Run.{RunOutput, ranOf, runOf}
 use Rattle.rules.specs.InWords.{BlocksOut}
 use Rattle.rules.specs.RunRows.{ReelIs, GoodBlock, Gives}
 
@@ -49,14 +49,14 @@ pub record Under (p q : Plan) : Type 0 where
   pub same : (q .format ≡ ff) ⊎ (selects (q .mode) ≡ true) → q .input ≡ p .output
 
 -- x is written, and deck is one whose plan q reads under B: no fault is found with it
-pub record RunsAgain (zone : ℕ) (deck : List ℕ) (q : Plan) (x : Ran) : Type 0 where
+pub record RunsAgain (zone : ℕ) (deck : List ℕ) (q : Plan) (x : RunOutput) : Type 0 where
   pub no-11 : NeverRefused zone deck (x .reel) 11
   pub no-12 : NeverRefused zone deck (x .reel) 12
   -- TC of it is itself
   pub copied : q .mode ≡ tc → (room : ℕ) → length (x .reel) ≤ room → runOf zone room deck (x .reel) ≡ fine x
 
 -- its records are outs, block by block
-pub record ReadsBack (zone : ℕ) (deck : List ℕ) (q : Plan) (x : Ran) (outs : List (List (List ℕ))) : Type 0 where
+pub record ReadsBack (zone : ℕ) (deck : List ℕ) (q : Plan) (x : RunOutput) (outs : List (List (List ℕ))) : Type 0 where
   -- the records of its blocks are these, and no others
   pub gives : Gives q (x .reel) outs
   pub only : (recs : List (List (List ℕ))) → Gives q (x .reel) recs → recs ≡ outs
@@ -86,7 +86,7 @@ pub data Full {A : Type 0} (m : ℕ) : List (List A) → Type 0 where
 -- ---- a finished run
 
 -- x is what a finished run of plan p over s wrote
-pub record RunGives (zone : ℕ) (p : Plan) (s : List ℕ) (x : Ran) : Type 0 where
+pub record RunGives (zone : ℕ) (p : Plan) (s : List ℕ) (x : RunOutput) : Type 0 where
   pub recs : List (List (List ℕ))
   pub outs : List (List (List ℕ))
   pub gives : Gives p s recs

@@ -12,14 +12,14 @@ use Rattle.rules.specs.Asked.{Asked, askedOf}
 use Rattle.rules.specs.Plan.{Plan, planOf, isTC, blockLength}
 use Rattle.rules.specs.Output.{converts}
 use Rattle.rules.specs.Spanned.{spanOf, segmented, Spans}
-use Rattle.rules.specs.Run.{Ran, housed, spannedOut, spannedRan, runOf}
+use Rattle.rules.specs.Run.{RunOutput, housed, spannedOut, spannedRan, runOf}
 use Rattle.rules.specs.Reel.{blocksOf}
 use Rattle.rules.specs.RunRows.{GivesSpanned}
 use Rattle.rules.specs.Demand.{Keeping}
 use Rattle.rules.specs.ShortBlocks.{NeverRefused, Under, RunsAgain}
 
 -- x is what a finished run of plan p over s wrote
-pub record SpannedGives (zone : ℕ) (p : Plan) (s : List ℕ) (x : Ran) : Type 0 where
+pub record SpannedGives (zone : ℕ) (p : Plan) (s : List ℕ) (x : RunOutput) : Type 0 where
   pub records : List (List ℕ)
   pub gives : GivesSpanned (blockLength (p .input)) s records
   -- records are counted, not segments
@@ -50,7 +50,7 @@ pub record SpannedDeck (zone : ℕ) (deck : List ℕ) (p : Plan) : Type 0 where
   pub no-14 : (s : List ℕ) → NeverRefused zone deck s 14
   -- the place of 15
   pub most : (room : ℕ) (s : List ℕ) → All Byte s → (q c : ℕ) → runOf zone room deck s ≡ refusedAt 15 q c → q ≤ 851560
-  pub finished : (room : ℕ) (s : List ℕ) → All Byte s → (x : Ran) → runOf zone room deck s ≡ fine x → SpannedGives zone p s x
+  pub finished : (room : ℕ) (s : List ℕ) → All Byte s → (x : RunOutput) → runOf zone room deck s ≡ fine x → SpannedGives zone p s x
 
 -- nor is a deck that asks for FS refused with 10
 abbrev pub Never10 : ℕ → List ℕ → Type 0

@@ -66,8 +66,8 @@ outsideColumn (c ∷ cs) (l ∷ ls) = let later = outsideColumn cs ls in cond (w
 -- ---- part by part
 
 -- the first of two columns, where 0 is none
-abbrev pub firstOf : ℕ → ℕ → ℕ
-firstOf a b = cond (eqb a 0) b a
+abbrev pub firstColumn : ℕ → ℕ → ℕ
+firstColumn a b = cond (eqb a 0) b a
 
 -- the column of the first number of a part that is outside its limits; the part begins at column c
 abbrev pub outsideIn : {A : Type 0} → (A → List Limit) → ℕ → Worded A → ℕ
@@ -76,4 +76,4 @@ outsideIn numbers c w = outsideColumn (numberColumns false c (w .text)) (numbers
 -- of parts with one mark between two, the first of which begins at column c
 abbrev pub outsideAmong : {A : Type 0} → (A → List Limit) → ℕ → List (Worded A) → ℕ
 outsideAmong numbers c [] = 0
-outsideAmong numbers c (w ∷ ws) = let later = outsideAmong numbers (c + suc (length (w .text))) ws in firstOf (outsideIn numbers c w) later
+outsideAmong numbers c (w ∷ ws) = let later = outsideAmong numbers (c + suc (length (w .text))) ws in firstColumn (outsideIn numbers c w) later

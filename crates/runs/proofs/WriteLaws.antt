@@ -12,7 +12,7 @@ use Rattle.rules.specs.Grammar.{tc}
 use Rattle.rules.specs.Halves.{over}
 use Rattle.rules.specs.Reel.{reelOf}
 use Rattle.rules.specs.Plan.{Plan, isTC, isFS, blockLength}
-use Rattle.rules.specs.Run.{Ran as RuleRan, ranOf, convert, spannedRun, conversion, outputBlocks}
+use Rattle.rules.specs.Run.{RunOutput, ranOf, convert, spannedRun, conversion, outputBlocks}
 use Rattle.rules.specs.Lent.{zoneF, runAnswer, outputAfter}
 use Rattle.rules.proofs.Bounds.{reel-most}
 use Rattle.rules.proofs.BlocksOutcome.{reads-give}
@@ -28,12 +28,12 @@ use Rattle.writers.specs.Promise.{ReelPut}
 use Rattle.outcomes.specs.declared.Ran.{Ran}
 use Rattle.outcomes.specs.Promise.{ranStruct}
 use Rattle.outcomes.proofs.OutcomeLaws.{over-front, refuses}
-use Rattle.checks.specs.Promise.{Given, GivenPlan, Checked}
-use Rattle.runs.specs.Promise.{Finishes, Finishing, Written, RanInto}
+use Rattle.checks.specs.Promise.{PlanGiven, SomePlanGiven, Checked}
+use Rattle.runs.specs.Promise.{Finishes, Finishing, ReelWritten, PlanRanInto}
 
 -- ---- a run that finishes
 
-module _ {task : Task} {fields s : List ℕ} {blocks room : ℕ} {p : Plan} {x : RuleRan} (y : Finishes task fields s blocks room p x) where
+module _ {task : Task} {fields s : List ℕ} {blocks room : ℕ} {p : Plan} {x : RunOutput} (y : Finishes task fields s blocks room p x) where
   parts : Finished p room s x
   parts = finished p room s x (y .finishes)
 
@@ -43,7 +43,7 @@ module _ {task : Task} {fields s : List ℕ} {blocks room : ℕ} {p : Plan} {x :
   copy-is e a =
       let w = parts in
       let ok = y .given .accepted in
-      ap (λ (z : RuleRan). z .reel) (w .writes)
+      ap (λ (z : RunOutput). z .reel) (w .writes)
       ∙ copy-reel p ok (sym (y .given .is .mode) ∙ e) s (w .recs) (reads-give p ok s a (w .reel) (w .recs) (w .reads))
 
   pub copy-fits : modeOf (task .mode) ≡ tc → All Byte s → (length s ≤ 65536) × (length s ≤ room)
@@ -52,11 +52,11 @@ module _ {task : Task} {fields s : List ℕ} {blocks room : ℕ} {p : Plan} {x :
   -- the others
   reel-is : x .reel ≡ reelOf (blocksIn p (parts .recs))
   unfolding ranOf blocksIn
-  reel-is = ap (λ (z : RuleRan). z .reel) (parts .writes)
+  reel-is = ap (λ (z : RunOutput). z .reel) (parts .writes)
 
   blocks-are : x .blocks ≡ length (outputBlocks p (parts .recs))
   unfolding ranOf
-  blocks-are = ap (λ (z : RuleRan). z .blocks) (parts .writes)
+  blocks-are = ap (λ (z : RunOutput). z .blocks) (parts .writes)
 
   abbrev lent-to : isTC (modeOf (task .mode)) ≡ false → Lent task fields s blocks room
   lent-to e =
@@ -77,10 +77,10 @@ module _ {task : Task} {fields s : List ℕ} {blocks room : ℕ} {p : Plan} {x :
       }
 
 module _ {task : Task} {fields s : List ℕ} {blocks : ℕ} {old new : List ℕ} where
-  pub copied : modeOf (task .mode) ≡ tc → All Byte s → new ≡ over 0 s old → Written task fields s blocks old new
+  pub copied : modeOf (task .mode) ≡ tc → All Byte s → new ≡ over 0 s old → ReelWritten task fields s blocks old new
   copied e a h = record { is = λ p x y. over-front s old new x (copy-is y e a) h }
 
-  pub wrote : isTC (modeOf (task .mode)) ≡ false → ReelPut task fields s blocks old new → Written task fields s blocks old new
+  pub wrote : isTC (modeOf (task .mode)) ≡ false → ReelPut task fields s blocks old new → ReelWritten task fields s blocks old new
   unfolding ReelPut
   wrote e h = record { is = λ p x y. over-front (reelOf (blocksIn p (parts y .recs))) old new x (reel-is y) (h (lent-to y e)) }
 
@@ -96,23 +96,23 @@ lent-on y e = lent-to (y .given) e
 never-none : (p : Plan) (room : ℕ) (s : List ℕ) → Refuses (λ f. 1 ≤ f .number) (convert room p s)
 never-none p room s = refuses-convert (λ f. 1 ≤ f .number) room p s (λ m h i. omega arith)
 
-ends : (a : Answer RuleRan) → Refuses (λ f. 1 ≤ f .number) a → (r : Ran) → r ≡ ranStruct (runAnswer a) → r .refusal ≤ 0 → (x : RuleRan) × (a ≡ fine x) × (r .blocks ≡ x .blocks)
+ends : (a : Answer RunOutput) → Refuses (λ f. 1 ≤ f .number) a → (r : Ran) → r ≡ ranStruct (runAnswer a) → r .refusal ≤ 0 → (x : RunOutput) × (a ≡ fine x) × (r .blocks ≡ x .blocks)
 ends (fine x) w r e l = (x, refl, ap (λ (q : Ran). q .blocks) e)
 ends (refuse f) w r e l = absurd (let q = ap (λ (q : Ran). q .refusal) e in omega arith)
 
 module _ {task : Task} {fields s : List ℕ} (old : List ℕ) {r : Ran} (h : Checked task fields s (length old) r) where
-  pub ran-refused : 0 < r .refusal → RanInto task fields s old r old
+  pub ran-refused : 0 < r .refusal → PlanRanInto task fields s old r old
   ran-refused l = record { answer = h .is; output = λ p g. refuses (convert (length old) p s) r (h .is p g) l old }
 
-  finishes-by : r .refusal ≤ 0 → (p : Plan) → Given task fields p → (x : RuleRan) × Finishes task fields s (r .blocks) (length old) p x
+  finishes-by : r .refusal ≤ 0 → (p : Plan) → PlanGiven task fields p → (x : RunOutput) × Finishes task fields s (r .blocks) (length old) p x
   finishes-by l p g =
       let w = ends (convert (length old) p s) (never-none p (length old) s) r (h .is p g) l in
       (w .0, record { given = g; finishes = w .1; count = w .2 })
 
-  pub finishing : r .refusal ≤ 0 → GivenPlan task fields → Finishing task fields s (r .blocks) (length old)
+  pub finishing : r .refusal ≤ 0 → SomePlanGiven task fields → Finishing task fields s (r .blocks) (length old)
   finishing l g = let w = finishes-by l (g .p) (g .given) in record { p = g .p; x = w .0; given = w .1 }
 
-  pub ran-written : r .refusal ≤ 0 → (new : List ℕ) → Written task fields s (r .blocks) old new → RanInto task fields s old r new
+  pub ran-written : r .refusal ≤ 0 → (new : List ℕ) → ReelWritten task fields s (r .blocks) old new → PlanRanInto task fields s old r new
   ran-written l new k =
       record {
         answer = h .is;

@@ -8,8 +8,8 @@ ghost use Rattle.terms.specs.Meaning.{planIn};
 ghost use Rattle.rows.specs.Kept.{fieldsIn};
 ghost use Rattle.rows.specs.Fair.{PlanFair};
 ghost use Rattle.outcomes.specs.Promise.{ranStruct};
-ghost use Rattle.checks.specs.Promise.{GivenPlan};
-ghost use Rattle.runs.specs.Promise.{Finishing, Written, RanInto};
+ghost use Rattle.checks.specs.Promise.{SomePlanGiven};
+ghost use Rattle.runs.specs.Promise.{Finishing, ReelWritten, PlanRanInto};
 use outcomes::Ran;
 use terms::Asked;
 use terms::Mode;
@@ -18,7 +18,7 @@ use terms::Task;
 // Writes the output reel of a run that finishes. The output of TC is its input.
 fn write(task: Task, fields: &[u16], s: &[u8], blocks: usize, out: &mut [u8])
     requires { ⌜ Finishing task (now fields) (now s) blocks (length (now out)) ⌝ }
-    ensures { λ _. ⌜ Written task (now (fields .entry)) (now (s .entry)) blocks (now (out .entry)) (now (out .exit)) ⌝ }
+    ensures { λ _. ⌜ ReelWritten task (now (fields .entry)) (now (s .entry)) blocks (now (out .entry)) (now (out .exit)) ⌝ }
 {
     let mode = task.mode;
     match mode {
@@ -31,8 +31,8 @@ fn write(task: Task, fields: &[u16], s: &[u8], blocks: usize, out: &mut [u8])
 
 // A run that is refused writes nothing.
 fn run(task: Task, fields: &[u16], s: &[u8], out: &mut [u8]) -> Ran
-    requires { ⌜ GivenPlan task (now fields) ⌝ }
-    ensures { λ r. ⌜ RanInto task (now (fields .entry)) (now (s .entry)) (now (out .entry)) r (now (out .exit)) ⌝ }
+    requires { ⌜ SomePlanGiven task (now fields) ⌝ }
+    ensures { λ r. ⌜ PlanRanInto task (now (fields .entry)) (now (s .entry)) (now (out .entry)) r (now (out .exit)) ⌝ }
 {
     let answer = checks::check(task, fields, s, out.len());
     let refusal = answer.refusal;

@@ -13,7 +13,7 @@ use Rattle.rules.specs.Deck.{lines, cardOf}
 use Rattle.rules.specs.Order.{operandsOf}
 use Rattle.rules.proofs.LineLaws.{Passed, passed-none, passed-byte, passed-end, passed-all, passed-last}
 use Rattle.rules.proofs.CardPlaces.{tidy-long, card-untidy}
-use Rattle.lines.specs.Ordering.{most, kindOf, withLine, orderOf, cardCount}
+use Rattle.lines.specs.Ordering.{most, cardKindOf, withLine, orderOf, cardCount}
 use Rattle.lines.specs.declared.CardKind.{CardKind}
 use Rattle.lines.specs.declared.LinesSeen.{LinesSeen}
 use Rattle.lines.proofs.SeenLaws.{noLine, withLines, with-lines-more, kinds, deck-seen}
@@ -50,26 +50,26 @@ held-none =
     record { done = []; line = []; passed = passed-none; seen = refl; room = refl; long = refl; kept = λ h. refl }
 
 -- the begun line is judged as the whole line is
-held-kind : {x : List ℕ} {st : Scanner} (h : Held x st) → begunKind st ≡ kindOf (cardOf (h .line))
+held-kind : {x : List ℕ} {st : Scanner} (h : Held x st) → begunKind st ≡ cardKindOf (cardOf (h .line))
 held-kind {x} {st} h = go (leb (length (h .line)) 80) refl
   where
-    go : (t : Bool) → leb (length (h .line)) 80 ≡ t → begunKind st ≡ kindOf (cardOf (h .line))
+    go : (t : Bool) → leb (length (h .line)) 80 ≡ t → begunKind st ≡ cardKindOf (cardOf (h .line))
     go true t =
         let m : length (h .line) ≤ 80 = leb-true (length (h .line)) 80 t in
         let e : st .size ≡ length (h .line) = omega (arith, h .long) in
-        begun-short st (omega arith) ∙ ap (λ (n : ℕ). kindOf (cardOf (take n (st .begun)))) e ∙ ap (λ (l : List ℕ). kindOf (cardOf l)) (h .kept m)
+        begun-short st (omega arith) ∙ ap (λ (n : ℕ). cardKindOf (cardOf (take n (st .begun)))) e ∙ ap (λ (l : List ℕ). cardKindOf (cardOf l)) (h .kept m)
     go false t =
         let m : 80 < length (h .line) = leb-false (length (h .line)) 80 t in
-        begun-long st (omega (arith, h .long)) ∙ sym (ap kindOf (card-untidy (h .line) (tidy-long (h .line) m)))
+        begun-long st (omega (arith, h .long)) ∙ sym (ap cardKindOf (card-untidy (h .line) (tidy-long (h .line) m)))
 
 held-seen : {x : List ℕ} {st : Scanner} (h : Held x st) → seenOf (lineEnded st) ≡ withLines noLine (kinds (h .done ++ (h .line ∷ [])))
 held-seen {x} {st} h =
-    let k : CardKind = kindOf (cardOf (h .line)) in
+    let k : CardKind = cardKindOf (cardOf (h .line)) in
     seen-ended st
     ∙ ap (withLine (seenOf st)) (held-kind h)
     ∙ ap (λ (t : LinesSeen). withLine t k) (h .seen)
     ∙ sym (with-lines-more noLine (kinds (h .done)) k)
-    ∙ ap (withLines noLine) (sym (map-append (λ l. kindOf (cardOf l)) (h .done) (h .line ∷ [])))
+    ∙ ap (withLines noLine) (sym (map-append (λ l. cardKindOf (cardOf l)) (h .done) (h .line ∷ [])))
 
 -- a line ends
 held-end : {x : List ℕ} {st : Scanner} → Held x st → Held (x ++ (0x0A ∷ [])) (lineEnded st)

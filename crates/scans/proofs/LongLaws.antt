@@ -13,7 +13,7 @@ use Rattle.rules.specs.Answer.{refused}
 use Rattle.rules.specs.Deck.{lines, cardOf}
 use Rattle.rules.proofs.LineLaws.{ended, lines-deck}
 use Rattle.rules.proofs.CardPlaces.{tidy-long, card-untidy}
-use Rattle.lines.specs.Ordering.{oneMore, firstMarked, kindOf, isOther, faulty, misplaced, withLine, orderOf}
+use Rattle.lines.specs.Ordering.{oneMore, firstMarked, cardKindOf, isOther, faulty, misplaced, withLine, orderOf}
 use Rattle.lines.specs.declared.CardKind.{CardKind}
 use Rattle.lines.specs.declared.CardKind.the-variants.{Utility, Select, End, Other}
 use Rattle.lines.specs.declared.LinesSeen.{LinesSeen}
@@ -49,7 +49,7 @@ placed-few Select place ended o e = faulty-few place ended e
 placed-few End place ended o e = faulty-few place ended e
 placed-few Other place ended o e = absurd (not-both o)
 
-card-short : (l : List ℕ) → isOther (kindOf (cardOf l)) ≡ false → length l ≤ 80
+card-short : (l : List ℕ) → isOther (cardKindOf (cardOf l)) ≡ false → length l ≤ 80
 card-short l e = go (leb (length l) 80) refl
   where
     go : (t : Bool) → leb (length l) 80 ≡ t → length l ≤ 80
@@ -76,7 +76,7 @@ unmarked-short : (t : LinesSeen) (n : ℕ) (ls : List (List ℕ)) → t .lines �
     → (n + length ls ≤ 64) × (length (ended ls) ≤ 81 * length ls)
 unmarked-short t n [] e h good right = omega arith
 unmarked-short t n (l ∷ ls) e h good right =
-    let k : CardKind = kindOf (cardOf l) in
+    let k : CardKind = cardKindOf (cardOf l) in
     let place : oneMore (t .lines) ≡ suc n = next-place t n e (omega arith) in
     let o : isOther k ≡ false = first-none (t .bad) (isOther k) (oneMore (t .lines)) (omega arith) (bad-never (withLine t k) (kinds ls) good) in
     let m : misplaced k (oneMore (t .lines)) (t .ended) ≡ false

@@ -7,7 +7,7 @@ use lib.ListN.{length, getD, take, drop, set, drop-of-length-le}
 use lib.Seq.{drop-cons}
 use borrow.Author.Tests.{eq-eqb, ne-eqb, lt-ltb, le-ltb, le-leb, lt-leb}
 use Rattle.rules.specs.Deck.{cardOf}
-use Rattle.lines.specs.Ordering.{kindOf, withLine, orderOf}
+use Rattle.lines.specs.Ordering.{cardKindOf, withLine, orderOf}
 use Rattle.lines.specs.declared.CardKind.{CardKind}
 use Rattle.lines.specs.declared.CardKind.the-variants.{Other}
 use Rattle.lines.specs.declared.LinesSeen.{LinesSeen}
@@ -19,7 +19,7 @@ module _ (st : Scanner) where
   unfolding begunKind
   begun-long h = rw (lt-leb (st .size) 80 h)
 
-  pub begun-short : st .size ≤ 80 → begunKind st ≡ kindOf (cardOf (take (st .size) (st .begun)))
+  pub begun-short : st .size ≤ 80 → begunKind st ≡ cardKindOf (cardOf (take (st .size) (st .begun)))
   unfolding begunKind
   begun-short h = rw (le-leb (st .size) 80 h)
 

@@ -7,7 +7,7 @@ use lib.Dec.{ltb, leb, eqb}
 use lib.ListN.{take, set, replicate}
 use Rattle.rules.specs.Answer.{Answer}
 use Rattle.rules.specs.Deck.{cardOf}
-use Rattle.lines.specs.Ordering.{kindOf, withLine, orderOf}
+use Rattle.lines.specs.Ordering.{cardKindOf, withLine, orderOf}
 use Rattle.lines.specs.declared.CardKind.{CardKind}
 use Rattle.lines.specs.declared.CardKind.the-variants.{Other}
 use Rattle.lines.specs.declared.LinesSeen.{LinesSeen}
@@ -17,7 +17,7 @@ use Rattle.scans.specs.declared.Scanner.{Scanner}
 
 -- the begun line, of 80 bytes or fewer
 unfoldable pub begunKind : Scanner → CardKind
-begunKind st = cond (leb (st .size) 80) (kindOf (cardOf (take (st .size) (st .begun)))) Other
+begunKind st = cond (leb (st .size) 80) (cardKindOf (cardOf (take (st .size) (st .begun)))) Other
 
 -- what the lines that have ended come to
 abbrev pub seenOf : Scanner → LinesSeen

@@ -12,14 +12,14 @@ use Rattle.rules.proofs.AllLaws.{all-head, all-tail}
 use Rattle.segments.specs.declared.Spot.{Spot}
 use Rattle.segments.specs.declared.SegmentRead.{SegmentRead}
 use Rattle.segments.specs.Spots.{nextOf, passedBy, spotAfter}
-use Rattle.segments.specs.Promise.{Stands, Before, Coming, Comes}
+use Rattle.segments.specs.Promise.{SpotStands, Before, Coming, Comes}
 use Rattle.segments.proofs.SpotLaws.{on-next, after-data, after-more}
 use Rattle.segments.proofs.StandsLaws.{Step, step-next, stands-block, stands-moved, spot-length}
 
 -- so much of the record is passed, and this is missing
 pub record Within (g : ℕ) (s : List ℕ) (r : List ℕ) (rs : List (List ℕ)) (v : Spot) (size : ℕ) : Type 0 where
   pub segments : List Segment
-  pub stands : Stands g s v segments
+  pub stands : SpotStands g s v segments
   pub nothing : v .from ≡ v .to
   pub fresh : Bool
   pub missing : List ℕ
@@ -54,9 +54,9 @@ module _ (g : ℕ) (s : List ℕ) (x : SegmentRead) (b e : Bool) (d : List ℕ) 
   read-length : lengthAt (x .spot) ≡ length d
   read-length = sym (spot-length s (x .spot) (c .some) (c .inside)) ∙ ap length (c .bytes ∙ ap part is-first)
 
-  read-past : Stands g s (passedBy (lengthAt (x .spot)) (x .spot)) more
+  read-past : SpotStands g s (passedBy (lengthAt (x .spot)) (x .spot)) more
   read-past =
-      stands-moved (lengthAt (x .spot)) (omega (arith, c .some)) (subst (Stands g s (x .spot)) (sym (tail-same (segment b e d) (c .first) more (c .more) (c .is))) (c .stands))
+      stands-moved (lengthAt (x .spot)) (omega (arith, c .some)) (subst (SpotStands g s (x .spot)) (sym (tail-same (segment b e d) (c .first) more (c .more) (c .is))) (c .stands))
 
 passed-by : (g : ℕ) (s r : List ℕ) (rs : List (List ℕ)) (size : ℕ) (x : SegmentRead) → All (λ y. length y ≤ 32752) (r ∷ rs) → {fresh : Bool} {ss : List Segment} {m : List ℕ}
     → Joined fresh ss (m ∷ rs) → size + length m ≡ length r → Step g s x ss → Passed g s r rs size x

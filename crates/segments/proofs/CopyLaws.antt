@@ -11,15 +11,15 @@ use Rattle.rules.specs.Halves.{over}
 use Rattle.rules.proofs.LentParts.{rest-over}
 use Rattle.rules.proofs.PlaceLaws.{over-behind, over-nothing}
 use Rattle.rules.proofs.SizeLaws.{length-over}
-use Rattle.reels.specs.Header.{partAt}
+use Rattle.reels.specs.Header.{blockPart}
 use Rattle.segments.specs.declared.Spot.{Spot}
 use Rattle.segments.specs.Spots.{passedBy, onData, spotAfter}
 use Rattle.segments.specs.Promise.{Streams, Streamed, Copyable, Copied}
 use Rattle.segments.proofs.StreamLaws.{lent-part, Streaming, streaming-start, streaming-block, streaming-some, streaming-room, streaming-part, streaming-more}
 
 -- the bytes as they are lent, `&b[from..from + n]`
-pub lent-put : (s : List ℕ) (v : Spot) (n : ℕ) (b old new : List ℕ) → b ≡ partAt s (v .block) → new ≡ over 0 (take (v .from + n - v .from) (drop (v .from) b)) old
-    → new ≡ over 0 (take n (drop (v .from) (partAt s (v .block)))) old
+pub lent-put : (s : List ℕ) (v : Spot) (n : ℕ) (b old new : List ℕ) → b ≡ blockPart s (v .block) → new ≡ over 0 (take (v .from + n - v .from) (drop (v .from) b)) old
+    → new ≡ over 0 (take n (drop (v .from) (blockPart s (v .block)))) old
 lent-put s v n b old new e w = w ∙ ap (λ (z : List ℕ). over 0 z old) (lent-part s v n b e)
 
 pub record Copying (s : List ℕ) (v : Spot) (n : ℕ) (old new : List ℕ) (at : Spot) (done : ℕ) : Type 0 where
@@ -67,13 +67,13 @@ module _ {s : List ℕ} {v : Spot} {n : ℕ} {old new : List ℕ} {at : Spot} {d
       copying-size = let h = copying-some in omega arith
 
       -- they lie in the block, and there is room for them
-      pub copying-room : (here .from + size ≤ length (partAt s (here .block))) × (size ≤ 65536) × (done + size ≤ length new)
+      pub copying-room : (here .from + size ≤ length (blockPart s (here .block))) × (size ≤ 65536) × (done + size ≤ length new)
       copying-room =
           let z = copying-size in
           let r = streaming-room (k .streaming) l here e size (z .0) (z .1) (z .2) in
           (r .0, r .1, omega (arith, z .2, copying-length, k .fits))
 
-      pub copying-more : (next : List ℕ) → next ≡ over 0 (take size (drop (here .from) (partAt s (here .block)))) (take (length new - done) (drop done new)) → (w : Spot) → w ≡ passedBy size here
+      pub copying-more : (next : List ℕ) → next ≡ over 0 (take size (drop (here .from) (blockPart s (here .block)))) (take (length new - done) (drop done new)) → (w : Spot) → w ≡ passedBy size here
           → Copying s v n old (putMid done (length new - done) new next) w (done + size)
       copying-more next p w z =
           record {
@@ -84,7 +84,7 @@ module _ {s : List ℕ} {v : Spot} {n : ℕ} {old new : List ℕ} {at : Spot} {d
         where
           put-is : (g : ℕ) (x : List ℕ) → Streams g s v x → n ≤ length x → putMid done (length new - done) new next ≡ over 0 (take (done + size) x) old
           put-is g x y m =
-              let part = take size (drop (here .from) (partAt s (here .block))) in
+              let part = take size (drop (here .from) (blockPart s (here .block))) in
               let same : part ≡ take size (drop done x) = streaming-part (k .streaming) l here e size (copying-size .0) (copying-size .1) (copying-size .2) g x y m in
               let t : length (take done x) ≡ done = length-take-le done x (omega (arith, k .streaming .inside)) in
               let u : length (take size (drop done x)) ≡ size = length-take-le size (drop done x) (omega (arith, length-drop done x, copying-size .2)) in

@@ -23,11 +23,11 @@ use Rattle.rules.proofs.Bounds.{parts-length}
 use Rattle.rules.proofs.ReelLaws.{header-is, length-blocks}
 use Rattle.rules.proofs.ReelSteps.{offset-first, offset-last}
 use Rattle.rules.proofs.SpannedTurns.{turns-once, turns-exactly}
-use Rattle.reels.specs.Header.{partAt}
+use Rattle.reels.specs.Header.{blockPart}
 use Rattle.reels.proofs.HeaderLaws.{part-step, words-missing}
 use Rattle.segments.specs.declared.Spot.{Spot}
 use Rattle.segments.specs.Spots.{firstSpot, bytesAt}
-use Rattle.segments.specs.Promise.{GoodSpans, Stands, Streams, Before}
+use Rattle.segments.specs.Promise.{GoodSpans, SpotStands, Streams, Before}
 use Rattle.segments.proofs.SegmentLaws.{end-from, from-parts, read-from}
 use Rattle.segments.proofs.StandsLaws.{bytes-length}
 
@@ -50,10 +50,10 @@ good-same {g} {g′} {s} {recs} {recs′} a b =
 
 -- ---- the first spot
 
-stands-first : (g : ℕ) (s : List ℕ) → isReel s ≡ true → (sss : List (List Segment)) → Both (Reads g) (blocksOf s) sss → Stands g s firstSpot (joined sss)
+stands-first : (g : ℕ) (s : List ℕ) → isReel s ≡ true → (sss : List (List Segment)) → Both (Reads g) (blocksOf s) sss → SpotStands g s firstSpot (joined sss)
 stands-first g s e sss all = go (ltb 0 (blockCount s)) refl
   where
-    split : (sss : List (List Segment)) → Both (Reads g) (partAt s 0 ∷ drop 1 (blocksOf s)) sss → Stands g s firstSpot (joined sss)
+    split : (sss : List (List Segment)) → Both (Reads g) (blockPart s 0 ∷ drop 1 (blocksOf s)) sss → SpotStands g s firstSpot (joined sss)
     split (here ∷ later) (both v w) =
         record {
           reel = e;
@@ -61,14 +61,14 @@ stands-first g s e sss all = go (ltb 0 (blockCount s)) refl
           ordered = omega arith;
           inside = λ h. absurd (omega arith);
           here = here;
-          left = read-from g (partAt s 0) here v .0;
+          left = read-from g (blockPart s 0) here v .0;
           later = later;
           behind = w;
           is = refl;
         }
 
     -- a reel of no block has no part
-    nothing : blocksOf s ≡ [] → length (partAt s 0) ≤ 4 → (sss : List (List Segment)) → Both (Reads g) [] sss → Stands g s firstSpot (joined sss)
+    nothing : blocksOf s ≡ [] → length (blockPart s 0) ≤ 4 → (sss : List (List Segment)) → Both (Reads g) [] sss → SpotStands g s firstSpot (joined sss)
     nothing z n [] none-left =
         record {
           reel = e;
@@ -76,19 +76,19 @@ stands-first g s e sss all = go (ltb 0 (blockCount s)) refl
           ordered = omega arith;
           inside = λ h. absurd (omega arith);
           here = [];
-          left = end-from (partAt s 0) 4 n;
+          left = end-from (blockPart s 0) 4 n;
           later = [];
           behind = subst (λ (bs : List (List ℕ)). Both (Reads g) (drop 1 bs) []) (sym z) none-left;
           is = refl;
         }
 
-    go : (t : Bool) → ltb 0 (blockCount s) ≡ t → Stands g s firstSpot (joined sss)
+    go : (t : Bool) → ltb 0 (blockCount s) ≡ t → SpotStands g s firstSpot (joined sss)
     go true t = split sss (subst (λ (bs : List (List ℕ)). Both (Reads g) bs sss) (part-step s 0 e (ltb-true 0 (blockCount s) t)) all)
     go false t =
         let m = ltb-false 0 (blockCount s) t in
         let q : blockCount s ≡ 0 = omega arith in
         let last : offsetAt s 0 ≡ length s = ap (offsetAt s) (sym q) ∙ offset-last s e in
-        let n : length (partAt s 0) ≤ 4 = omega (arith, ap length (words-missing s 0 (omega (arith, last, offset-first s e)))) in
+        let n : length (blockPart s 0) ≤ 4 = omega (arith, ap length (words-missing s 0 (omega (arith, last, offset-first s e)))) in
         let z : blocksOf s ≡ [] = drop-of-length-le (blocksOf s) {i = 0} (omega (arith, length-blocks s e)) in
         nothing z n sss (subst (λ (bs : List (List ℕ)). Both (Reads g) bs sss) z all)
 
@@ -100,8 +100,8 @@ good-before {g} {s} {recs} a =
 
 -- ---- how much is left
 
-part-most : (s : List ℕ) (i : ℕ) → length (partAt s i) ≤ length s
-unfolding partAt
+part-most : (s : List ℕ) (i : ℕ) → length (blockPart s i) ≤ length s
+unfolding blockPart
 part-most s i = go (leb (4 * i + 12) (length s) && leb (offsetAt s (suc i)) (length s))
   where
     go : (t : Bool) → length (cond t (slice (offsetAt s i) (offsetAt s (suc i)) s) []) ≤ length s
@@ -120,26 +120,26 @@ later-parts g (both {x = b} {y = ss} {xs = bs} {ys = sss} v w) =
     (all-append (f .0) (k .0), omega (arith, f .1, k .1, ap length (mapped-append part ss (joined sss)), length-append (joined (map part ss)) (joined (map part (joined sss))), length-append b (joined bs)))
 
 -- a block and those behind it lie in the reel
-blocks-few : (s : List ℕ) → isReel s ≡ true → (i : ℕ) → length (partAt s i) + length (joined (drop (suc i) (blocksOf s))) ≤ 65536
+blocks-few : (s : List ℕ) → isReel s ≡ true → (i : ℕ) → length (blockPart s i) + length (joined (drop (suc i) (blocksOf s))) ≤ 65536
 blocks-few s e i = go (ltb i (blockCount s)) refl
   where
-    go : (t : Bool) → ltb i (blockCount s) ≡ t → length (partAt s i) + length (joined (drop (suc i) (blocksOf s))) ≤ 65536
+    go : (t : Bool) → ltb i (blockCount s) ≡ t → length (blockPart s i) + length (joined (drop (suc i) (blocksOf s))) ≤ 65536
     go true t =
         let q = ap (λ (bs : List (List ℕ)). length (joined bs)) (part-step s i e (ltb-true i (blockCount s) t)) in
-        omega (arith, q, length-append (partAt s i) (joined (drop (suc i) (blocksOf s))), drop-less i (blocksOf s), parts-length s e, header-is s e .most)
+        omega (arith, q, length-append (blockPart s i) (joined (drop (suc i) (blocksOf s))), drop-less i (blocksOf s), parts-length s e, header-is s e .most)
     go false t =
         let m = ltb-false i (blockCount s) t in
         let z : drop (suc i) (blocksOf s) ≡ [] = drop-of-length-le (blocksOf s) {i = suc i} (omega (arith, length-blocks s e)) in
         omega (arith, ap (λ (bs : List (List ℕ)). length (joined bs)) z, part-most s i, header-is s e .most)
 
-module _ {g : ℕ} {s : List ℕ} {v : Spot} {ss : List Segment} (k : Stands g s v ss) where
-  here-parts : Parts (k .here) (length (partAt s (v .block)) - v .to)
-  here-parts = from-parts (length (partAt s (v .block))) (partAt s (v .block)) (v .to) (k .here) (omega arith) (k .left)
+module _ {g : ℕ} {s : List ℕ} {v : Spot} {ss : List Segment} (k : SpotStands g s v ss) where
+  here-parts : Parts (k .here) (length (blockPart s (v .block)) - v .to)
+  here-parts = from-parts (length (blockPart s (v .block))) (blockPart s (v .block)) (v .to) (k .here) (omega arith) (k .left)
 
   pub stands-parts : All (λ x. 1 ≤ length (part x)) ss
   stands-parts = subst (All (λ x. 1 ≤ length (part x))) (sym (k .is)) (all-append (here-parts .0) (later-parts g (k .behind) .0))
 
-  data-most : length (joined (map part ss)) ≤ (length (partAt s (v .block)) - v .to) + length (joined (drop (suc (v .block)) (blocksOf s)))
+  data-most : length (joined (map part ss)) ≤ (length (blockPart s (v .block)) - v .to) + length (joined (drop (suc (v .block)) (blocksOf s)))
   data-most =
       omega (
         arith,

@@ -15,7 +15,7 @@ use Rattle.rules.proofs.SpannedFill.{joined-data}
 use Rattle.segments.specs.declared.Spot.{Spot}
 use Rattle.segments.specs.declared.RecordAhead.{RecordAhead}
 use Rattle.segments.specs.Spots.{spotAfter}
-use Rattle.segments.specs.Promise.{Streams, Before, Takeable, Taken, Coming, Comes, Copyable, Copied, Streamed, SameData}
+use Rattle.segments.specs.Promise.{Streams, Before, Takeable, SpotTaken, Coming, Comes, Copyable, Copied, Streamed, SameData}
 use Rattle.segments.proofs.StandsLaws.{bytes-none}
 use Rattle.segments.proofs.GoodLaws.{stands-parts, streams-few, joins-data}
 
@@ -60,7 +60,7 @@ module _ {g h : ℕ} {s t : List ℕ} {v u : Spot} {r r′ : List ℕ} {rs rs′
 
 -- ---- one outcome only
 
-pub taken-only-one : (s : List ℕ) (count : ℕ) → Takeable s count → {x y : Spot} → Taken s count x → Taken s count y → x ≡ y
+pub taken-only-one : (s : List ℕ) (count : ℕ) → Takeable s count → {x y : Spot} → SpotTaken s count x → SpotTaken s count y → x ≡ y
 taken-only-one s count t a b = a .is (t .g) (t .recs) (t .good) ∙ sym (b .is (t .g) (t .recs) (t .good))
 
 pub ahead-only-one : (s : List ℕ) (v : Spot) → Coming s v → {x y : RecordAhead} → Comes s v x → Comes s v y → x ≡ y

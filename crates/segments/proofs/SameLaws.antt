@@ -9,7 +9,7 @@ use native.Mathlib.Omega.{arith}
 use lib.ListN.{length, take, drop}
 use lib.Seq.{take-add, take-take}
 use Rattle.rules.proofs.Lists.{slice-from}
-use Rattle.reels.specs.Header.{partAt}
+use Rattle.reels.specs.Header.{blockPart}
 use Rattle.segments.specs.declared.Spot.{Spot}
 use Rattle.segments.specs.Spots.{passedBy, onData}
 use Rattle.segments.specs.Promise.{Streams, Streamed, SameData}
@@ -17,10 +17,10 @@ use Rattle.segments.proofs.StreamLaws.{lent-part, Streaming, streaming-
 
 -- so many of the bytes of its block from the spot's own place on
 abbrev pub Part : List ℕ → Spot → ℕ → List ℕ
-Part s v n = take n (drop (v .from) (partAt s (v .block)))
+Part s v n = take n (drop (v .from) (blockPart s (v .block)))
 
 -- the bytes as they are lent, `&b[from..from + n]` and `&c[at..at + n]`
-pub lent-same : (s : List ℕ) (v : Spot) (t : List ℕ) (u : Spot) (n : ℕ) (b c : List ℕ) → b ≡ partAt s (v .block) → c ≡ partAt t (u .block) → (r : Bool)
+pub lent-same : (s : List ℕ) (v : Spot) (t : List ℕ) (u : Spot) (n : ℕ) (b c : List ℕ) → b ≡ blockPart s (v .block) → c ≡ blockPart t (u .block) → (r : Bool)
     → (r ≡ true) ↔ (take (v .from + n - v .from) (drop (v .from) b) ≡ take (u .from + n - u .from) (drop (u .from) c)) → (r ≡ true) ↔ (Part s v n ≡ Part t u n)
 lent-same s v t u n b c d e r k = (λ q. sym (lent-part s v n b d) ∙ k .0 q ∙ lent-part t u n c e, λ q. k .1 (lent-part s v n b d ∙ q ∙ sym (lent-part t u n c e)))
 
@@ -62,7 +62,7 @@ module _ {s : List ℕ} {v : Spot} {t : List ℕ} {u : Spot} {n : ℕ} {at there
             omega arith
 
         -- they lie in the blocks
-        pub comparing-room : (here .from + size ≤ length (partAt s (here .block))) × (other .from + size ≤ length (partAt t (other .block))) × (size ≤ 65536)
+        pub comparing-room : (here .from + size ≤ length (blockPart s (here .block))) × (other .from + size ≤ length (blockPart t (other .block))) × (size ≤ 65536)
         comparing-room =
             let z = comparing-size in
             let a = streaming-room (k .one) l here e size (z .0) (z .1) (z .3) in

@@ -16,19 +16,19 @@ use Rattle.rules.specs.ReelPlaces.{pieceAt}
 use Rattle.rules.specs.Spanned.{Segment, ends, part, segmentOf, segmentAt, segmentsIn, segmentsOf as readOf}
 use Rattle.rules.proofs.CodedWords.{headedTo-exactly}
 use Rattle.rules.proofs.SpannedSteps.{walkAt, walkAt-end, walkAt-good, walkAt-bad}
-use Rattle.segments.specs.Promise.{segmentsOf, segmentsFrom}
+use Rattle.segments.specs.Promise.{allSegments, segmentsFrom}
 
 -- ---- from a place on
 
-pub from-walk : (b : List ℕ) (i : ℕ) → segmentsFrom b i ≡ segmentsOf b (walkAt 3 b i)
+pub from-walk : (b : List ℕ) (i : ℕ) → segmentsFrom b i ≡ allSegments b (walkAt 3 b i)
 unfolding segmentsFrom walkAt
 from-walk b i = refl
 
 pub from-end : (b : List ℕ) (i : ℕ) (ss : List Segment) → length b ≤ i → segmentsFrom b i ≡ some ss → ss ≡ []
-from-end b i ss l e = Option·some-injective ss [] (sym e ∙ from-walk b i ∙ ap (segmentsOf b) (walkAt-end 3 b i l))
+from-end b i ss l e = Option·some-injective ss [] (sym e ∙ from-walk b i ∙ ap (allSegments b) (walkAt-end 3 b i l))
 
 pub end-from : (b : List ℕ) (i : ℕ) → length b ≤ i → segmentsFrom b i ≡ some []
-end-from b i l = from-walk b i ∙ ap (segmentsOf b) (walkAt-end 3 b i l)
+end-from b i l = from-walk b i ∙ ap (allSegments b) (walkAt-end 3 b i l)
 
 -- the first segment, and those behind it
 pub record First (b : List ℕ) (i : ℕ) (ss : List Segment) : Type 0 where
@@ -47,7 +47,7 @@ from-first b i ss l e = go (headedTo 3 5 (drop i b)) refl
 
     step : headedTo 3 5 (drop i b) ≡ true → (o : Option (List Piece)) → walkAt 3 b j ≡ o → First b i ss
     step t none w =
-        absurd (Option·none-ne-some ss (sym (from-walk b i ∙ ap (segmentsOf b) (walkAt-good 3 b i t ∙ ap (withPiece (pieceAt i (drop i b))) w)) ∙ e))
+        absurd (Option·none-ne-some ss (sym (from-walk b i ∙ ap (allSegments b) (walkAt-good 3 b i t ∙ ap (withPiece (pieceAt i (drop i b))) w)) ∙ e))
     step t (some xs) w =
         let h = headedTo-exactly 3 5 (drop i b) .0 t in
         let d = length-drop i b in
@@ -58,13 +58,13 @@ from-first b i ss l e = go (headedTo 3 5 (drop i b)) refl
           more = map (segmentAt b) xs;
           is =
               sym (Option·some-injective (segmentAt b (pieceAt i (drop i b)) ∷ map (segmentAt b) xs) ss
-              (sym (from-walk b i ∙ ap (segmentsOf b) (walkAt-good 3 b i t ∙ ap (withPiece (pieceAt i (drop i b))) w)) ∙ e));
-          next = from-walk b j ∙ ap (segmentsOf b) w;
+              (sym (from-walk b i ∙ ap (allSegments b) (walkAt-good 3 b i t ∙ ap (withPiece (pieceAt i (drop i b))) w)) ∙ e));
+          next = from-walk b j ∙ ap (allSegments b) w;
         }
 
     go : (t : Bool) → headedTo 3 5 (drop i b) ≡ t → First b i ss
     go true t = step t (walkAt 3 b j) refl
-    go false t = absurd (Option·none-ne-some ss (sym (from-walk b i ∙ ap (segmentsOf b) (walkAt-bad 3 b i l t)) ∙ e))
+    go false t = absurd (Option·none-ne-some ss (sym (from-walk b i ∙ ap (allSegments b) (walkAt-bad 3 b i l t)) ∙ e))
 
 -- its data
 pub first-data : (b : List ℕ) (i : ℕ) → part (segmentAt b (pieceAt i (drop i b))) ≡ take (wordLength (drop i b) - 4) (drop (i + 4) b)
@@ -126,9 +126,9 @@ read-from g b ss e = go (headed 4 b && eqb (wordLength b) (length b)) refl (walk
     end xs true t false f q = (Option·some-injective (map (segmentAt b) xs) ss (rw (t, f) at q), f)
 
     go : (t : Bool) → (headed 4 b && eqb (wordLength b) (length b)) ≡ t → (o : Option (List Piece)) → walkFrom 3 (suc (length b)) 4 (drop 4 b) ≡ o
-        → (segmentsOf b (walkFrom 3 (suc (length b)) 4 (drop 4 b)) ≡ some ss) × (4 < length b)
+        → (allSegments b (walkFrom 3 (suc (length b)) 4 (drop 4 b)) ≡ some ss) × (4 < length b)
     go false t o w = absurd (Option·none-ne-some ss (rw t at e))
     go true t none w = absurd (Option·none-ne-some ss (rw (t, w) at e))
     go true t (some xs) w =
         let f = end xs (leb (length b) g) refl (isEmpty xs) refl (rw (t, w) at e) in
-        (ap (segmentsOf b) w ∙ ap some (f .0), long xs w (f .1))
+        (ap (allSegments b) w ∙ ap some (f .0), long xs w (f .1))

@@ -6,7 +6,7 @@ use Prim.Native.Nat.{ℕ, zero, suc, _+_, _≤_, _<_}
 use native.Mathlib.Omega.{arith}
 use lib.ListN.{length}
 use borrow.Author.Tests.{lt-ltb, le-ltb}
-use Rattle.reels.specs.Header.{partAt}
+use Rattle.reels.specs.Header.{blockPart}
 use Rattle.pieces.specs.Pieces.{wordedIn}
 use Rattle.pieces.specs.declared.PieceRead.{PieceRead}
 use Rattle.segments.specs.declared.Spot.{Spot}
@@ -15,17 +15,17 @@ use Rattle.segments.specs.Spots.{segmentRead, readAt, nextOf, passedBy, 
 
 -- ---- what stands there
 
-pub read-is : (s : List ℕ) (block at : ℕ) (b : List ℕ) (r : PieceRead) → b ≡ partAt s block → r ≡ wordedIn 3 b at → readAt s block at ≡ segmentRead block at r
+pub read-is : (s : List ℕ) (block at : ℕ) (b : List ℕ) (r : PieceRead) → b ≡ blockPart s block → r ≡ wordedIn 3 b at → readAt s block at ≡ segmentRead block at r
 unfolding readAt
 read-is s block at b r e f = ap (segmentRead block at) (ap (λ (z : List ℕ). wordedIn 3 z at) (sym e) ∙ sym f)
 
-pub next-here : (s : List ℕ) (v : Spot) (b : List ℕ) → b ≡ partAt s (v .block) → v .to < length b → readAt s (v .block) (v .to) ≡ nextOf s v
+pub next-here : (s : List ℕ) (v : Spot) (b : List ℕ) → b ≡ blockPart s (v .block) → v .to < length b → readAt s (v .block) (v .to) ≡ nextOf s v
 unfolding nextOf
-next-here s v b e l = rw (lt-ltb (v .to) (length (partAt s (v .block))) (omega (arith, ap length e)))
+next-here s v b e l = rw (lt-ltb (v .to) (length (blockPart s (v .block))) (omega (arith, ap length e)))
 
-pub next-later : (s : List ℕ) (v : Spot) (b : List ℕ) → b ≡ partAt s (v .block) → length b ≤ v .to → readAt s (v .block + 1) 4 ≡ nextOf s v
+pub next-later : (s : List ℕ) (v : Spot) (b : List ℕ) → b ≡ blockPart s (v .block) → length b ≤ v .to → readAt s (v .block + 1) 4 ≡ nextOf s v
 unfolding nextOf
-next-later s v b e l = rw (le-ltb (v .to) (length (partAt s (v .block))) (omega (arith, ap length e)))
+next-later s v b e l = rw (le-ltb (v .to) (length (blockPart s (v .block))) (omega (arith, ap length e)))
 
 pub on-here : (s : List ℕ) (v : Spot) → v .from < v .to → v ≡ onData s v
 unfolding onData

@@ -20,14 +20,14 @@ use Rattle.rules.specs.Spanned.{Segment, ends, part, segmentAt}
 use Rattle.rules.proofs.SpannedRead.{Reads}
 use Rattle.rules.proofs.Lists.{slice-from, slice-part}
 use Rattle.rules.proofs.ReelLaws.{header-is, length-blocks}
-use Rattle.reels.specs.Header.{partAt}
+use Rattle.reels.specs.Header.{blockPart}
 use Rattle.pieces.specs.Pieces.{found}
 use Rattle.reels.proofs.HeaderLaws.{part-step}
 use Rattle.pieces.proofs.PiecesLaws.{worded-good}
 use Rattle.segments.specs.declared.Spot.{Spot}
 use Rattle.segments.specs.declared.SegmentRead.{SegmentRead}
 use Rattle.segments.specs.Spots.{segmentRead, readAt, nextOf, passedBy, onData, bytesAt}
-use Rattle.segments.specs.Promise.{segmentsFrom, Stands, Streams}
+use Rattle.segments.specs.Promise.{segmentsFrom, SpotStands, Streams}
 use Rattle.segments.proofs.SegmentLaws.{from-end, from-first, first-data, first-ends, read-from}
 use Rattle.segments.proofs.SpotLaws.{read-is, next-here, next-later, on-here, on-next}
 
@@ -38,22 +38,22 @@ pub record Step (g : ℕ) (s : List ℕ) (r : SegmentRead) (ss : List Segment) :
   pub first : Segment
   pub more : List Segment
   pub is : ss ≡ first ∷ more
-  pub stands : Stands g s (r .spot) more
+  pub stands : SpotStands g s (r .spot) more
   pub bytes : bytesAt s (r .spot) ≡ part first
   pub ends : r .ends ≡ ends first
   pub some : r .spot .from < r .spot .to
-  pub inside : r .spot .to ≤ length (partAt s (r .spot .block))
+  pub inside : r .spot .to ≤ length (blockPart s (r .spot .block))
 
 module _ (g : ℕ) (s : List ℕ) (e : isReel s ≡ true) where
   -- in its block
-  step-here : (block i : ℕ) → block ≤ blockCount s → i < length (partAt s block) → (here : List Segment) → segmentsFrom (partAt s block) i ≡ some here
+  step-here : (block i : ℕ) → block ≤ blockCount s → i < length (blockPart s block) → (here : List Segment) → segmentsFrom (blockPart s block) i ≡ some here
       → (later : List (List Segment)) → Both (Reads g) (drop (suc block) (blocksOf s)) later → Step g s (readAt s block i) (here ++ joined later)
   unfolding bytesAt
   step-here block i m l here left later behind-it =
-      let b = partAt s block in
+      let b = blockPart s block in
       let f = from-first b i here l left in
       let x = pieceAt i (drop i b) in
-      let n = wordLength (drop i (partAt s block)) in
+      let n = wordLength (drop i (blockPart s block)) in
       let to : i + 4 + (n - 4) ≡ i + n = omega (arith, f .least) in
       let q : readAt s block i ≡ segmentRead block i (found x) = read-is s block i b (found x) refl (worded-good 3 b i l (f .head)) in
       subst (λ (r : SegmentRead). Step g s r (here ++ joined later)) (sym q)
@@ -84,8 +84,8 @@ module _ (g : ℕ) (s : List ℕ) (e : isReel s ≡ true) where
   step-later : (block : ℕ) → (later : List (List Segment)) → 1 ≤ length (joined later) → Both (Reads g) (drop block (blocksOf s)) later → Step g s (readAt s block 4) (joined later)
   step-later block later some-left all = go (ltb block (blockCount s)) refl
     where
-      split : (later : List (List Segment)) → block < blockCount s → Both (Reads g) (partAt s block ∷ drop (suc block) (blocksOf s)) later → Step g s (readAt s block 4) (joined later)
-      split (here ∷ later) m (both v w) = let k = read-from g (partAt s block) here v in step-here block 4 (omega arith) (k .1) here (k .0) later w
+      split : (later : List (List Segment)) → block < blockCount s → Both (Reads g) (blockPart s block ∷ drop (suc block) (blocksOf s)) later → Step g s (readAt s block 4) (joined later)
+      split (here ∷ later) m (both v w) = let k = read-from g (blockPart s block) here v in step-here block 4 (omega arith) (k .1) here (k .0) later w
 
       none-behind : (later : List (List Segment)) → Both (Reads g) [] later → length (joined later) ≡ 0
       none-behind [] none-left = refl
@@ -101,30 +101,30 @@ module _ (g : ℕ) (s : List ℕ) (e : isReel s ≡ true) where
           absurd (omega arith)
 
 -- behind a spot
-pub step-next : (g : ℕ) (s : List ℕ) (v : Spot) (ss : List Segment) → Stands g s v ss → 1 ≤ length ss → Step g s (nextOf s v) ss
-step-next g s v ss k l = go (ltb (v .to) (length (partAt s (v .block)))) refl
+pub step-next : (g : ℕ) (s : List ℕ) (v : Spot) (ss : List Segment) → SpotStands g s v ss → 1 ≤ length ss → Step g s (nextOf s v) ss
+step-next g s v ss k l = go (ltb (v .to) (length (blockPart s (v .block)))) refl
   where
-    go : (t : Bool) → ltb (v .to) (length (partAt s (v .block))) ≡ t → Step g s (nextOf s v) ss
+    go : (t : Bool) → ltb (v .to) (length (blockPart s (v .block))) ≡ t → Step g s (nextOf s v) ss
     go true t =
-        let m = ltb-true (v .to) (length (partAt s (v .block))) t in
+        let m = ltb-true (v .to) (length (blockPart s (v .block))) t in
         subst (Step g s (nextOf s v)) (sym (k .is))
-        (subst (λ (r : SegmentRead). Step g s r (k .here ++ joined (k .later))) (next-here s v (partAt s (v .block)) refl m)
+        (subst (λ (r : SegmentRead). Step g s r (k .here ++ joined (k .later))) (next-here s v (blockPart s (v .block)) refl m)
         (step-here g s (k .reel) (v .block) (v .to) (k .most) m (k .here) (k .left) (k .later) (k .behind)))
     go false t =
-        let m = ltb-false (v .to) (length (partAt s (v .block))) t in
-        let z : ss ≡ joined (k .later) = k .is ∙ ap (_++ joined (k .later)) (from-end (partAt s (v .block)) (v .to) (k .here) m (k .left)) in
+        let m = ltb-false (v .to) (length (blockPart s (v .block))) t in
+        let z : ss ≡ joined (k .later) = k .is ∙ ap (_++ joined (k .later)) (from-end (blockPart s (v .block)) (v .to) (k .here) m (k .left)) in
         let n : 1 ≤ length (joined (k .later)) = omega (arith, ap length z) in
         subst (Step g s (nextOf s v)) (sym z)
-        (subst (λ (r : SegmentRead). Step g s r (joined (k .later))) (next-later s v (partAt s (v .block)) refl m)
+        (subst (λ (r : SegmentRead). Step g s r (joined (k .later))) (next-later s v (blockPart s (v .block)) refl m)
         (step-later g s (k .reel) (v .block + 1) (k .later) n (subst (λ (i : ℕ). Both (Reads g) (drop i (blocksOf s)) (k .later)) (sym (add-one (v .block))) (k .behind))))
 
 -- ---- within a segment
 
 -- a spot of a reel: its block is one of the reel's, or the one behind them
-pub stands-block : {g : ℕ} {s : List ℕ} {v : Spot} {ss : List Segment} → Stands g s v ss → v .block ≤ length s
+pub stands-block : {g : ℕ} {s : List ℕ} {v : Spot} {ss : List Segment} → SpotStands g s v ss → v .block ≤ length s
 stands-block {s = s} k = omega (arith, k .most, header-is s (k .reel) .there)
 
-pub stands-moved : {g : ℕ} {s : List ℕ} {v : Spot} {ss : List Segment} → (n : ℕ) → v .from + n ≤ v .to → Stands g s v ss → Stands g s (passedBy n v) ss
+pub stands-moved : {g : ℕ} {s : List ℕ} {v : Spot} {ss : List Segment} → (n : ℕ) → v .from + n ≤ v .to → SpotStands g s v ss → SpotStands g s (passedBy n v) ss
 stands-moved {v = v} n l k =
     record {
       reel = k .reel;
@@ -141,15 +141,15 @@ stands-moved {v = v} n l k =
 -- where nothing is left
 pub bytes-none : (s : List ℕ) (v : Spot) → v .from ≡ v .to → bytesAt s v ≡ []
 unfolding bytesAt
-bytes-none s v e = ap (λ (i : ℕ). slice i (v .to) (partAt s (v .block))) e ∙ slice-empty (v .to) (partAt s (v .block))
+bytes-none s v e = ap (λ (i : ℕ). slice i (v .to) (blockPart s (v .block))) e ∙ slice-empty (v .to) (blockPart s (v .block))
 
 pub bytes-moved : (s : List ℕ) (v : Spot) (n : ℕ) → bytesAt s (passedBy n v) ≡ drop n (bytesAt s v)
 unfolding bytesAt
-bytes-moved s v n = sym (drop-drop n (v .from) (take (v .to) (partAt s (v .block))))
+bytes-moved s v n = sym (drop-drop n (v .from) (take (v .to) (blockPart s (v .block))))
 
-pub spot-length : (s : List ℕ) (v : Spot) → v .from < v .to → v .to ≤ length (partAt s (v .block)) → length (bytesAt s v) ≡ v .to - v .from
+pub spot-length : (s : List ℕ) (v : Spot) → v .from < v .to → v .to ≤ length (blockPart s (v .block)) → length (bytesAt s v) ≡ v .to - v .from
 unfolding bytesAt
-spot-length s v l m = length-slice (v .from) (v .to) (partAt s (v .block)) m
+spot-length s v l m = length-slice (v .from) (v .to) (blockPart s (v .block)) m
 
 module _ {g : ℕ} {s : List ℕ} {v : Spot} {all : List ℕ} (k : Streams g s v all) where
   -- all bytes of the segment are there
@@ -175,21 +175,21 @@ module _ {g : ℕ} {s : List ℕ} {v : Spot} {all : List ℕ} (k : Streams g s v
       }
 
   -- so many of them are the first of all that is left
-  pub bytes-taken : (n : ℕ) → v .from + n ≤ v .to → v .to ≤ length (partAt s (v .block)) → take n (drop (v .from) (partAt s (v .block))) ≡ take n all
+  pub bytes-taken : (n : ℕ) → v .from + n ≤ v .to → v .to ≤ length (blockPart s (v .block)) → take n (drop (v .from) (blockPart s (v .block))) ≡ take n all
   unfolding bytesAt
   bytes-taken n l m =
-      let b = partAt s (v .block) in
+      let b = blockPart s (v .block) in
       sym (ap (take n) (k .is)
       ∙ take-append-le n (slice (v .from) (v .to) b) (joined (map part (k .segments))) (omega (arith, length-slice (v .from) (v .to) b m))
       ∙ ap (take n) (slice-part (v .from) (v .to) b (k .stands .ordered))
       ∙ take-take n (v .to - v .from) (drop (v .from) b) (omega arith))
 
   -- on to data
-  pub streams-on : 1 ≤ length all → (w : Spot) → w ≡ onData s v → Streams g s w all × (w .from < w .to) × (w .to ≤ length (partAt s (w .block)))
+  pub streams-on : 1 ≤ length all → (w : Spot) → w ≡ onData s v → Streams g s w all × (w .from < w .to) × (w .to ≤ length (blockPart s (w .block)))
   streams-on l w e = go (ltb (v .from) (v .to)) refl
     where
       On : Spot → Type 0
-      On x = Streams g s x all × (x .from < x .to) × (x .to ≤ length (partAt s (x .block)))
+      On x = Streams g s x all × (x .from < x .to) × (x .to ≤ length (blockPart s (x .block)))
 
       some-segment : (ss : List Segment) → 1 ≤ length (joined (map part ss)) → 1 ≤ length ss
       some-segment [] h = h

@@ -6,7 +6,7 @@ use Prim.Native.Nat.{ℕ, _+_, _-_, _≤_, _<_}
 use native.Mathlib.Omega.{arith}
 use lib.ListN.{length, take, drop, length-drop}
 use lib.Seq.{drop-drop}
-use Rattle.reels.specs.Header.{partAt}
+use Rattle.reels.specs.Header.{blockPart}
 use Rattle.segments.specs.declared.Spot.{Spot}
 use Rattle.segments.specs.Spots.{passedBy, onData, spotAfter}
 use Rattle.segments.specs.Promise.{Streams, Streamed}
@@ -15,7 +15,7 @@ use Rattle.segments.proofs.StandsLaws.{stands-block, streams-moved, byt
 use Rattle.segments.proofs.GoodLaws.{streams-few}
 
 -- the bytes as they are lent, `&b[from..from + n]`
-pub lent-part : (s : List ℕ) (v : Spot) (n : ℕ) (b : List ℕ) → b ≡ partAt s (v .block) → take (v .from + n - v .from) (drop (v .from) b) ≡ take n (drop (v .from) (partAt s (v .block)))
+pub lent-part : (s : List ℕ) (v : Spot) (n : ℕ) (b : List ℕ) → b ≡ blockPart s (v .block) → take (v .from + n - v .from) (drop (v .from) b) ≡ take n (drop (v .from) (blockPart s (v .block)))
 lent-part s v n b e = ap₂ (λ (k : ℕ) (z : List ℕ). take k (drop (v .from) z)) (let z : v .from + n - v .from ≡ n = omega arith in z) e
 
 pub record Streaming (s : List ℕ) (v : Spot) (n : ℕ) (at : Spot) (done : ℕ) : Type 0 where
@@ -35,10 +35,10 @@ module _ {s : List ℕ} {v : Spot} {n : ℕ} {at : Spot} {done : ℕ} (k : Strea
   streaming-block = stands-block (k .streams (k .streamed .g) all (k .streamed .streams) (k .streamed .enough) .stands)
 
   module _ (l : done < n) (here : Spot) (e : here ≡ onData s at) where
-    on : (g : ℕ) (x : List ℕ) → Streams g s v x → n ≤ length x → Streams g s here (drop done x) × (here .from < here .to) × (here .to ≤ length (partAt s (here .block)))
+    on : (g : ℕ) (x : List ℕ) → Streams g s v x → n ≤ length x → Streams g s here (drop done x) × (here .from < here .to) × (here .to ≤ length (blockPart s (here .block)))
     on g x w m = streams-on (k .streams g x w m) (omega (arith, length-drop done x)) here e
 
-    now : Streams (k .streamed .g) s here (drop done all) × (here .from < here .to) × (here .to ≤ length (partAt s (here .block)))
+    now : Streams (k .streamed .g) s here (drop done all) × (here .from < here .to) × (here .to ≤ length (blockPart s (here .block)))
     now = on (k .streamed .g) all (k .streamed .streams) (k .streamed .enough)
 
     pub streaming-some : here .from < here .to
@@ -47,7 +47,7 @@ module _ {s : List ℕ} {v : Spot} {n : ℕ} {at : Spot} {done : ℕ} (k : Strea
     -- of what is left of the segment, no more than is wanted
     module _ (size : ℕ) (some : 1 ≤ size) (h : here .from + size ≤ here .to) (m : done + size ≤ n) where
       -- it lies in the block
-      pub streaming-room : (here .from + size ≤ length (partAt s (here .block))) × (size ≤ 65536)
+      pub streaming-room : (here .from + size ≤ length (blockPart s (here .block))) × (size ≤ 65536)
       streaming-room =
           let i = now .2 in
           let f = streams-few (k .streamed .streams) in
@@ -55,7 +55,7 @@ module _ {s : List ℕ} {v : Spot} {n : ℕ} {at : Spot} {done : ℕ} (k : Strea
           omega arith
 
       -- and is the data behind the bytes before
-      pub streaming-part : (g : ℕ) (x : List ℕ) → Streams g s v x → n ≤ length x → take size (drop (here .from) (partAt s (here .block))) ≡ take size (drop done x)
+      pub streaming-part : (g : ℕ) (x : List ℕ) → Streams g s v x → n ≤ length x → take size (drop (here .from) (blockPart s (here .block))) ≡ take size (drop done x)
       streaming-part g x y i = let o = on g x y i in bytes-taken (o .0) size h (o .2)
 
       pub streaming-more : (w : Spot) → w ≡ passedBy size here → Streaming s v n w (done + size)

@@ -11,7 +11,7 @@ use Rattle.rules.proofs.Lists.{joined-last}
 use Rattle.segments.specs.declared.Spot.{Spot}
 use Rattle.segments.specs.declared.RecordAhead.{RecordAhead}
 use Rattle.segments.specs.Spots.{spotAfter, firstSpot}
-use Rattle.segments.specs.Promise.{GoodSpans, Before, Takeable, Taken, Coming, Comes}
+use Rattle.segments.specs.Promise.{GoodSpans, Before, Takeable, SpotTaken, Coming, Comes}
 use Rattle.segments.proofs.SpotLaws.{after-more}
 use Rattle.segments.proofs.GoodLaws.{good-same, good-before}
 
@@ -25,7 +25,7 @@ pub passing-start : {s : List ℕ} {count : ℕ} → Takeable s count → Passin
 passing-start t = record { takeable = t; inside = omega arith; before = λ g recs w. good-before w; is = λ g recs w. refl }
 
 module _ {s : List ℕ} {count : ℕ} {at : Spot} {number : ℕ} (k : Passing s count at number) where
-  pub passing-end : count ≤ number → Taken s count at
+  pub passing-end : count ≤ number → SpotTaken s count at
   passing-end l =
       let q : number ≡ count = omega (arith, k .inside) in
       record {

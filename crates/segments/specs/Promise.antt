@@ -13,7 +13,7 @@ use Rattle.rules.specs.Halves.{over}
 use Rattle.rules.specs.Reel.{blockCount, isReel, blocksOf}
 use Rattle.rules.specs.Blocks.{Piece, walkFrom}
 use Rattle.rules.specs.Spanned.{Segment, part, segmentAt, segmentsIn, spannedFrom, Joined}
-use Rattle.reels.specs.Header.{partAt}
+use Rattle.reels.specs.Header.{blockPart}
 use Rattle.segments.specs.declared.Spot.{Spot}
 use Rattle.segments.specs.declared.RecordAhead.{RecordAhead}
 use Rattle.segments.specs.Spots.{spotAfter, firstSpot, bytesAt}
@@ -28,22 +28,22 @@ pub record GoodSpans (g : ℕ) (s : List ℕ) (recs : List (List (List ℕ))) : 
 
 -- ---- places in it
 
-abbrev pub segmentsOf : List ℕ → Option (List Piece) → Option (List Segment)
-segmentsOf b none = none
-segmentsOf b (some xs) = some (map (segmentAt b) xs)
+abbrev pub allSegments : List ℕ → Option (List Piece) → Option (List Segment)
+allSegments b none = none
+allSegments b (some xs) = some (map (segmentAt b) xs)
 
 -- the segments of a block whose words stand from a place on
 unfoldable pub segmentsFrom : List ℕ → ℕ → Option (List Segment)
-segmentsFrom b i = segmentsOf b (walkFrom 3 (suc (length b)) i (drop i b))
+segmentsFrom b i = allSegments b (walkFrom 3 (suc (length b)) i (drop i b))
 
 -- the segments behind a spot: those left of its block, and then those of the blocks behind it
-pub record Stands (g : ℕ) (s : List ℕ) (v : Spot) (ss : List Segment) : Type 0 where
+pub record SpotStands (g : ℕ) (s : List ℕ) (v : Spot) (ss : List Segment) : Type 0 where
   pub reel : isReel s ≡ true
   pub most : v .block ≤ blockCount s
   pub ordered : v .from ≤ v .to
-  pub inside : v .from < v .to → v .to ≤ length (partAt s (v .block))
+  pub inside : v .from < v .to → v .to ≤ length (blockPart s (v .block))
   pub here : List Segment
-  pub left : segmentsFrom (partAt s (v .block)) (v .to) ≡ some here
+  pub left : segmentsFrom (blockPart s (v .block)) (v .to) ≡ some here
   pub later : List (List Segment)
   pub behind : Both (λ b xs. segmentsIn g b ≡ some xs) (drop (suc (v .block)) (blocksOf s)) later
   pub is : ss ≡ here ++ joined later
@@ -51,13 +51,13 @@ pub record Stands (g : ℕ) (s : List ℕ) (v : Spot) (ss : List Segment) : Type
 -- all data that is left: of the segment read last, and then of the segments behind it
 pub record Streams (g : ℕ) (s : List ℕ) (v : Spot) («data» : List ℕ) : Type 0 where
   pub segments : List Segment
-  pub stands : Stands g s v segments
+  pub stands : SpotStands g s v segments
   pub is : «data» ≡ bytesAt s v ++ joined (map part segments)
 
 -- a spot between two records, before these
 pub record Before (g : ℕ) (s : List ℕ) (v : Spot) (rs : List (List ℕ)) : Type 0 where
   pub segments : List Segment
-  pub stands : Stands g s v segments
+  pub stands : SpotStands g s v segments
   pub nothing : v .from ≡ v .to
   pub joins : Joined true segments rs
   pub most : All (λ r. length r ≤ 32752) rs
@@ -72,7 +72,7 @@ pub record Takeable (s : List ℕ) (count : ℕ) : Type 0 where
   pub enough : count ≤ length (joined recs)
 
 -- the spot before the others; it is the one behind the bytes of those passed over
-pub record Taken (s : List ℕ) (count : ℕ) (v : Spot) : Type 0 where
+pub record SpotTaken (s : List ℕ) (count : ℕ) (v : Spot) : Type 0 where
   pub before : (g : ℕ) (recs : List (List (List ℕ))) → GoodSpans g s recs → Before g s v (drop count (joined recs))
   pub is : (g : ℕ) (recs : List (List (List ℕ))) → GoodSpans g s recs → v ≡ spotAfter s (length (joined (take count (joined recs)))) firstSpot
 

@@ -5,7 +5,7 @@ use Prim.Native.Nat.{ℕ, zero, suc, _+_, _%_}
 use lib.Dec.{ltb, eqb}
 use lib.ListN.{length}
 use lib.Seq.{slice}
-use Rattle.reels.specs.Header.{partAt}
+use Rattle.reels.specs.Header.{blockPart}
 use Rattle.pieces.specs.Pieces.{wordedIn}
 use Rattle.pieces.specs.declared.PieceRead.{PieceRead}
 use Rattle.pieces.specs.declared.PieceRead.the-variants.{Piece as Found, End, Bad}
@@ -26,11 +26,11 @@ segmentRead block at Bad = noSegment block at
 
 -- the segment whose word stands at a place of a block
 unfoldable pub readAt : List ℕ → ℕ → ℕ → SegmentRead
-readAt s block at = segmentRead block at (wordedIn 3 (partAt s block) at)
+readAt s block at = segmentRead block at (wordedIn 3 (blockPart s block) at)
 
 -- the segment behind a spot: at a block's end the first one of the next block
 unfoldable pub nextOf : List ℕ → Spot → SegmentRead
-nextOf s v = cond (ltb (v .to) (length (partAt s (v .block)))) (readAt s (v .block) (v .to)) (readAt s (v .block + 1) 4)
+nextOf s v = cond (ltb (v .to) (length (blockPart s (v .block)))) (readAt s (v .block) (v .to)) (readAt s (v .block + 1) 4)
 
 -- ---- behind so many bytes
 
@@ -53,4 +53,4 @@ firstSpot = record { block = 0; from = 4; to = 4 }
 
 -- the bytes that are left of the segment
 unfoldable pub bytesAt : List ℕ → Spot → List ℕ
-bytesAt s v = slice (v .from) (v .to) (partAt s (v .block))
+bytesAt s v = slice (v .from) (v .to) (blockPart s (v .block))

@@ -6,9 +6,9 @@ ghost use mathlib.Core.Bool.{true};
 ghost use Prim.Native.Nat.{_+_, _≤_, min};
 ghost use lib.ListN.{length, take, drop};
 ghost use Rattle.rules.specs.Halves.{over};
-ghost use Rattle.reels.specs.Header.{partAt};
+ghost use Rattle.reels.specs.Header.{blockPart};
 ghost use Rattle.segments.specs.Spots.{noSegment, readAt, nextOf, onData, passedBy};
-ghost use Rattle.segments.specs.Promise.{Takeable, Taken, Coming, Comes, Copyable, Copied, Streamed, SameData};
+ghost use Rattle.segments.specs.Promise.{Takeable, SpotTaken, Coming, Comes, Copyable, Copied, Streamed, SameData};
 use pieces::Cursor;
 use pieces::PieceRead;
 
@@ -118,7 +118,7 @@ pub fn ahead(s: &[u8], v: Spot) -> RecordAhead
 // Behind so many records.
 pub fn taken(s: &[u8], count: usize) -> Spot
     requires { ⌜ Takeable (now s) count ⌝ }
-    ensures { λ r. ⌜ Taken (now (s .entry)) count r ⌝ }
+    ensures { λ r. ⌜ SpotTaken (now (s .entry)) count r ⌝ }
 {
     let mut at = Spot {
         block: 0,
@@ -158,8 +158,8 @@ pub fn smaller(a: usize, b: usize) -> usize
 
 // So many of the bytes that are left of a segment, to the front of out.
 fn put(s: &[u8], v: Spot, n: usize, out: &mut [u8])
-    requires { ⌜ (v .from + n ≤ length (partAt (now s) (v .block))) × (n ≤ 65536) × (n ≤ length (now out)) ⌝ }
-    ensures { λ _. ⌜ now (out .exit) ≡ over 0 (take n (drop (v .from) (partAt (now (s .entry)) (v .block)))) (now (out .entry)) ⌝ }
+    requires { ⌜ (v .from + n ≤ length (blockPart (now s) (v .block))) × (n ≤ 65536) × (n ≤ length (now out)) ⌝ }
+    ensures { λ _. ⌜ now (out .exit) ≡ over 0 (take n (drop (v .from) (blockPart (now (s .entry)) (v .block)))) (now (out .entry)) ⌝ }
 {
     let b = reels::block(s, v.block);
     let from = v.from;
@@ -186,8 +186,8 @@ pub fn copy(s: &[u8], v: Spot, n: usize, out: &mut [u8]) -> Spot
 
 // Whether so many of the bytes that are left of a segment are those that are left of a segment of another reel.
 fn same_part(s: &[u8], v: Spot, t: &[u8], u: Spot, n: usize) -> bool
-    requires { ⌜ (v .from + n ≤ length (partAt (now s) (v .block))) × (u .from + n ≤ length (partAt (now t) (u .block))) × (n ≤ 65536) ⌝ }
-    ensures { λ r. ⌜ (r ≡ true) ↔ (take n (drop (v .from) (partAt (now (s .entry)) (v .block))) ≡ take n (drop (u .from) (partAt (now (t .entry)) (u .block)))) ⌝ }
+    requires { ⌜ (v .from + n ≤ length (blockPart (now s) (v .block))) × (u .from + n ≤ length (blockPart (now t) (u .block))) × (n ≤ 65536) ⌝ }
+    ensures { λ r. ⌜ (r ≡ true) ↔ (take n (drop (v .from) (blockPart (now (s .entry)) (v .block))) ≡ take n (drop (u .from) (blockPart (now (t .entry)) (u .block)))) ⌝ }
 {
     let b = reels::block(s, v.block);
     let c = reels::block(t, u.block);

@@ -13,9 +13,9 @@ use Rattle.rules.specs.Judge.{agreeFrom, firstApart}
 use Rattle.rules.proofs.AgreeBytes.{agree-length, agree-at, at-agree}
 use Rattle.segments.specs.declared.Spot.{Spot}
 use Rattle.segments.specs.declared.RecordAhead.{RecordAhead}
-use Rattle.segments.specs.Promise.{Before, Takeable, Taken, Coming, Comes, Streamed, SameData}
+use Rattle.segments.specs.Promise.{Before, Takeable, SpotTaken, Coming, Comes, Streamed, SameData}
 use Rattle.segments.proofs.PromiseLaws.{before-same, same-records}
-use Rattle.span_pairs.specs.Promise.{BothSpanned, SameTest, ApartAt}
+use Rattle.span_pairs.specs.Promise.{BothSpanned, SameTest, SpannedApartAt}
 
 -- ---- the search
 
@@ -36,7 +36,7 @@ module _ {ours : List ℕ} {passed count : ℕ} {theirs : List ℕ} {others : �
   pub takeable′ : Takeable theirs 0
   takeable′ = record { g = y .h; recs = y .recs′; good = y .good′; enough = omega arith }
 
-  pub left-start : {at there : Spot} → Taken ours passed at → Taken theirs 0 there → Left at there 0
+  pub left-start : {at there : Spot} → SpotTaken ours passed at → SpotTaken theirs 0 there → Left at there 0
   left-start a b =
       record {
         xs = drop passed (joined (y .recs));
@@ -159,20 +159,20 @@ module _ {ours : List ℕ} {passed count : ℕ} {theirs : List ℕ} {others : �
 module _ {ours : List ℕ} {passed count : ℕ} {theirs : List ℕ} {others : ℕ} {at there : Spot} {number : ℕ}
     (k : (y : BothSpanned ours passed count theirs others) → Left y at there number) where
   module _ (l : number < min count others) {a b : RecordAhead} (c : Comes ours at a) (d : Comes theirs there b) where
-    pub apart-size : (a .size ≡ b .size → ⊥) → ApartAt ours passed count theirs others (number + 1)
+    pub apart-size : (a .size ≡ b .size → ⊥) → SpannedApartAt ours passed count theirs others (number + 1)
     apart-size o = record { is = λ q s y. let n = next y (k y) l in stops y (k y) n (other-size y (k y) n c d o) q s }
 
     module _ (e : a .size ≡ b .size) (x : Bool) (h : SameData ours at theirs there (a .size) x) where
-      pub apart-data : x ≡ false → ApartAt ours passed count theirs others (number + 1)
+      pub apart-data : x ≡ false → SpannedApartAt ours passed count theirs others (number + 1)
       apart-data f = record { is = λ q s y. let n = next y (k y) l in stops y (k y) n (λ w. true≢false (sym (same-told y (k y) n c d e h .1 w) ∙ f)) q s }
 
       pub left-more : x ≡ true → (y : BothSpanned ours passed count theirs others) → Left y (a .behind) (b .behind) (number + 1)
       left-more t y = let n = next y (k y) l in goes y (k y) n (same-told y (k y) n c d e h .0 t) c d
 
-  pub apart-none : min count others ≤ number → count ≡ others → ApartAt ours passed count theirs others 0
+  pub apart-none : min count others ≤ number → count ≡ others → SpannedApartAt ours passed count theirs others 0
   apart-none l e = record { is = λ q s y. ends y (k y) l e q s }
 
-  pub apart-lacks : min count others ≤ number → (count ≡ others → ⊥) → ApartAt ours passed count theirs others (number + 1)
+  pub apart-lacks : min count others ≤ number → (count ≡ others → ⊥) → SpannedApartAt ours passed count theirs others (number + 1)
   apart-lacks l o = record { is = λ q s y. lacks y (k y) l o q s }
 
 -- ---- one outcome only
@@ -188,5 +188,5 @@ alike-same xs ys = (
 )
 
 pub apart-only-one : (ours : List ℕ) (passed count : ℕ) (theirs : List ℕ) (others : ℕ) → BothSpanned ours passed count theirs others → {n m : ℕ}
-    → ApartAt ours passed count theirs others n → ApartAt ours passed count theirs others m → n ≡ m
+    → SpannedApartAt ours passed count theirs others n → SpannedApartAt ours passed count theirs others m → n ≡ m
 apart-only-one ours passed count theirs others y a b = a .is alike alike-same y ∙ sym (b .is alike alike-same y)

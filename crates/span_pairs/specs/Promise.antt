@@ -25,6 +25,6 @@ abbrev pub SameTest : (List ℕ → List ℕ → Bool) → Type 0
 SameTest q = (xs ys : List ℕ) → (q xs ys ≡ true) ↔ (xs ≡ ys)
 
 -- the number of the first record that disagrees or lacks a partner, or 0
-pub record ApartAt (ours : List ℕ) (passed count : ℕ) (theirs : List ℕ) (others n : ℕ) : Type 0 where
+pub record SpannedApartAt (ours : List ℕ) (passed count : ℕ) (theirs : List ℕ) (others n : ℕ) : Type 0 where
   pub is : (q : List ℕ → List ℕ → Bool) → SameTest q → (y : BothSpanned ours passed count theirs others)
       → n ≡ firstApart q 1 (drop passed (joined (y .recs))) (joined (y .recs′))

@@ -13,7 +13,7 @@ use Rattle.rules.specs.Base.{joined}
 use Rattle.rules.specs.Halves.{over}
 use Rattle.rules.specs.Places.{All, also}
 use Rattle.rules.specs.Output.{lengthWord}
-use Rattle.rules.specs.Reel.{word, ends}
+use Rattle.rules.specs.Reel.{word, offsetWords}
 use Rattle.rules.specs.Spanned.{Segment, segment, part, code, codeOf, codedWord, spelled, spanOf, segmented}
 use Rattle.rules.proofs.BlockWords.{lengthWord-four}
 use Rattle.rules.proofs.CodedWords.{codedWord-four}
@@ -23,18 +23,18 @@ use Rattle.fillings.specs.declared.Tally.{Tally}
 use Rattle.fillings.specs.Offsets.{offsetPut}
 use Rattle.fillings.proofs.OffsetLaws.{offset-opens, offset-stays}
 use Rattle.fillings.proofs.LaidLaws.{Framing, bytesBy, length-more, laid, laid-nothing, laid-length, laid-ends, laid-opens, laid-behind}
-use Rattle.cuts.specs.declared.Part.{Part}
-use Rattle.cuts.specs.Cutting.{Fair, fullOf, openedOf, cutOf, tallyFrom}
+use Rattle.cuts.specs.declared.CutTaken.{CutTaken}
+use Rattle.cuts.specs.Cutting.{BetweenSegments, fullOf, openedOf, cutOf, tallyFrom}
 use Rattle.spans.specs.Putting.{segmentPut, putFrom}
 use Rattle.spans.proofs.PutLaws.{put-none, put-step}
 use Rattle.cuts.proofs.CutLaws.{opened-new, opened-same, opened-is, cut-is, tally-none, tally-step, grown}
 
 -- ---- a block is its word and its segments, each with its own
 
-abbrev pub pieceOf : Segment → List ℕ
-pieceOf s = codedWord (code s) (length (part s) + 4) ++ part s
+abbrev pub segmentPiece : Segment → List ℕ
+segmentPiece s = codedWord (code s) (length (part s) + 4) ++ part s
 
-pub length-piece : (s : Segment) → length (pieceOf s) ≡ length (part s) + 4
+pub length-piece : (s : Segment) → length (segmentPiece s) ≡ length (part s) + 4
 length-piece s = omega (arith, length-append (codedWord (code s) (length (part s) + 4)) (part s), codedWord-four (code s) (length (part s) + 4))
 
 pub span-is : (ss : List Segment) → spanOf ss ≡ lengthWord (4 + length (spelled ss)) ++ spelled ss
@@ -46,7 +46,7 @@ spanning =
     record {
       cost = 4;
       sizeWord = lengthWord;
-      piece = pieceOf;
+      piece = segmentPiece;
       body = spelled;
       block = spanOf;
       long = lengthWord-four;
@@ -75,7 +75,7 @@ module _ (m base : ℕ) (old : List ℕ) (rs : List (List ℕ)) where
     pub here : List Segment
     pub written : Written m rs closed here (m - t .size) fresh pending
     pub blocks : t .blocks ≡ length closed
-    pub fair : Fair m t
+    pub fair : BetweenSegments m t
     pub size : 1 ≤ t .blocks → t .size ≡ 4 + length (spelled here)
     pub bytes : t .bytes ≡ length (bytesBy spanning (soFar closed here))
     pub is : out ≡ laid spanning base old (soFar closed here)
@@ -101,13 +101,13 @@ module _ (m base : ℕ) (old : List ℕ) (rs : List (List ℕ)) where
 
   -- ---- a segment more
 
-  module _ (t : Tally) (p : Part) (first last : Bool) (d : List ℕ) (long : length d ≡ p .size) (front : 4 * p .tally .blocks + 4 ≤ base) (room : base + p .tally .bytes ≤ length old) where
+  module _ (t : Tally) (p : CutTaken) (first last : Bool) (d : List ℕ) (long : length d ≡ p .size) (front : 4 * p .tally .blocks + 4 ≤ base) (room : base + p .tally .bytes ≤ length old) where
     abbrev new : Segment
     new = segment first last d
 
     -- its word says its length
     put-is : (out : List ℕ) → segmentPut base t p first last d out
-        ≡ over (base + p .tally .bytes - p .size - 4) (pieceOf (segment first last d)) (over (base + p .tally .bytes - p .tally .size) (lengthWord (p .tally .size)) (offsetPut base t (p .tally) out))
+        ≡ over (base + p .tally .bytes - p .size - 4) (segmentPiece (segment first last d)) (over (base + p .tally .bytes - p .tally .size) (lengthWord (p .tally .size)) (offsetPut base t (p .tally) out))
     unfolding segmentPut
     put-is out =
         ap
@@ -124,10 +124,10 @@ module _ (m base : ℕ) (old : List ℕ) (rs : List (List ℕ)) where
         let many = so-many closed here in
         let piece = length-piece new in
         put-is (laid spanning base old bs)
-        ∙ ap (λ (x : List ℕ). over (base + u .bytes - p .size - 4) (pieceOf new) (over (base + u .bytes - u .size) (lengthWord (u .size)) x))
+        ∙ ap (λ (x : List ℕ). over (base + u .bytes - p .size - 4) (segmentPiece new) (over (base + u .bytes - u .size) (lengthWord (u .size)) x))
         (sym (offset-opens base t u (laid spanning base old bs) (omega arith)))
         ∙ laid-opens spanning base old bs (omega arith) (omega arith) new (omega arith)
-        (omega (arith, length-more spanning bs (new ∷ []), length-piece new, length-append (pieceOf new) []))
+        (omega (arith, length-more spanning bs (new ∷ []), length-piece new, length-append (segmentPiece new) []))
         (4 * u .blocks) (base + t .bytes) (base + u .bytes - u .size) (u .size) (base + u .bytes - p .size - 4)
         (omega arith) (omega arith) (omega arith) (omega arith) (omega arith)
         ∙ ap (laid spanning base old) (sym (so-opens closed here (new ∷ [])))
@@ -141,10 +141,10 @@ module _ (m base : ℕ) (old : List ℕ) (rs : List (List ℕ)) where
         let piece = length-piece new in
         let sum = length-more spanning earlier here in
         put-is (laid spanning base old now)
-        ∙ ap (λ (x : List ℕ). over (base + u .bytes - p .size - 4) (pieceOf new) (over (base + u .bytes - u .size) (lengthWord (u .size)) x))
+        ∙ ap (λ (x : List ℕ). over (base + u .bytes - p .size - 4) (segmentPiece new) (over (base + u .bytes - u .size) (lengthWord (u .size)) x))
         (sym (offset-stays base t u (laid spanning base old now) (omega arith)))
         ∙ laid-behind spanning base old earlier here (omega (arith, length-append earlier (here ∷ []))) new
-        (omega (arith, length-more spanning earlier (here ++ (new ∷ [])), ap length (spelled-more here new), length-append (spelled here) (pieceOf new)))
+        (omega (arith, length-more spanning earlier (here ++ (new ∷ [])), ap length (spelled-more here new), length-append (spelled here) (segmentPiece new)))
         (base + u .bytes - u .size) (u .size) (base + u .bytes - p .size - 4)
         (omega arith) (omega arith) (omega arith)
 
@@ -169,7 +169,7 @@ module _ (m base : ℕ) (old : List ℕ) (rs : List (List ℕ)) where
             let closed = w .closed ++ (w .here ∷ []) in
             let all : length (bytesBy spanning (soFar closed (s ∷ []))) ≡ length (bytesBy spanning (soFar (w .closed) (w .here))) + (4 + length (spelled (s ∷ [])))
             = ap (λ (x : List (List Segment)). length (bytesBy spanning x)) (so-opens (w .closed) (w .here) (s ∷ [])) ∙ length-more spanning (soFar (w .closed) (w .here)) (s ∷ []) in
-            let one : length (spelled (s ∷ [])) ≡ p .size + 4 = omega (arith, length-append (pieceOf s) [], length-piece s) in
+            let one : length (spelled (s ∷ [])) ≡ p .size + 4 = omega (arith, length-append (segmentPiece s) [], length-piece s) in
             record {
               closed = closed;
               here = s ∷ [];
@@ -200,7 +200,7 @@ module _ (m base : ℕ) (old : List ℕ) (rs : List (List ℕ)) where
             let before = w .size (omega arith) in
             let fit = w .fair .last (omega arith) in
             let more-spelled : length (spelled (w .here ++ (s ∷ []))) ≡ length (spelled (w .here)) + (p .size + 4)
-            = omega (arith, ap length (spelled-more (w .here) s), length-append (spelled (w .here)) (pieceOf s), length-piece s) in
+            = omega (arith, ap length (spelled-more (w .here) s), length-append (spelled (w .here)) (segmentPiece s), length-piece s) in
             record {
               closed = first ∷ earlier;
               here = w .here ++ (s ∷ []);
@@ -299,11 +299,11 @@ module _ (m base : ℕ) (old : List ℕ) (rs : List (List ℕ)) where
 
   pub laying-end : {out : List ℕ} {t : Tally} {fresh : Bool} → Laying out t fresh [] → base ≡ 4 * length (segmented m rs) + 8 → base + t .bytes ≤ length old
       → (at : ℕ) → at ≡ 4 * length (segmented m rs) + 4
-      → over at (word (base + t .bytes)) out ≡ over 4 (ends base (map spanOf (segmented m rs)) ++ joined (map spanOf (segmented m rs))) old
+      → over at (word (base + t .bytes)) out ≡ over 4 (offsetWords base (map spanOf (segmented m rs)) ++ joined (map spanOf (segmented m rs))) old
   laying-end {out} {t} {fresh} w b room at e =
       let bs = soFar (w .closed) (w .here) in
       let same : segmented m rs ≡ bs = ap (drop 1) (written-end m rs (w .closed) (w .here) (m - t .size) fresh (w .written)) in
       let many : length (segmented m rs) ≡ length bs = ap length same in
       ap₂ (λ (n : ℕ) (x : List ℕ). over at (word (base + n)) x) (w .bytes) (w .is)
       ∙ laid-ends spanning base old bs (omega arith) (omega (arith, w .bytes)) (omega arith) at (omega arith)
-      ∙ ap (λ (x : List (List Segment)). over 4 (ends base (map spanOf x) ++ joined (map spanOf x)) old) (sym same)
+      ∙ ap (λ (x : List (List Segment)). over 4 (offsetWords base (map spanOf x) ++ joined (map spanOf x)) old) (sym same)

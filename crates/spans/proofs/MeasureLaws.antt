@@ -12,7 +12,7 @@ use Rattle.rules.specs.Places.{All, also}
 use Rattle.rules.specs.Spanned.{spanOf, segmented}
 use Rattle.rules.proofs.SpannedMeasure.{bytesLeft, blocksLeft, left-start, left-end, left-new, left-all, left-part}
 use Rattle.fillings.specs.declared.Tally.{Tally}
-use Rattle.cuts.specs.Cutting.{fullOf, openedOf, cutOf, tallyFrom, behindOf}
+use Rattle.cuts.specs.Cutting.{fullOf, openedOf, cutOf, tallyFrom, behindRecord}
 use Rattle.cuts.proofs.CutLaws.{opened-new, opened-same, opened-is, cut-is, tally-none, tally-step}
 
 module _ (m : ℕ) (rs : List (List ℕ)) where
@@ -124,7 +124,7 @@ module _ (m : ℕ) (rs : List (List ℕ)) where
             (sym (tally-none m k (p .tally)) ∙ ap (tallyFrom m k (p .tally)) z ∙ sym (tally-step m k t (length r) s))
             (measured-all t fresh r more h w)
 
-    pub measured-record : (t : Tally) (r : List ℕ) (more : List (List ℕ)) (size : ℕ) → size ≡ length r → Measured t true (r ∷ more) → Measured (behindOf m t size) true more
-    unfolding behindOf
+    pub measured-record : (t : Tally) (r : List ℕ) (more : List (List ℕ)) (size : ℕ) → size ≡ length r → Measured t true (r ∷ more) → Measured (behindRecord m t size) true more
+    unfolding behindRecord
     measured-record t r more size e w =
         subst (λ (n : ℕ). Measured (tallyFrom m n t n) true more) (sym e) (measured-from (length r) t true r more (omega arith) w)

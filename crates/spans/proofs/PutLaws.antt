@@ -21,10 +21,10 @@ use Rattle.fillings.specs.declared.Tally.{Tally}
 use Rattle.fillings.specs.Offsets.{offsetPut}
 use Rattle.segments.specs.declared.Spot.{Spot}
 use Rattle.segments.specs.Promise.{Streams, Copyable, Copied}
-use Rattle.cuts.specs.declared.Part.{Part}
-use Rattle.cuts.specs.Cutting.{Fair, cutOf}
+use Rattle.cuts.specs.declared.CutTaken.{CutTaken}
+use Rattle.cuts.specs.Cutting.{BetweenSegments, cutOf}
 use Rattle.spans.specs.Putting.{segmentPut, putFrom, recordPut}
-use Rattle.spans.specs.Promise.{Streaming, NextFits, NextPut, RecordFits}
+use Rattle.spans.specs.Promise.{Streaming, SegmentFits, SegmentPut, RecordFits}
 use Rattle.cuts.proofs.CutLaws.{Going, going-next, going-most, going-more, fair-next}
 
 -- ---- a segment
@@ -41,11 +41,11 @@ copyable {n = n} y out from l =
       fits = let z : n ≤ length (take (length out - from) (drop from out)) = omega (arith, length-take (length out - from) (drop from out), length-drop from out) in z;
     }
 
-pub next-put : {s : List ℕ} {v : Spot} (first last : Bool) (base : ℕ) (t : Tally) (p : Part) (old : List ℕ) → NextFits base t p (length old) → (start second third ys : List ℕ) {w : Spot} (k : ℕ)
+pub next-put : {s : List ℕ} {v : Spot} (first last : Bool) (base : ℕ) (t : Tally) (p : CutTaken) (old : List ℕ) → SegmentFits base t p (length old) → (start second third ys : List ℕ) {w : Spot} (k : ℕ)
     → start ≡ offsetPut base t (p .tally) old → second ≡ over (base + p .tally .bytes - p .tally .size) (lengthWord (p .tally .size)) start → length second ≡ length old
     → k ≡ codeOf first last → third ≡ over (base + p .tally .bytes - p .size - 4) (codedWord k (p .size + 4)) second
     → Copied s v (p .size) (take (length third - (base + p .tally .bytes - p .size)) (drop (base + p .tally .bytes - p .size) third)) ys w
-    → NextPut s v first last base t p old (putMid (base + p .tally .bytes - p .size) (length third - (base + p .tally .bytes - p .size)) third ys) w
+    → SegmentPut s v first last base t p old (putMid (base + p .tally .bytes - p .size) (length third - (base + p .tally .bytes - p .size)) third ys) w
 unfolding segmentPut
 next-put {s} {v} first last base t p old fits start second third ys {w} k o a long e b h =
     record { written = λ y. put y; streams = λ y. h .streams (y .g) (y .bytes) (y .streams) (y .enough) }
@@ -110,8 +110,8 @@ module _ (m base : ℕ) {s : List ℕ} {v : Spot} {size : ℕ} (y : Streaming s 
     abbrev pub puts-streaming : (n : ℕ) → n ≤ rest → Streaming s at n
     puts-streaming n l = record { g = y .g; bytes = w .left; streams = w .streams; enough = omega (arith, w .enough) }
 
-    pub puts-next : 1 ≤ rest → {p : Part} → p ≡ cutOf m t rest → 1 ≤ p .size → p .size ≤ rest → (last : Bool) → last ≡ eqb (p .size) rest → {new : List ℕ} {next : Spot}
-        → NextPut s at first last base t p out new next → Puts m base y start old new next (p .tally) false (rest - p .size)
+    pub puts-next : 1 ≤ rest → {p : CutTaken} → p ≡ cutOf m t rest → 1 ≤ p .size → p .size ≤ rest → (last : Bool) → last ≡ eqb (p .size) rest → {new : List ℕ} {next : Spot}
+        → SegmentPut s at first last base t p out new next → Puts m base y start old new next (p .tally) false (rest - p .size)
     puts-next l {p} e some most last q {new} {next} h = go (w .steps) (w .most) (w .is)
       where
         go : (k : ℕ) → rest ≤ k → recordPut m base start (take size (y .bytes)) old ≡ putFrom m base k t first (take rest (w .left)) out
@@ -132,7 +132,7 @@ module _ (m base : ℕ) {s : List ℕ} {v : Spot} {size : ℕ} (y : Streaming s 
               most = omega arith;
               is =
                   z ∙ put-step m base k t first r out (omega arith)
-                  ∙ ap₂ (λ (u : Part) (n : ℕ). putFrom m base k (u .tally) false (drop (u .size) r) (segmentPut base t u first (eqb (u .size) n) (take (u .size) r) out)) same long
+                  ∙ ap₂ (λ (u : CutTaken) (n : ℕ). putFrom m base k (u .tally) false (drop (u .size) r) (segmentPut base t u first (eqb (u .size) n) (take (u .size) r) out)) same long
                   ∙ ap₂ (λ (a d : List ℕ). putFrom m base k (p .tally) false a (segmentPut base t p first (eqb (p .size) rest) d out)) back front
                   ∙ ap (λ (b : Bool). putFrom m base k (p .tally) false (take (rest - p .size) (drop (p .size) (w .left))) (segmentPut base t p first b (take (p .size) (w .left)) out)) (sym q)
                   ∙ ap (putFrom m base k (p .tally) false (take (rest - p .size) (drop (p .size) (w .left)))) (sym (h .written x));
@@ -144,7 +144,7 @@ module _ (m base : ℕ) {s : List ℕ} {v : Spot} {size : ℕ} (y : Streaming s 
 -- ---- the room for it
 
 module _ {m base : ℕ} {start : Tally} {size room : ℕ} (y : RecordFits m base start size room) {t : Tally} {rest : ℕ} (w : Going m start size t rest) where
-  pub next-fits : Fair m t → 1 ≤ rest → {p : Part} → p ≡ cutOf m t rest → (now : ℕ) → now ≡ room → NextFits base t p now
+  pub next-fits : BetweenSegments m t → 1 ≤ rest → {p : CutTaken} → p ≡ cutOf m t rest → (now : ℕ) → now ≡ room → SegmentFits base t p now
   next-fits f l {p} e now same =
       let n = going-next w l e in
       let a = fair-next (y .small .low) f rest e in

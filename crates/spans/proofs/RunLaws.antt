@@ -13,7 +13,7 @@ use Rattle.rules.specs.Answer.{Answer, fine, refused, _>>=_, _>>_, unless}
 use Rattle.rules.specs.Halves.{over}
 use Rattle.rules.specs.Places.{All, Byte}
 use Rattle.rules.specs.Reel.{isReel, blocksOf}
-use Rattle.rules.specs.Run.{Ran as RuleRan, housed, spannedOut, spannedRan, spannedRun}
+use Rattle.rules.specs.Run.{RunOutput, housed, spannedOut, spannedRan, spannedRun}
 use Rattle.rules.specs.Lent.{runAnswer, outputAfter}
 use Rattle.rules.specs.Spanned.{spanOf, spannedFrom, segmented}
 use Rattle.rules.proofs.Bounds.{reel-most}
@@ -25,15 +25,15 @@ use Rattle.turns.specs.Promise.{SpannedAs}
 use Rattle.turns.proofs.SpannedTold.{Tells, tells}
 use Rattle.fillings.specs.declared.Tally.{Tally}
 use Rattle.segments.specs.declared.Spot.{Spot}
-use Rattle.segments.specs.Promise.{Takeable, Taken}
+use Rattle.segments.specs.Promise.{Takeable, SpotTaken}
 use Rattle.outcomes.specs.declared.Ran.{Ran}
 use Rattle.outcomes.specs.Promise.{ranStruct, refusedRun, housedRun}
 use Rattle.outcomes.proofs.OutcomeLaws.{room-is, refuses, over-front}
-use Rattle.spans.specs.Promise.{Standing, Measures, Lent, ReelPut, RanAs, ranIn, Taking, FilledRun}
+use Rattle.spans.specs.Promise.{SpotStanding, SpannedMeasures, SpannedLent, SpannedPut, RanAs, ranIn, Taking, FilledRun}
 
 -- ---- refusal 15
 
-module _ (x : RuleRan) (old : List ℕ) (r : Ran) where
+module _ (x : RunOutput) (old : List ℕ) (r : Ran) where
   pub housed-is : {size records blocks : ℕ} → size ≡ length (x .reel) → records ≡ x .records → blocks ≡ x .blocks → r ≡ housedRun (length old) size records blocks
       → r ≡ ranStruct (runAnswer (housed (length old) x))
   housed-is {size} {records} {blocks} s k b e =
@@ -65,9 +65,9 @@ module _ {s : List ℕ} {passed records : ℕ} (y : Taking s passed records) whe
   pub takeable : Takeable s passed
   takeable = record { g = y .g; recs = y .recs; good = y .good; enough = y .enough }
 
-  module _ {v : Spot} (h : Taken s passed v) where
+  module _ {v : Spot} (h : SpotTaken s passed v) where
     -- the spot stands before the records taken
-    abbrev pub standing : Standing s v records
+    abbrev pub standing : SpotStanding s v records
     standing =
         record {
           g = y .g;
@@ -76,10 +76,10 @@ module _ {s : List ℕ} {passed records : ℕ} (y : Taking s passed records) whe
           counts = y .counts ∙ sym (length-drop passed (joined (y .recs)));
         }
 
-    abbrev pub filledRan : ℕ → RuleRan
+    abbrev pub filledRan : ℕ → RunOutput
     filledRan m = spannedRan (map spanOf (segmented m (drop passed (joined (y .recs))))) (drop passed (joined (y .recs)))
 
-    module _ {m : ℕ} {t : Tally} (w : Measures m s v records t) (old : List ℕ) (r : Ran) where
+    module _ {m : ℕ} {t : Tally} (w : SpannedMeasures m s v records t) (old : List ℕ) (r : Ran) where
       pub filled-is : r ≡ housedRun (length old) (4 * t .blocks + 8 + t .bytes) records (t .blocks) → r ≡ ranStruct (runAnswer (housed (length old) (filledRan m)))
       filled-is e =
           let z = standing in
@@ -88,19 +88,19 @@ module _ {s : List ℕ} {passed records : ℕ} (y : Taking s passed records) whe
           let b : t .blocks ≡ length bs = w .blocks z in
           housed-is (filledRan m) old r (omega (arith, length-reel (map spanOf bs), w .bytes z)) (z .counts) (b ∙ sym many) e
 
-      pub filled-lent : 9 ≤ m → m < 65536 → r ≡ housedRun (length old) (4 * t .blocks + 8 + t .bytes) records (t .blocks) → r .refusal ≤ 0 → Lent m s v records (t .blocks) (length old)
+      pub filled-lent : 9 ≤ m → m < 65536 → r ≡ housedRun (length old) (4 * t .blocks + 8 + t .bytes) records (t .blocks) → r .refusal ≤ 0 → SpannedLent m s v records (t .blocks) (length old)
       filled-lent low high e l =
           let k = housed-ends (filledRan m) old r (filled-is e) l in
           record { standing = standing; low = low; high = high; many = w .blocks standing; roomy = k .1; most = k .2 }
 
-module _ {m : ℕ} {s : List ℕ} {passed records : ℕ} {v : Spot} (h : Taken s passed v) {t : Tally} (w : Measures m s v records t) (old : List ℕ) {r : Ran}
+module _ {m : ℕ} {s : List ℕ} {passed records : ℕ} {v : Spot} (h : SpotTaken s passed v) {t : Tally} (w : SpannedMeasures m s v records t) (old : List ℕ) {r : Ran}
     (e : r ≡ housedRun (length old) (4 * t .blocks + 8 + t .bytes) records (t .blocks)) where
   pub filled-refused : 0 < r .refusal → FilledRun m s passed records old r old
   unfolding FilledRun
   filled-refused l y = ran-refused (filledRan y h m) old r (filled-is y h w old r e) l
 
-  pub filled-written : 9 ≤ m → m < 65536 → r .refusal ≤ 0 → (new : List ℕ) → ReelPut m s v records (t .blocks) old new → FilledRun m s passed records old r new
-  unfolding FilledRun ReelPut filled-lent
+  pub filled-written : 9 ≤ m → m < 65536 → r .refusal ≤ 0 → (new : List ℕ) → SpannedPut m s v records (t .blocks) old new → FilledRun m s passed records old r new
+  unfolding FilledRun SpannedPut filled-lent
   filled-written low high l new k y = ran-written (filledRan y h m) old r (filled-is y h w old r e) l (k (filled-lent y h w old r low high e l))
 
 -- ---- the steps of a run
@@ -125,11 +125,11 @@ module _ (copies : Bool) (g m first : ℕ) (s old : List ℕ) where
 
   answers-refused : (number place : ℕ) → spannedRun copies g m first (length old) s ≡ refused number place → {r : Ran} → r ≡ refusedRun number place 0 → Answers r old
   answers-refused number place e k =
-      (k ∙ ap (λ (a : Answer RuleRan). ranStruct (runAnswer a)) (sym e), ap (outputAfter old) (sym e))
+      (k ∙ ap (λ (a : Answer RunOutput). ranStruct (runAnswer a)) (sym e), ap (outputAfter old) (sym e))
 
-  answers-ran : (x : RuleRan) → spannedRun copies g m first (length old) s ≡ housed (length old) x → {r : Ran} {new : List ℕ} → RanAs x old r new → Answers r new
+  answers-ran : (x : RunOutput) → spannedRun copies g m first (length old) s ≡ housed (length old) x → {r : Ran} {new : List ℕ} → RanAs x old r new → Answers r new
   answers-ran x e k =
-      (k .answer ∙ ap (λ (a : Answer RuleRan). ranStruct (runAnswer a)) (sym e), k .output ∙ ap (outputAfter old) (sym e))
+      (k .answer ∙ ap (λ (a : Answer RunOutput). ranStruct (runAnswer a)) (sym e), k .output ∙ ap (outputAfter old) (sym e))
 
   module _ {read : ReelRead} (w : SpannedAs g s read) where
     pub ends-no-reel : read ≡ NotReel → {r : Ran} → r ≡ refusedRun 11 0 0 → Answers r old

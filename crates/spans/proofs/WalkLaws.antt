@@ -13,12 +13,12 @@ use Rattle.segments.specs.declared.Spot.{Spot}
 use Rattle.segments.specs.declared.RecordAhead.{RecordAhead}
 use Rattle.segments.specs.Promise.{Before, Coming, Comes}
 use Rattle.segments.proofs.PromiseLaws.{before-some, before-few}
-use Rattle.cuts.specs.Cutting.{Small, fullOf, behindOf}
-use Rattle.spans.specs.Promise.{Standing, Measures}
+use Rattle.cuts.specs.Cutting.{CutSmall, fullOf, behindRecord}
+use Rattle.spans.specs.Promise.{SpotStanding, SpannedMeasures}
 use Rattle.cuts.proofs.CutLaws.{behind-grown}
 use Rattle.spans.proofs.MeasureLaws.{Measured, measured-start, measured-record, measured-end}
 
-module _ (m : ℕ) {s : List ℕ} {v : Spot} {count : ℕ} (y : Standing s v count) where
+module _ (m : ℕ) {s : List ℕ} {v : Spot} {count : ℕ} (y : SpotStanding s v count) where
   -- behind so many records, before the rest
   pub record Passes (at : Spot) (t : Tally) (number : ℕ) (rest : List (List ℕ)) : Type 0 where
     pub before : Before (y .g) s at rest
@@ -90,10 +90,10 @@ module _ (m : ℕ) {s : List ℕ} {v : Spot} {count : ℕ} (y : Standing s v cou
         go (r ∷ more) e = absurd (omega arith)
 
   module _ (low : 9 ≤ m) (high : m < 65536) {at : Spot} {t : Tally} {number : ℕ} {rest : List (List ℕ)} {a : RecordAhead} (x : Turn at t number rest a) where
-    pub turn-small : Small m t (a .size)
+    pub turn-small : CutSmall m t (a .size)
     turn-small = record { low = low; high = high; inside = x .measured .inside; blocks = omega (arith, x .blocks); bytes = omega (arith, x .bytes) }
 
-    pub turn-passes : {u : Tally} → u ≡ behindOf m t (a .size) → Passes (a .behind) u (number + 1) (x .more)
+    pub turn-passes : {u : Tally} → u ≡ behindRecord m t (a .size) → Passes (a .behind) u (number + 1) (x .more)
     turn-passes e =
         let g = behind-grown m low t (a .size) (x .measured .inside) in
         subst (λ (u : Tally). Passes (a .behind) u (number + 1) (x .more)) (sym e)
@@ -106,8 +106,8 @@ module _ (m : ℕ) {s : List ℕ} {v : Spot} {count : ℕ} (y : Standing s v cou
         })
 
 -- what is measured behind the last record
-pub measures : {m : ℕ} {s : List ℕ} {v : Spot} {count : ℕ} → Standing s v count → {at : Spot} {t : Tally} {number : ℕ} → ((y : Standing s v count) → (rest : List (List ℕ)) × Passes m y at t number rest) → count ≤ number
-    → Measures m s v count t
+pub measures : {m : ℕ} {s : List ℕ} {v : Spot} {count : ℕ} → SpotStanding s v count → {at : Spot} {t : Tally} {number : ℕ} → ((y : SpotStanding s v count) → (rest : List (List ℕ)) × Passes m y at t number rest) → count ≤ number
+    → SpannedMeasures m s v count t
 measures {m} {s} {v} {count} z {at} {t} {number} w l =
     record {
       blocks = λ y. ended y .0;
@@ -116,5 +116,5 @@ measures {m} {s} {v} {count} z {at} {t} {number} w l =
       most = omega (arith, w z .1 .bytes);
     }
   where
-    ended : (y : Standing s v count) → (t .blocks ≡ length (segmented m (y .records))) × (t .bytes ≡ length (joined (map spanOf (segmented m (y .records)))))
+    ended : (y : SpotStanding s v count) → (t .blocks ≡ length (segmented m (y .records))) × (t .bytes ≡ length (joined (map spanOf (segmented m (y .records)))))
     ended y = measured-end m (y .records) (subst (Measured m (y .records) t true) (passes-end m y (w y .1) l) (w y .1 .measured))

@@ -16,16 +16,16 @@ use Rattle.fillings.proofs.LaidLaws.{reel-over}
 use Rattle.segments.specs.declared.Spot.{Spot}
 use Rattle.segments.specs.declared.RecordAhead.{RecordAhead}
 use Rattle.segments.proofs.PromiseLaws.{before-streams, before-some}
-use Rattle.cuts.specs.Cutting.{fullOf, tallyFrom, behindOf}
+use Rattle.cuts.specs.Cutting.{fullOf, tallyFrom, behindRecord}
 use Rattle.spans.specs.Putting.{putFrom, recordPut}
-use Rattle.spans.specs.Promise.{Streaming, RecordFits, RecordPut, Lent}
+use Rattle.spans.specs.Promise.{Streaming, RecordFits, RecordPut, SpannedLent}
 use Rattle.spans.proofs.MeasureLaws.{Measured}
 use Rattle.spans.proofs.LayingLaws.{Laying, laying-start, laying-length, laying-from, laying-end}
 use Rattle.spans.proofs.WalkLaws.{Passes, Turn, passes-start, passes-end, turn-small, turn-passes}
 
 -- ---- numbers
 
-module _ {m : ℕ} {s : List ℕ} {v : Spot} {count blocks room : ℕ} (y : Lent m s v count blocks room) where
+module _ {m : ℕ} {s : List ℕ} {v : Spot} {count blocks room : ℕ} (y : SpannedLent m s v count blocks room) where
   abbrev all : List (List ℕ)
   all = map spanOf (segmented m (y .standing .records))
 
@@ -53,7 +53,7 @@ module _ {m : ℕ} {s : List ℕ} {v : Spot} {count blocks room : ℕ} (y : Lent
       }
 
 -- the same in an output of the same length
-abbrev pub lent-as : {m : ℕ} {s : List ℕ} {v : Spot} {count blocks room next : ℕ} → room ≡ next → Lent m s v count blocks room → Lent m s v count blocks next
+abbrev pub lent-as : {m : ℕ} {s : List ℕ} {v : Spot} {count blocks room next : ℕ} → room ≡ next → SpannedLent m s v count blocks room → SpannedLent m s v count blocks next
 lent-as {m} e y =
     record {
       standing = y .standing;
@@ -66,7 +66,7 @@ lent-as {m} e y =
 
 -- ---- the pass
 
-module _ {m : ℕ} {s : List ℕ} {v : Spot} {count blocks : ℕ} (old : List ℕ) (y : Lent m s v count blocks (length old)) where
+module _ {m : ℕ} {s : List ℕ} {v : Spot} {count blocks : ℕ} (old : List ℕ) (y : SpannedLent m s v count blocks (length old)) where
   pub record Writes (out : List ℕ) (at : Spot) (t : Tally) (number : ℕ) : Type 0 where
     pub rest : List (List ℕ)
     pub passes : Passes m (y .standing) at t number rest
@@ -101,7 +101,7 @@ module _ {m : ℕ} {s : List ℕ} {v : Spot} {count blocks : ℕ} (old : List �
             enough = omega (arith, x .size, length-append (x .next) (joined (x .more)));
           }
 
-      after : Within y (behindOf m t (a .size))
+      after : Within y (behindRecord m t (a .size))
       after = within y (turn-passes m (y .standing) (y .low) (y .high) x refl .measured)
 
       pub writes-fits : RecordFits m (4 * blocks + 8) t (a .size) (length out)
@@ -117,13 +117,13 @@ module _ {m : ℕ} {s : List ℕ} {v : Spot} {count blocks : ℕ} (old : List �
           }
 
       pub writes-next : {new : List ℕ} {u : Tally} → RecordPut m (4 * blocks + 8) s at (a .size) t out new u → Writes new (a .behind) u (number + 1)
-      unfolding writes-streaming behindOf recordPut
+      unfolding writes-streaming behindRecord recordPut
       writes-next {new} {u} h =
           let base = 4 * blocks + 8 in
           let r = x .next in
           let k = after in
           let front : take (a .size) (r ++ joined (x .more)) ≡ r = take-at r (joined (x .more)) (a .size) (sym (x .size)) in
-          let is : behindOf m t (a .size) ≡ tallyFrom m (length r) t (length r) = ap (behindOf m t) (x .size) in
+          let is : behindRecord m t (a .size) ≡ tallyFrom m (length r) t (length r) = ap (behindRecord m t) (x .size) in
           let laying = subst (Laying m base old (y .standing .records) out t true) (x .is) (w .laying) in
           record {
             rest = x .more;

@@ -8,7 +8,7 @@ use Rattle.rules.specs.Base.{joined}
 use Rattle.rules.specs.Halves.{over}
 use Rattle.rules.specs.Reel.{reelOf}
 use Rattle.rules.specs.Spanned.{spanOf, segmented}
-use Rattle.rules.specs.Run.{Ran as RuleRan, housed, spannedRan}
+use Rattle.rules.specs.Run.{RunOutput, housed, spannedRan}
 use Rattle.rules.specs.Lent.{runAnswer, outputAfter}
 use Rattle.fillings.specs.declared.Tally.{Tally}
 use Rattle.fillings.specs.Offsets.{OffsetFits}
@@ -16,8 +16,8 @@ use Rattle.segments.specs.declared.Spot.{Spot}
 use Rattle.segments.specs.Promise.{GoodSpans, Streams, Before}
 use Rattle.outcomes.specs.declared.Ran.{Ran}
 use Rattle.outcomes.specs.Promise.{ranStruct}
-use Rattle.cuts.specs.declared.Part.{Part}
-use Rattle.cuts.specs.Cutting.{Small, Fair, behindOf}
+use Rattle.cuts.specs.declared.CutTaken.{CutTaken}
+use Rattle.cuts.specs.Cutting.{CutSmall, BetweenSegments, behindRecord}
 use Rattle.spans.specs.Putting.{segmentPut, recordPut}
 
 -- ---- a segment
@@ -30,7 +30,7 @@ pub record Streaming (s : List ℕ) (v : Spot) (n : ℕ) : Type 0 where
   pub enough : n ≤ length bytes
 
 -- there is room for a segment at the end of its block, which ends where the blocks so far do
-pub record NextFits (base : ℕ) (t : Tally) (p : Part) (room : ℕ) : Type 0 where
+pub record SegmentFits (base : ℕ) (t : Tally) (p : CutTaken) (room : ℕ) : Type 0 where
   pub offset : OffsetFits base t (p .tally) room
   pub inside : base + p .tally .bytes ≤ room
   pub most : base + p .tally .bytes ≤ 65536
@@ -38,7 +38,7 @@ pub record NextFits (base : ℕ) (t : Tally) (p : Part) (room : ℕ) : Type 0 wh
   pub whole : p .tally .size ≤ p .tally .bytes
   pub segment : p .size + 8 ≤ p .tally .size
 
-pub record NextPut (s : List ℕ) (v : Spot) (first last : Bool) (base : ℕ) (t : Tally) (p : Part) (old new : List ℕ) (w : Spot) : Type 0 where
+pub record SegmentPut (s : List ℕ) (v : Spot) (first last : Bool) (base : ℕ) (t : Tally) (p : CutTaken) (old new : List ℕ) (w : Spot) : Type 0 where
   pub written : (y : Streaming s v (p .size)) → new ≡ segmentPut base t p first last (take (p .size) (y .bytes)) old
   pub streams : (y : Streaming s v (p .size)) → Streams (y .g) s w (drop (p .size) (y .bytes))
 
@@ -46,36 +46,36 @@ pub record NextPut (s : List ℕ) (v : Spot) (first last : Bool) (base : ℕ) (t
 
 -- there is room for all segments of a record of so many bytes
 pub record RecordFits (m base : ℕ) (t : Tally) (size room : ℕ) : Type 0 where
-  pub small : Small m t size
-  pub fair : Fair m t
+  pub small : CutSmall m t size
+  pub fair : BetweenSegments m t
   pub header : 8 ≤ base
-  pub front : 4 * behindOf m t size .blocks + 4 ≤ base
-  pub inside : base + behindOf m t size .bytes ≤ room
-  pub most : base + behindOf m t size .bytes ≤ 65536
+  pub front : 4 * behindRecord m t size .blocks + 4 ≤ base
+  pub inside : base + behindRecord m t size .bytes ≤ room
+  pub most : base + behindRecord m t size .bytes ≤ 65536
 
 pub record RecordPut (m base : ℕ) (s : List ℕ) (v : Spot) (size : ℕ) (t : Tally) (old new : List ℕ) (u : Tally) : Type 0 where
-  pub is : u ≡ behindOf m t size
+  pub is : u ≡ behindRecord m t size
   pub written : (y : Streaming s v size) → new ≡ recordPut m base t (take size (y .bytes)) old
 
 -- ---- all records
 
 -- the spot stands before so many records
-pub record Standing (s : List ℕ) (v : Spot) (count : ℕ) : Type 0 where
+pub record SpotStanding (s : List ℕ) (v : Spot) (count : ℕ) : Type 0 where
   pub g : ℕ
   pub records : List (List ℕ)
   pub before : Before g s v records
   pub counts : count ≡ length records
 
 -- the blocks that they fill, and the bytes of these
-pub record Measures (m : ℕ) (s : List ℕ) (v : Spot) (count : ℕ) (t : Tally) : Type 0 where
-  pub blocks : (y : Standing s v count) → t .blocks ≡ length (segmented m (y .records))
-  pub bytes : (y : Standing s v count) → t .bytes ≡ length (joined (map spanOf (segmented m (y .records))))
+pub record SpannedMeasures (m : ℕ) (s : List ℕ) (v : Spot) (count : ℕ) (t : Tally) : Type 0 where
+  pub blocks : (y : SpotStanding s v count) → t .blocks ≡ length (segmented m (y .records))
+  pub bytes : (y : SpotStanding s v count) → t .bytes ≡ length (joined (map spanOf (segmented m (y .records))))
   pub few : t .blocks ≤ 0x10000000000
   pub most : t .bytes ≤ 0x10000000000
 
 -- they fill so many blocks, and there is room for their reel
-pub record Lent (m : ℕ) (s : List ℕ) (v : Spot) (count blocks room : ℕ) : Type 0 where
-  pub standing : Standing s v count
+pub record SpannedLent (m : ℕ) (s : List ℕ) (v : Spot) (count blocks room : ℕ) : Type 0 where
+  pub standing : SpotStanding s v count
   pub low : 9 ≤ m
   pub high : m < 65536
   pub many : blocks ≡ length (segmented m (standing .records))
@@ -83,19 +83,19 @@ pub record Lent (m : ℕ) (s : List ℕ) (v : Spot) (count blocks room : ℕ) : 
   pub most : length (reelOf (map spanOf (segmented m (standing .records)))) ≤ 65536
 
 -- the reel stands at the front, and bytes past it stay
-unfoldable pub ReelPut : ℕ → List ℕ → Spot → ℕ → ℕ → List ℕ → List ℕ → Type 0
-ReelPut m s v count blocks old new =
-    (y : Lent m s v count blocks (length old)) → new ≡ over 0 (reelOf (map spanOf (segmented m (y .standing .records)))) old
+unfoldable pub SpannedPut : ℕ → List ℕ → Spot → ℕ → ℕ → List ℕ → List ℕ → Type 0
+SpannedPut m s v count blocks old new =
+    (y : SpannedLent m s v count blocks (length old)) → new ≡ over 0 (reelOf (map spanOf (segmented m (y .standing .records)))) old
 
 -- ---- a run
 
 -- the reel is written, or refused where there is no room for it
-pub record RanAs (x : RuleRan) (old : List ℕ) (r : Ran) (new : List ℕ) : Type 0 where
+pub record RanAs (x : RunOutput) (old : List ℕ) (r : Ran) (new : List ℕ) : Type 0 where
   pub answer : r ≡ ranStruct (runAnswer (housed (length old) x))
   pub output : new ≡ outputAfter old (housed (length old) x)
 
 -- TC: the input itself
-abbrev pub ranIn : List ℕ → ℕ → ℕ → RuleRan
+abbrev pub ranIn : List ℕ → ℕ → ℕ → RunOutput
 ranIn s records blocks = record { reel = s; records = records; blocks = blocks }
 
 -- TR: so many records are passed over, and so many are left

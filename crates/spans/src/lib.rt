@@ -7,8 +7,8 @@ ghost use Rattle.rules.specs.Spanned.{codeOf};
 ghost use Rattle.rules.specs.Run.{spannedRun};
 ghost use Rattle.rules.specs.Lent.{runAnswer, outputAfter};
 ghost use Rattle.outcomes.specs.Promise.{ranStruct};
-ghost use Rattle.spans.specs.Promise.{Streaming, NextFits, NextPut, RecordFits, RecordPut, Standing, Measures, Lent, ReelPut, ranIn, RanAs, Taking, FilledRun};
-use cuts::Part;
+ghost use Rattle.spans.specs.Promise.{Streaming, SegmentFits, SegmentPut, RecordFits, RecordPut, SpotStanding, SpannedMeasures, SpannedLent, SpannedPut, ranIn, RanAs, Taking, FilledRun};
+use cuts::CutTaken;
 use fillings::Tally;
 use outcomes::Ran;
 use reels::ReelRead;
@@ -16,8 +16,8 @@ use segments::Spot;
 
 // What so many records from a spot on measure as blocks of m bytes: along the words of their segments, in a pass that holds a few numbers and builds nothing.
 fn measure(m: usize, s: &[u8], from: Spot, count: usize) -> Tally
-    requires { ⌜ Standing (now s) from count × (9 ≤ m) × (m < 65536) ⌝ }
-    ensures { λ r. ⌜ Measures m (now (s .entry)) from count r ⌝ }
+    requires { ⌜ SpotStanding (now s) from count × (9 ≤ m) × (m < 65536) ⌝ }
+    ensures { λ r. ⌜ SpannedMeasures m (now (s .entry)) from count r ⌝ }
 {
     let mut at = from;
     let mut tally = cuts::full(m);
@@ -55,12 +55,12 @@ fn put_next(
     last: bool,
     base: usize,
     tally: Tally,
-    part: Part,
+    part: CutTaken,
     out: &mut [u8],
 ) -> Spot
     requires { ⌜ Streaming (now s) at (part .size) ⌝ }
-    requires { ⌜ NextFits base tally part (length (now out)) ⌝ }
-    ensures { λ r. ⌜ NextPut (now (s .entry)) at first last base tally part (now (out .entry)) (now (out .exit)) r ⌝ }
+    requires { ⌜ SegmentFits base tally part (length (now out)) ⌝ }
+    ensures { λ r. ⌜ SegmentPut (now (s .entry)) at first last base tally part (now (out .entry)) (now (out .exit)) r ⌝ }
 {
     let more = part.tally;
     let size = more.size;
@@ -102,8 +102,8 @@ fn put_record(
 
 // Writes the reel of so many records from a spot on, in blocks of m bytes, at the front of out. All refusals come before it.
 fn write(m: usize, s: &[u8], from: Spot, count: usize, blocks: usize, out: &mut [u8])
-    requires { ⌜ Lent m (now s) from count blocks (length (now out)) ⌝ }
-    ensures { λ _. ⌜ ReelPut m (now (s .entry)) from count blocks (now (out .entry)) (now (out .exit)) ⌝ }
+    requires { ⌜ SpannedLent m (now s) from count blocks (length (now out)) ⌝ }
+    ensures { λ _. ⌜ SpannedPut m (now (s .entry)) from count blocks (now (out .entry)) (now (out .exit)) ⌝ }
 {
     let base = 4 * blocks + 8;
     let mut at = from;

@@ -19,51 +19,51 @@ use Rattle.terms.specs.declared.Mode.{Mode}
 use Rattle.terms.specs.declared.Task.{Task}
 use Rattle.pieces.specs.declared.Form.{Form}
 use Rattle.pieces.specs.Form.{FormIs}
-use Rattle.tasks.specs.Promise.{formOf, formUnder, tailOf, lengthOf}
+use Rattle.tasks.specs.Promise.{formOf, formUnder, tailLengthOf, outputLengthOf}
 
 module _ (task : Task) where
   -- the tail
-  pub tail-short : (n : ℕ) → n < task .n → 0 ≡ tailOf task n
-  unfolding tailOf
+  pub tail-short : (n : ℕ) → n < task .n → 0 ≡ tailLengthOf task n
+  unfolding tailLengthOf
   tail-short n l = go (task .carries)
     where
       go : (t : Bool) → 0 ≡ cond t (n - task .n) 0
       go true = omega arith
       go false = refl
 
-  pub tail-carried : (n : ℕ) → task .carries ≡ true → n - task .n ≡ tailOf task n
-  unfolding tailOf
+  pub tail-carried : (n : ℕ) → task .carries ≡ true → n - task .n ≡ tailLengthOf task n
+  unfolding tailLengthOf
   tail-carried n e = rw e
 
-  pub tail-dropped : (n : ℕ) → task .carries ≡ false → 0 ≡ tailOf task n
-  unfolding tailOf
+  pub tail-dropped : (n : ℕ) → task .carries ≡ false → 0 ≡ tailLengthOf task n
+  unfolding tailLengthOf
   tail-dropped n e = rw e
 
-  pub tail-most : (n : ℕ) → tailOf task n ≤ n
-  unfolding tailOf
+  pub tail-most : (n : ℕ) → tailLengthOf task n ≤ n
+  unfolding tailLengthOf
   tail-most n = go (task .carries)
     where
       go : (t : Bool) → cond t (n - task .n) 0 ≤ n
       go true = omega arith
       go false = omega arith
 
-  pub tail-small : (n r : ℕ) → r ≡ tailOf task n → r ≤ n
+  pub tail-small : (n r : ℕ) → r ≡ tailLengthOf task n → r ≤ n
   tail-small n r e = omega (arith, tail-most n)
 
   -- the length of an output record
-  pub length-selected : (n : ℕ) {m : Mode} → task .mode ≡ m → selects (modeOf m) ≡ true → task .width + tailOf task n ≡ lengthOf task n
-  unfolding lengthOf
-  length-selected n e s = sym (ap (λ (b : Bool). cond b (task .width + tailOf task n) n) (ap (λ (m : Mode). selects (modeOf m)) e ∙ s))
+  pub length-selected : (n : ℕ) {m : Mode} → task .mode ≡ m → selects (modeOf m) ≡ true → task .width + tailLengthOf task n ≡ outputLengthOf task n
+  unfolding outputLengthOf
+  length-selected n e s = sym (ap (λ (b : Bool). cond b (task .width + tailLengthOf task n) n) (ap (λ (m : Mode). selects (modeOf m)) e ∙ s))
 
-  pub length-carried : (n : ℕ) {m : Mode} → task .mode ≡ m → selects (modeOf m) ≡ false → n ≡ lengthOf task n
-  unfolding lengthOf
-  length-carried n e s = sym (ap (λ (b : Bool). cond b (task .width + tailOf task n) n) (ap (λ (m : Mode). selects (modeOf m)) e ∙ s))
+  pub length-carried : (n : ℕ) {m : Mode} → task .mode ≡ m → selects (modeOf m) ≡ false → n ≡ outputLengthOf task n
+  unfolding outputLengthOf
+  length-carried n e s = sym (ap (λ (b : Bool). cond b (task .width + tailLengthOf task n) n) (ap (λ (m : Mode). selects (modeOf m)) e ∙ s))
 
-  pub length-most : (n : ℕ) → lengthOf task n ≤ task .width + n
-  unfolding lengthOf
+  pub length-most : (n : ℕ) → outputLengthOf task n ≤ task .width + n
+  unfolding outputLengthOf
   length-most n = go (selects (modeOf (task .mode)))
     where
-      go : (t : Bool) → cond t (task .width + tailOf task n) n ≤ task .width + n
+      go : (t : Bool) → cond t (task .width + tailLengthOf task n) n ≤ task .width + n
       go true = omega (arith, tail-most n)
       go false = omega arith
 
@@ -74,7 +74,7 @@ module _ (task : Task) where
   pub under-only-one : {x y : Form} → x ≡ formUnder task → y ≡ formUnder task → x ≡ y
   under-only-one a b = a ∙ sym b
 
-  pub length-only-one : (n : ℕ) {x y : ℕ} → x ≡ lengthOf task n → y ≡ lengthOf task n → x ≡ y
+  pub length-only-one : (n : ℕ) {x y : ℕ} → x ≡ outputLengthOf task n → y ≡ outputLengthOf task n → x ≡ y
   length-only-one n a b = a ∙ sym b
 
 module _ {task : Task} {p : Plan} (is : TaskIs task p) where
@@ -87,16 +87,16 @@ module _ {task : Task} {p : Plan} (is : TaskIs task p) where
   form-judged e = subst (λ (f : Form). FormIs f (underB p)) (sym e) (record { format = is .format; n = is .width; m = is .limit; selects = ap selects (is .mode) })
 
   -- the length of an output record
-  pub out-length : Accepted p → (r : List ℕ) → leastData p ≤ length r → length (outRecord p r) ≡ lengthOf task (length r)
-  unfolding lengthOf tailOf
+  pub out-length : Accepted p → (r : List ℕ) → leastData p ≤ length r → length (outRecord p r) ≡ outputLengthOf task (length r)
+  unfolding outputLengthOf tailLengthOf
   out-length ok r l = go (selects (p .mode)) refl
     where
-      go : (t : Bool) → selects (p .mode) ≡ t → length (outRecord p r) ≡ lengthOf task (length r)
+      go : (t : Bool) → selects (p .mode) ≡ t → length (outRecord p r) ≡ outputLengthOf task (length r)
       go true t =
           length-outRecord p ok t r (let z : recordLength (p .input) ≤ length r = omega (arith, least-selects p t) in z)
           ∙ ap₂ (λ (k n : ℕ). k + cond (p .carries) (length r - n) 0) (sym (is .width)) (sym (is .n))
           ∙ ap (λ (c : Bool). task .width + cond c (length r - task .n) 0) (sym (is .carries))
-          ∙ sym (ap (λ (b : Bool). cond b (task .width + tailOf task (length r)) (length r)) (ap selects (is .mode) ∙ t))
+          ∙ sym (ap (λ (b : Bool). cond b (task .width + tailLengthOf task (length r)) (length r)) (ap selects (is .mode) ∙ t))
       go false t =
           ap length (output-other p t r)
-          ∙ sym (ap (λ (b : Bool). cond b (task .width + tailOf task (length r)) (length r)) (ap selects (is .mode) ∙ t))
+          ∙ sym (ap (λ (b : Bool). cond b (task .width + tailLengthOf task (length r)) (length r)) (ap selects (is .mode) ∙ t))

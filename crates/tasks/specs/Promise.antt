@@ -15,9 +15,9 @@ abbrev pub formUnder : Task → Form
 formUnder task = record { format = task .format; n = task .width; m = task .limit; selects = selects (modeOf (task .mode)) }
 
 -- with CV the data past A's n
-unfoldable pub tailOf : Task → ℕ → ℕ
-tailOf task n = cond (task .carries) (n - task .n) 0
+unfoldable pub tailLengthOf : Task → ℕ → ℕ
+tailLengthOf task n = cond (task .carries) (n - task .n) 0
 
 -- the length of the output of a record of n bytes
-unfoldable pub lengthOf : Task → ℕ → ℕ
-lengthOf task n = cond (selects (modeOf (task .mode))) (task .width + tailOf task n) n
+unfoldable pub outputLengthOf : Task → ℕ → ℕ
+outputLengthOf task n = cond (selects (modeOf (task .mode))) (task .width + tailLengthOf task n) n

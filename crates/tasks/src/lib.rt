@@ -7,7 +7,7 @@ ghost use lib.Dec.{eqb};
 ghost use Rattle.rules.specs.Halves.{Field as RuleField};
 ghost use Rattle.rules.specs.Lent.{zoneF};
 ghost use Rattle.terms.specs.Meaning.{planIn, TaskIs};
-ghost use Rattle.tasks.specs.Promise.{formOf, formUnder, tailOf, lengthOf};
+ghost use Rattle.tasks.specs.Promise.{formOf, formUnder, tailLengthOf, outputLengthOf};
 use pieces::Form;
 use terms::Asked;
 use terms::Mode;
@@ -71,7 +71,7 @@ pub fn form_under(task: Task) -> Form
 
 // With CV, how much data past A's n follows.
 fn tail_length(task: Task, length: usize) -> usize
-    ensures { λ r. ⌜ r ≡ tailOf task length ⌝ }
+    ensures { λ r. ⌜ r ≡ tailLengthOf task length ⌝ }
 {
     let n = task.n;
     if length < n {
@@ -86,7 +86,7 @@ fn tail_length(task: Task, length: usize) -> usize
 // The length of a record's output: TR carries records unchanged.
 pub fn output_length(task: Task, length: usize) -> usize
     requires { ⌜ (task .width ≤ 65536) × (length ≤ 65536) ⌝ }
-    ensures { λ r. ⌜ r ≡ lengthOf task length ⌝ }
+    ensures { λ r. ⌜ r ≡ outputLengthOf task length ⌝ }
 {
     let mode = task.mode;
     match mode {

@@ -17,7 +17,7 @@ use Rattle.rules.proofs.Bounds.{reel-most}
 use Rattle.rules.proofs.ReelLaws.{length-blocks}
 use Rattle.rules.proofs.ReelSteps.{offset-most, offset-rises}
 use Rattle.rules.proofs.SpannedCounts.{Alike, totalOf, plus, blocks-end, total-bad, total-good, total-alike}
-use Rattle.reels.specs.Header.{headerOf, partAt}
+use Rattle.reels.specs.Header.{headerOf, blockPart}
 use Rattle.reels.specs.declared.HeaderRead.the-variants.{Reel, NoReel}
 use Rattle.reels.specs.declared.ReelRead.the-variants.{Read, NotReel, BadBlock}
 use Rattle.reels.proofs.HeaderLaws.{reel-told, no-reel-told, part-length, part-step}
@@ -125,14 +125,14 @@ module _ {g : ℕ} {s : List ℕ} {blocks : ℕ} {counts : Counts} {i : ℕ} (w 
     here = let c = w .count in omega arith
 
     -- a reel has at most 65,536 bytes
-    pub reading-room : counts .records + length (partAt s i) ≤ 65536
+    pub reading-room : counts .records + length (blockPart s i) ≤ 65536
     reading-room = omega (arith, w .few, part-length s i (w .reel) here, offset-rises s (w .reel) i here, offset-most s (w .reel) (suc i) here, reel-most s (w .reel))
 
-    left : totalOf (spannedFrom g (suc i) (heldOf (counts .held)) (drop i (blocksOf s))) ≡ totalOf (spannedFrom g (suc i) (heldOf (counts .held)) (partAt s i ∷ drop (suc i) (blocksOf s)))
+    left : totalOf (spannedFrom g (suc i) (heldOf (counts .held)) (drop i (blocksOf s))) ≡ totalOf (spannedFrom g (suc i) (heldOf (counts .held)) (blockPart s i ∷ drop (suc i) (blocksOf s)))
     left = ap (λ (bs : List (List ℕ)). totalOf (spannedFrom g (suc i) (heldOf (counts .held)) bs)) (part-step s i (w .reel) here)
 
     -- its records are counted
-    pub reading-step : (after : Counts) → Ruled g counts (partAt s i) (InTurn after) → Reading g s blocks after (i + 1)
+    pub reading-step : (after : Counts) → Ruled g counts (blockPart s i) (InTurn after) → Reading g s blocks after (i + 1)
     reading-step after j =
         record {
           reel = w .reel;
@@ -140,24 +140,24 @@ module _ {g : ℕ} {s : List ℕ} {blocks : ℕ} {counts : Counts} {i : ℕ} (w 
           inside = omega arith;
           few = subst (λ (n : ℕ). after .records ≤ offsetAt s n) (sym (add-one i)) (omega (arith, w .few, j .few, part-length s i (w .reel) here, offset-rises s (w .reel) i here));
           low = j .low;
-          same = step (turned-some (counts .records) (joinIn (heldOf (counts .held)) (segmentsIn g (partAt s i))) after (j .is));
+          same = step (turned-some (counts .records) (joinIn (heldOf (counts .held)) (segmentsIn g (blockPart s i))) after (j .is));
         }
       where
-        step : Ends (counts .records) (joinIn (heldOf (counts .held)) (segmentsIn g (partAt s i))) after
+        step : Ends (counts .records) (joinIn (heldOf (counts .held)) (segmentsIn g (blockPart s i))) after
             → spannedRead g s ≡ countedFrom blocks (after .records) (totalOf (spannedFrom g (suc (i + 1)) (heldOf (after .held)) (drop (i + 1) (blocksOf s))))
         step x =
             let bs = drop (suc i) (blocksOf s) in
             w .same
-            ∙ ap (countedFrom blocks (counts .records)) (left ∙ total-good g (suc i) (heldOf (counts .held)) (partAt s i) bs (x .state) (x .is))
+            ∙ ap (countedFrom blocks (counts .records)) (left ∙ total-good g (suc i) (heldOf (counts .held)) (blockPart s i) bs (x .state) (x .is))
             ∙ read-more blocks (counts .records) (length (x .state .0)) (totalOf (spannedFrom g (suc (suc i)) (x .state .1) bs))
             ∙ ap (countedFrom blocks (counts .records + length (x .state .0))) (total-alike g (suc (suc i)) bs (x .state .1) (heldOf (after .held)) (x .alike))
             ∙ ap₂ (λ (m n : ℕ). countedFrom blocks m (totalOf (spannedFrom g (suc n) (heldOf (after .held)) (drop n (blocksOf s))))) (sym (x .records)) (sym (add-one i))
 
     -- it breaks its rule
-    pub reading-bad : Ruled g counts (partAt s i) Breaks → SpannedAs g s (BadBlock (i + 1))
+    pub reading-bad : Ruled g counts (blockPart s i) Breaks → SpannedAs g s (BadBlock (i + 1))
     reading-bad j =
         let bs = drop (suc i) (blocksOf s) in
-        let bad = total-bad g (suc i) (heldOf (counts .held)) (partAt s i) bs (turned-none (counts .records) (joinIn (heldOf (counts .held)) (segmentsIn g (partAt s i))) (j .is)) in
+        let bad = total-bad g (suc i) (heldOf (counts .held)) (blockPart s i) bs (turned-none (counts .records) (joinIn (heldOf (counts .held)) (segmentsIn g (blockPart s i))) (j .is)) in
         record {
           is = sym (w .same ∙ ap (countedFrom blocks (counts .records)) (left ∙ bad) ∙ ap (λ (n : ℕ). refused 12 n) (sym (add-one i)));
           most = omega arith;

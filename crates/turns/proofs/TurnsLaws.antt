@@ -25,7 +25,7 @@ use Rattle.pieces.proofs.PiecesLaws.{worded-told, worded-untold, worded-further
 use Rattle.turns.specs.declared.Counts.{Counts}
 use Rattle.turns.specs.declared.TurnsRead.{TurnsRead}
 use Rattle.turns.specs.declared.TurnsRead.the-variants.{InTurn, Breaks}
-use Rattle.turns.specs.Turns.{heldOf, inTurnOf, takenOf, turned, toldBy, Walked, Ruled}
+use Rattle.turns.specs.Turns.{heldOf, inTurnOf, countsTaken, turned, toldBy, Walked, Ruled}
 
 -- ---- what is open, as a number
 
@@ -96,15 +96,15 @@ module _ (b : List ℕ) (i : ℕ) (h : headedTo 3 5 (drop i b) ≡ true) where
 
   turned-in : (c : Counts) → inTurnOf (c .held) code size ≡ true
       → turned (c .records) (joinAt (heldOf (c .held)) b i)
-      ≡ turned (takenOf c code size .records) (joinAt (heldOf (takenOf c code size .held)) b (i + wordLength (drop i b)))
-  unfolding takenOf
+      ≡ turned (countsTaken c code size .records) (joinAt (heldOf (countsTaken c code size .held)) b (i + wordLength (drop i b)))
+  unfolding countsTaken
   turned-in c e =
       let t : inTurn (heldOf (c .held)) (ltb code 2) bytes ≡ true = held-turn (c .held) code bytes ∙ ap (inTurnOf (c .held) code) (size-data .0) ∙ e in
       ap (turned (c .records)) (join-good (heldOf (c .held)) b i h) ∙ rw t (go (eqb (code % 2) 0) refl)
     where
       go : (t : Bool) → eqb (code % 2) 0 ≡ t
           → turned (c .records) (cond (eqb (code % 2) 0) (withRecord (sofar (heldOf (c .held)) ++ bytes) (joinAt none b (i + wordLength (drop i b)))) (joinAt (some (sofar (heldOf (c .held)) ++ bytes)) b (i + wordLength (drop i b))))
-          ≡ turned (takenOf c code size .records) (joinAt (heldOf (takenOf c code size .held)) b (i + wordLength (drop i b)))
+          ≡ turned (countsTaken c code size .records) (joinAt (heldOf (countsTaken c code size .held)) b (i + wordLength (drop i b)))
       go true t = rw t (turned-ended (c .records) (sofar (heldOf (c .held)) ++ bytes) (joinAt none b (i + wordLength (drop i b))))
       go false t =
           rw t
@@ -140,27 +140,27 @@ turn-right held code size l e = fits (leb size (32752 - held)) refl ∙ go (ltb 
 
 -- ---- the counts behind a segment
 
-pub taken-even : (c : Counts) (code size : ℕ) → code % 2 ≡ 0 → record { records = c .records + 1; held = 0 } ≡ takenOf c code size
-unfolding takenOf
+pub taken-even : (c : Counts) (code size : ℕ) → code % 2 ≡ 0 → record { records = c .records + 1; held = 0 } ≡ countsTaken c code size
+unfolding countsTaken
 taken-even c code size e = rw (eq-eqb (code % 2) 0 e)
 
-pub taken-odd : (c : Counts) (code size : ℕ) → (code % 2 ≡ 0 → ⊥) → record { records = c .records; held = c .held + size } ≡ takenOf c code size
-unfolding takenOf
+pub taken-odd : (c : Counts) (code size : ℕ) → (code % 2 ≡ 0 → ⊥) → record { records = c .records; held = c .held + size } ≡ countsTaken c code size
+unfolding countsTaken
 taken-odd c code size f = rw (ne-eqb (code % 2) 0 f)
 
-taken-few : (c : Counts) (code size : ℕ) → takenOf c code size .records ≤ c .records + 1
-unfolding takenOf
+taken-few : (c : Counts) (code size : ℕ) → countsTaken c code size .records ≤ c .records + 1
+unfolding countsTaken
 taken-few c code size = go (eqb (code % 2) 0) refl
   where
-    go : (t : Bool) → eqb (code % 2) 0 ≡ t → takenOf c code size .records ≤ c .records + 1
+    go : (t : Bool) → eqb (code % 2) 0 ≡ t → countsTaken c code size .records ≤ c .records + 1
     go true t = rw t (omega arith)
     go false t = rw t (omega arith)
 
-taken-low : (c : Counts) (code size : ℕ) → c .held + size ≤ 32752 → takenOf c code size .held ≤ 32752
-unfolding takenOf
+taken-low : (c : Counts) (code size : ℕ) → c .held + size ≤ 32752 → countsTaken c code size .held ≤ 32752
+unfolding countsTaken
 taken-low c code size l = go (eqb (code % 2) 0) refl
   where
-    go : (t : Bool) → eqb (code % 2) 0 ≡ t → takenOf c code size .held ≤ 32752
+    go : (t : Bool) → eqb (code % 2) 0 ≡ t → countsTaken c code size .held ≤ 32752
     go true t = rw t (omega arith)
     go false t = rw t l
 
@@ -231,7 +231,7 @@ module _ {b : List ℕ} {from : ℕ} {before counts : Counts} {i : ℕ} (w : Goi
           low = omega arith;
         }
 
-    pub going-step : inTurnOf (counts .held) third size ≡ true → (after : Counts) → after ≡ takenOf counts third size → Going b from before after (next .at)
+    pub going-step : inTurnOf (counts .held) third size ≡ true → (after : Counts) → after ≡ countsTaken counts third size → Going b from before after (next .at)
     going-step t after a =
         subst (λ (x : Counts). Going b from before x (next .at)) (sym a)
         (record {
@@ -240,8 +240,8 @@ module _ {b : List ℕ} {from : ℕ} {before counts : Counts} {i : ℕ} (w : Goi
           low = taken-low counts third size (in-turn-most (counts .held) third size t);
           same = w .same
               ∙ turned-in b i (told .1) counts (ap₂ (inTurnOf (counts .held)) code-told size-told ∙ t)
-              ∙ ap₂ (λ (c n : ℕ). turned (takenOf counts c n .records) (joinAt (heldOf (takenOf counts c n .held)) b (i + wordLength (drop i b)))) code-told size-told
-              ∙ ap (λ (n : ℕ). turned (takenOf counts third size .records) (joinAt (heldOf (takenOf counts third size .held)) b n)) behind-told;
+              ∙ ap₂ (λ (c n : ℕ). turned (countsTaken counts c n .records) (joinAt (heldOf (countsTaken counts c n .held)) b (i + wordLength (drop i b)))) code-told size-told
+              ∙ ap (λ (n : ℕ). turned (countsTaken counts third size .records) (joinAt (heldOf (countsTaken counts third size .held)) b n)) behind-told;
         })
 
 -- ---- the ways in which a block breaks its rule before its segments are looked at

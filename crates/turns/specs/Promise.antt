@@ -8,7 +8,7 @@ use Rattle.rules.specs.Base.{joined}
 use Rattle.rules.specs.Answer.{Answer, fine, _>>=_, _>>_, unless}
 use Rattle.rules.specs.Reel.{isReel, blocksOf}
 use Rattle.rules.specs.Spanned.{spannedFrom}
-use Rattle.reels.specs.Records.{answerOf, recordsOf}
+use Rattle.reels.specs.Records.{answerOf, recordCount}
 use Rattle.reels.specs.declared.ReelRead.{ReelRead}
 
 -- what the rules answer: not a reel, a block that breaks its rule, or its blocks and records counted
@@ -21,4 +21,4 @@ spannedRead g s = do
 -- the answer is that of the rules; no reel has more records than bytes
 pub record SpannedAs (g : ℕ) (s : List ℕ) (r : ReelRead) : Type 0 where
   pub is : answerOf r ≡ spannedRead g s
-  pub most : recordsOf r ≤ length s
+  pub most : recordCount r ≤ length s

@@ -22,13 +22,13 @@ unfoldable pub inTurnOf : ℕ → ℕ → ℕ → Bool
 inTurnOf held code size = same (ltb code 2) (eqb held 0) && leb (held + size) 32752
 
 -- codes 0 and 2 end a record
-unfoldable pub takenOf : Counts → ℕ → ℕ → Counts
-takenOf counts code size =
+unfoldable pub countsTaken : Counts → ℕ → ℕ → Counts
+countsTaken counts code size =
     cond (eqb (code % 2) 0)
     (record { records = counts .records + 1; held = 0 })
     (record { records = counts .records; held = counts .held + size })
 
--- behind so many records: how many ended, whether none is open then, and how long the open one is
+-- behind so many records: how many recordsEnded, whether none is open then, and how long the open one is
 abbrev pub turned : ℕ → Option State → Option (ℕ × Bool × ℕ)
 turned k none = none
 turned k (some x) = some (k + length (x .0), isClosed (x .1), length (sofar (x .1)))
@@ -37,24 +37,24 @@ abbrev pub toldBy : TurnsRead → Option (ℕ × Bool × ℕ)
 toldBy (InTurn counts) = some (counts .records, eqb (counts .held) 0, counts .held)
 toldBy Breaks = none
 
-abbrev pub ended : TurnsRead → ℕ
-ended (InTurn counts) = counts .records
-ended Breaks = 0
+abbrev pub recordsEnded : TurnsRead → ℕ
+recordsEnded (InTurn counts) = counts .records
+recordsEnded Breaks = 0
 
 abbrev pub heldIn : TurnsRead → ℕ
 heldIn (InTurn counts) = counts .held
 heldIn Breaks = 0
 
 -- the counts of the rules' records; no block ends more records than it has bytes, and none that is open is too long
-pub record Counted (before : Counts) (size : ℕ) (o : Option State) (r : TurnsRead) : Type 0 where
+pub record TurnsCounted (before : Counts) (size : ℕ) (o : Option State) (r : TurnsRead) : Type 0 where
   pub is : toldBy r ≡ turned (before .records) o
-  pub few : ended r ≤ before .records + size
+  pub few : recordsEnded r ≤ before .records + size
   pub low : heldIn r ≤ 32752
 
 -- what a block is read as, by its rule
 abbrev pub Ruled : ℕ → Counts → List ℕ → TurnsRead → Type 0
-Ruled g before b r = Counted before (length b) (joinIn (heldOf (before .held)) (segmentsIn g b)) r
+Ruled g before b r = TurnsCounted before (length b) (joinIn (heldOf (before .held)) (segmentsIn g b)) r
 
 -- and by its segments from a place on
 abbrev pub Walked : Counts → List ℕ → ℕ → TurnsRead → Type 0
-Walked before b from r = Counted before (length b) (joinAt (heldOf (before .held)) b from) r
+Walked before b from r = TurnsCounted before (length b) (joinAt (heldOf (before .held)) b from) r

@@ -4,7 +4,7 @@ ghost use mathlib.Core.Path.{_≡_};
 ghost use Prim.Native.Nat.{_+_, _≤_, _<_};
 ghost use lib.ListN.{length};
 ghost use Rattle.reels.specs.Header.{headerOf};
-ghost use Rattle.turns.specs.Turns.{inTurnOf, takenOf, Walked, Ruled};
+ghost use Rattle.turns.specs.Turns.{inTurnOf, countsTaken, Walked, Ruled};
 ghost use Rattle.turns.specs.Promise.{SpannedAs};
 use pieces::Cursor;
 use pieces::PieceRead;
@@ -40,7 +40,7 @@ fn in_turn(held: usize, code: usize, size: usize) -> bool
 // The counts behind a segment: codes 0 and 2 end its record.
 fn taken(counts: Counts, code: usize, size: usize) -> Counts
     requires { ⌜ (counts .records < 65536) × (counts .held + size ≤ 32752) ⌝ }
-    ensures { λ r. ⌜ r ≡ takenOf counts code size ⌝ }
+    ensures { λ r. ⌜ r ≡ countsTaken counts code size ⌝ }
 {
     if code % 2 == 0 {
         let records = counts.records + 1;

@@ -20,13 +20,13 @@ use Rattle.terms.specs.declared.Kind.the-variants.{Copy, Pack, Unpack}
 use Rattle.rows.specs.Flat.{fieldAt}
 use Rattle.rows.specs.Kept.{fieldsIn}
 use Rattle.rows.proofs.RowLaws.{fields-on, fields-end}
-use Rattle.keeping.specs.Promise.{FairField}
+use Rattle.keeping.specs.Promise.{FieldInside}
 use Rattle.terms.proofs.FieldLaws.{input-of}
 use Rattle.keeping.proofs.Fields.{kind-of, fair-fits}
 
 -- ---- one field
 
-module _ (n m : ℕ) (f : Field) (ok : FairField n m f) where
+module _ (n m : ℕ) (f : Field) (ok : FieldInside n m f) where
   from-is : readsFrom (fieldOf f) ≡ 2 * f .r - 2
   unfolding fieldOf
   from-is = omega (arith, ok .r-low)

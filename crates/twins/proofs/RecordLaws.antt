@@ -14,7 +14,7 @@ use borrow.Rule.Slice.PartMut.{putMid, same-len-mid, mid-len}
 use Rattle.rules.specs.Halves.{bytes}
 use Rattle.rules.specs.Twins.{listed}
 use Rattle.rules.proofs.ListedLaws.{length-bytes-listed, getD-bytes-listed}
-use Rattle.twins.specs.Promise.{raisedIn, Values, neededFor, recordsIn, WrittenInto}
+use Rattle.twins.specs.Promise.{raisedIn, Values, neededFor, twinRecords, WrittenInto}
 
 -- ---- a half
 
@@ -116,14 +116,14 @@ module _ (values : List ℕ) (n lost : ℕ) (old : List ℕ) (room : 2 * n ≤ l
         ∙ ap (λ (x : List ℕ). first ++ (second ++ x)) (drop-drop (2 * n - n) n old ∙ ap (λ (k : ℕ). drop k old) (let z : n + (2 * n - n) ≡ 2 * n = omega arith in z))
         ∙ sym (append-assoc first second (drop (2 * n) old))
 
-    pub written-other : (lost ≡ 2 * n → ⊥) → WrittenInto (recordsIn values n lost) old (putMid n (2 * n - n) (first ++ drop n old) second)
-    unfolding recordsIn
+    pub written-other : (lost ≡ 2 * n → ⊥) → WrittenInto (twinRecords values n lost) old (putMid n (2 * n - n) (first ++ drop n old) second)
+    unfolding twinRecords
     written-other q =
         both-stand ∙ rw (ne-eqb lost (2 * n) q, ← first-is, ← second-is, append-nil) (ap (λ (k : ℕ). first ++ second ++ drop k old) (sym length-both))
 
     -- 00 is put behind the second
-    pub written-tail : lost ≡ 2 * n → 2 * n < length old → WrittenInto (recordsIn values n lost) old (set (putMid n (2 * n - n) (first ++ drop n old) second) (2 * n) 0)
-    unfolding recordsIn
+    pub written-tail : lost ≡ 2 * n → 2 * n < length old → WrittenInto (twinRecords values n lost) old (set (putMid n (2 * n - n) (first ++ drop n old) second) (2 * n) 0)
+    unfolding twinRecords
     written-tail e h =
         ap (λ (x : List ℕ). set x (2 * n) 0) (both-stand ∙ ap (λ (x : List ℕ). first ++ second ++ x) (drop-cons old (2 * n) 0 h))
         ∙ set-at (first ++ second) (getD old (2 * n) 0) (drop (suc (2 * n)) old) 0 (2 * n) length-both

@@ -32,14 +32,14 @@ use Rattle.rows.specs.Fair.{PlanFair}
 use Rattle.rows.proofs.KeptLaws.{one-size}
 use Rattle.rows.proofs.FlatLaws.{field-kept, fields-many}
 use Rattle.rows.proofs.RowLaws.{many-in, field-in}
-use Rattle.keeping.specs.Promise.{Fair}
+use Rattle.keeping.specs.Promise.{RowInside}
 use Rattle.keeping.proofs.PlanLaws.{fair-field}
 use Rattle.keeping.proofs.Weighs.{fair-longest}
-use Rattle.plans.specs.Promise.{plannedOf, Holds, Plans}
+use Rattle.plans.specs.Promise.{plannedOf, HoldsPlan, Plans}
 use Rattle.plans.specs.declared.DeckPlan.{DeckPlan}
 use Rattle.plans.specs.declared.Planned.{Planned}
 use Rattle.plans.proofs.FilledLaws.{refused-plan, accepted-plan, plan-is, plan-fair, row-holds}
-use Rattle.twins.specs.Promise.{raisedIn, Values, neededFor, recordsIn, WrittenInto, Loses, twinsOf, twinsNumbers, refusedTwins, fitting, ShownInto, TwinsWritten}
+use Rattle.twins.specs.Promise.{raisedIn, Values, neededFor, twinRecords, WrittenInto, Loses, twinsOf, twinsNumbers, refusedTwins, twinsFitting, ShownInto, TwinsWritten}
 use Rattle.twins.specs.declared.Twins.{Twins}
 
 -- ---- the fields of an accepted plan
@@ -57,7 +57,7 @@ module _ (x : Asked) (row : List ℕ) (fair : PlanFair x row) where
       ap (λ (xs : List ℕ). fieldAt xs k) (fair .flat ∙ sym (append-nil (flatOf (fieldsIn row))))
       ∙ field-kept (fieldOf noField) (fieldsIn row) [] k (omega (arith, many-in row))
 
-  pub fields-fair : Fair row n (recordLength (sizeOf (x .output)))
+  pub fields-fair : RowInside row n (recordLength (sizeOf (x .output)))
   unfolding planIn
   fields-fair =
       let m = recordLength (sizeOf (x .output)) in
@@ -73,7 +73,7 @@ module _ (x : Asked) (row : List ℕ) (fair : PlanFair x row) where
             (subst (λ (f : Field). OneSize (f .kind) (f .input) (f .output)) (sym (read-as k l)) (one-size (getD (fieldsIn row) k d)));
       }
 
-  pub fields-wide : Fair row 4096 4096
+  pub fields-wide : RowInside row 4096 4096
   fields-wide = fair-longest row n _ fields-fair
 
   -- ---- the reason
@@ -84,7 +84,7 @@ module _ (x : Asked) (row : List ℕ) (fair : PlanFair x row) where
     reason-tail e = rw (eq-eqb (lostAt p) (2 * n) (sym place ∙ e))
 
     pub reason-half : (lost ≡ 2 * n → ⊥) → (r : ℕ)
-        → ((a b : ℕ) → Fair row a b → r ≡ reasonBy zoneF (2 * a) lost 1 (fieldsIn row)) → r ≡ reason p
+        → ((a b : ℕ) → RowInside row a b → r ≡ reasonBy zoneF (2 * a) lost 1 (fieldsIn row)) → r ≡ reason p
     unfolding reason inputHalves planIn
     reason-half h r w =
         let ne : eqb (lostAt p) (2 * n) ≡ false = ne-eqb (lostAt p) (2 * n) (λ e. h (place ∙ e)) in
@@ -115,8 +115,8 @@ module _ (x : Asked) (row : List ℕ) (fair : PlanFair x row) where
             (ap suc (value-at i l) ∙ sym (subst (λ (j : ℕ). second (allowed p) j ≡ suc (lowest (allowed p) j)) (sym e) (lost-next p (subst (λ (j : ℕ). j < 2 * n) e l))))
         go false t = rw (t, ne-eqb i (lostAt p) (λ e. eqb-false i lost t (e ∙ sym (loses .place)))) (value-at i l)
 
-    pub records-are : recordsIn values n lost ≡ twins p
-    unfolding recordsIn twins firstTwin secondTwin inputHalves planIn
+    pub records-are : twinRecords values n lost ≡ twins p
+    unfolding twinRecords twins firstTwin secondTwin inputHalves planIn
     records-are =
         let first = listed-same (raisedIn values (2 * n)) (lowest (allowed p)) 0 (2 * n) (λ j a b. first-at j (omega arith)) in
         let other = listed-same (raisedIn values lost) (raised (allowed p) (lostAt p)) 0 (2 * n) (λ j a b. second-at j (omega arith)) in
@@ -146,22 +146,22 @@ module _ (x : Asked) (row : List ℕ) (fair : PlanFair x row) where
 
     -- refusal 15, or both records, where A's n was read as a
     pub shown-full : (before : List ℕ) (a k : ℕ) → a ≡ n → k ≡ neededFor a lost → length before < k → ShownInto p before (refusedTwins 15 k 0) before
-    unfolding fitting unless _>>_
+    unfolding twinsFitting unless _>>_
     shown-full before a k d e l =
         let same : k ≡ length (twins p) = e ∙ ap (λ (m : ℕ). neededFor m lost) d ∙ needed-is in
         let short : leb (length (twins p)) (length before) ≡ false = lt-leb (length (twins p)) (length before) (omega arith) in
         record { answer = rw short (ap (λ (m : ℕ). refusedTwins 15 m 0) same); output = rw short }
 
     pub shown-both : (before after values : List ℕ) (a k why : ℕ) → values ≡ listed (lowest (permitted zoneF (fieldsIn row))) 0 8192
-        → a ≡ n → k ≡ neededFor a lost → k ≤ length before → why ≡ reason p → WrittenInto (recordsIn values a lost) before after
+        → a ≡ n → k ≡ neededFor a lost → k ≤ length before → why ≡ reason p → WrittenInto (twinRecords values a lost) before after
         → ShownInto p before (record { refusal = 0; place = 0; column = 0; reason = why; length = k }) after
-    unfolding fitting unless _>>_
+    unfolding twinsFitting unless _>>_
     shown-both before after values a k why are d e l r w =
         let same : k ≡ length (twins p) = e ∙ ap (λ (m : ℕ). neededFor m lost) d ∙ needed-is in
         let roomy : leb (length (twins p)) (length before) ≡ true = le-leb (length (twins p)) (length before) (omega arith) in
         record {
           answer = rw roomy (λ i. record { refusal = 0; place = 0; column = 0; reason = r i; length = same i });
-          output = rw roomy (w ∙ ap (λ (rs : List ℕ). rs ++ drop (length rs) before) (ap (λ (m : ℕ). recordsIn values m lost) d ∙ records-are lost loses values are));
+          output = rw roomy (w ∙ ap (λ (rs : List ℕ). rs ++ drop (length rs) before) (ap (λ (m : ℕ). twinRecords values m lost) d ∙ records-are lost loses values are));
         }
 
 -- ---- a deck
@@ -182,7 +182,7 @@ module _ (deck before : List ℕ) (r : DeckPlan) (row : List ℕ) (w : Plans dec
       into-of (refuse (q .0)) (planned (refuse (q .0)) (q .1)) _ before (λ i. refusedTwins (q .2 i) (q .3 i) (q .4 i)) refl
 
   module _ (z : r .answer .refusal ≡ 0) where
-    made : (p : Plan) × (plan deck ≡ fine p) × (r .answer ≡ plannedOf (planAnswer (fine p))) × Holds deck p (r .asked) row
+    made : (p : Plan) × (plan deck ≡ fine p) × (r .answer ≡ plannedOf (planAnswer (fine p))) × HoldsPlan deck p (r .asked) row
     made = accepted-plan deck r row w z
 
     -- the numbers of its fields, at most 320, stand at the front of the row
@@ -214,11 +214,11 @@ module _ (deck before : List ℕ) (r : DeckPlan) (row : List ℕ) (w : Plans dec
         go false k = record { loses = k; place = ap (λ (a : Planned). a .lost) (made .2) ∙ ap (λ (b : Bool). cond b 0 (lostAt (made .0))) k }
 
     pub twins-shown : r .answer .keeping ≡ 0 → (t : Twins) (after : List ℕ) → ShownInto (planIn zoneF (r .asked) (fieldsIn (take (5 * r .asked .count) row))) before t after → TwinsWritten deck before t after
-    unfolding _>>=_ unless _>>_ fitting
+    unfolding _>>=_ unless _>>_ twinsFitting
     twins-shown e t after s =
         let k = loses-of e .loses in
         let q : Plan = planIn zoneF (r .asked) (fieldsIn (take (5 * r .asked .count) row)) in
-        into-of (fitting (length before) q) (planned (fine q) (made .1 ∙ ap fine (sym is)) ∙ rw k refl) t after (s .answer) (s .output)
+        into-of (twinsFitting (length before) q) (planned (fine q) (made .1 ∙ ap fine (sym is)) ∙ rw k refl) t after (s .answer) (s .output)
 
 -- the struct says all that the rules answer
 pub twins-told : (x : TwinsAnswer) → twinsNumbers (twinsOf x) ≡ x

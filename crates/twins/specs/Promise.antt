@@ -27,8 +27,8 @@ unfoldable pub neededFor : ℕ → ℕ → ℕ
 neededFor n lost = cond (eqb lost (2 * n)) (2 * n + 1) (2 * n)
 
 -- both records: no half of the first is raised, and 00 stands behind the second for the tail
-unfoldable pub recordsIn : List ℕ → ℕ → ℕ → List ℕ
-recordsIn values n lost =
+unfoldable pub twinRecords : List ℕ → ℕ → ℕ → List ℕ
+twinRecords values n lost =
     bytes (listed (raisedIn values (2 * n)) 0 (2 * n)) ++ bytes (listed (raisedIn values lost) 0 (2 * n)) ++ cond (eqb lost (2 * n)) (0 ∷ []) []
 
 -- these bytes stand at the front, and those past them stay
@@ -54,12 +54,12 @@ abbrev pub refusedTwins : ℕ → ℕ → ℕ → Twins
 refusedTwins number place column = record { refusal = number; place = place; column = column; reason = 0; length = 0 }
 
 -- of a plan that loses: refusal 15, or both records and the reason
-unfoldable pub fitting : ℕ → Plan → Answer Shown
-fitting room p = unless (leb (length (twins p)) room) 15 (length (twins p)) >> fine (shown p)
+unfoldable pub twinsFitting : ℕ → Plan → Answer Shown
+twinsFitting room p = unless (leb (length (twins p)) room) 15 (length (twins p)) >> fine (shown p)
 
 pub record ShownInto (p : Plan) (before : List ℕ) (r : Twins) (after : List ℕ) : Type 0 where
-  pub answer : r ≡ twinsOf (twinsAnswer (fitting (length before) p))
-  pub output : after ≡ twinsAfter before (fitting (length before) p)
+  pub answer : r ≡ twinsOf (twinsAnswer (twinsFitting (length before) p))
+  pub output : after ≡ twinsAfter before (twinsFitting (length before) p)
 
 -- of a deck: the answer, and the lent output afterwards
 pub record TwinsWritten (deck before : List ℕ) (r : Twins) (after : List ℕ) : Type 0 where

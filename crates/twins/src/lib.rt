@@ -11,8 +11,8 @@ ghost use Rattle.rules.specs.Twins.{listed, shows as showsBy, reasonOf, reasonB
 ghost use Rattle.terms.specs.Meaning.{fieldOf, planIn};
 ghost use Rattle.rows.specs.Kept.{fieldsIn};
 ghost use Rattle.rows.specs.Fair.{PlanFair};
-ghost use Rattle.keeping.specs.Promise.{FairField, Fair};
-ghost use Rattle.twins.specs.Promise.{refusedTwins, raisedIn, Values, neededFor, recordsIn, WrittenInto, Loses, ShownInto, TwinsWritten};
+ghost use Rattle.keeping.specs.Promise.{FieldInside, RowInside};
+ghost use Rattle.twins.specs.Promise.{refusedTwins, raisedIn, Values, neededFor, twinRecords, WrittenInto, Loses, ShownInto, TwinsWritten};
 use terms::Asked;
 use terms::Field;
 use terms::Kind;
@@ -31,7 +31,7 @@ pub struct Twins {
 
 // Whether a field reads half h.
 fn reads(f: Field, h: usize) -> bool
-    requires { ⌜ FairField 4096 4096 f ⌝ }
+    requires { ⌜ FieldInside 4096 4096 f ⌝ }
     ensures { λ r. ⌜ r ≡ readsBy (fieldOf f) h ⌝ }
 {
     let from = 2 * f.r - 2;
@@ -41,7 +41,7 @@ fn reads(f: Field, h: usize) -> bool
 // Whether what a field writes holds half h, which it reads. `right` counts the halves to the right of it: a pack or an unpack keeps the last byte, and of the
 // digits before it as many as it has room for; a pack keeps no zone.
 fn shows(f: Field, h: usize) -> bool
-    requires { ⌜ FairField 4096 4096 f ⌝ }
+    requires { ⌜ FieldInside 4096 4096 f ⌝ }
     requires { ⌜ readsBy (fieldOf f) h ≡ true ⌝ }
     ensures { λ r. ⌜ ((many : ℕ) → readsFrom (fieldOf f) + readsMany (fieldOf f) ≤ many → r ≡ showsBy zoneF many h (fieldOf f)) ⌝ }
 {
@@ -56,7 +56,7 @@ fn shows(f: Field, h: usize) -> bool
 
 // Of a field that reads half h: covered later, or dropped by it.
 fn reason_of(f: Field, h: usize) -> usize
-    requires { ⌜ FairField 4096 4096 f ⌝ }
+    requires { ⌜ FieldInside 4096 4096 f ⌝ }
     requires { ⌜ readsBy (fieldOf f) h ≡ true ⌝ }
     ensures { λ r. ⌜ ((many : ℕ) → readsFrom (fieldOf f) + readsMany (fieldOf f) ≤ many → r ≡ reasonOf zoneF many h (fieldOf f)) ⌝ }
 {
@@ -68,8 +68,8 @@ fn reason_of(f: Field, h: usize) -> usize
 
 // The last field that reads half h decides; where none does, it is never read.
 fn reason(fields: &[u16], h: usize) -> usize
-    requires { ⌜ Fair (now fields) 4096 4096 ⌝ }
-    ensures { λ r. ⌜ ((n m : ℕ) → Fair (now (fields .entry)) n m → r ≡ reasonBy zoneF (2 * n) h 1 (fieldsIn (now (fields .entry)))) ⌝ }
+    requires { ⌜ RowInside (now fields) 4096 4096 ⌝ }
+    ensures { λ r. ⌜ ((n m : ℕ) → RowInside (now (fields .entry)) n m → r ≡ reasonBy zoneF (2 * n) h 1 (fieldsIn (now (fields .entry)))) ⌝ }
 {
     let count = fields.len() / 5;
     let mut reason = 1;
@@ -124,7 +124,7 @@ fn needed(n: usize, lost: usize) -> usize
 fn put_twins(values: &[u8; 8192], n: usize, lost: usize, out: &mut [u8])
     requires { ⌜ (n ≤ 4096) × (neededFor n lost ≤ length (now out)) ⌝ }
     requires { ⌜ Values (now values) lost (2 * n) ⌝ }
-    ensures { λ _. ⌜ WrittenInto (recordsIn (now (values .entry)) n lost) (now (out .entry)) (now (out .exit)) ⌝ }
+    ensures { λ _. ⌜ WrittenInto (twinRecords (now (values .entry)) n lost) (now (out .entry)) (now (out .exit)) ⌝ }
 {
     let end = 2 * n;
     put_record(values, end, &mut out[..n]);

@@ -24,7 +24,7 @@ use Rattle.terms.specs.declared.Kind.{Kind}
 use Rattle.terms.specs.declared.Kind.the-variants.{Copy, Pack, Unpack}
 use Rattle.terms.specs.declared.Field.{Field}
 use Rattle.rows.specs.Flat.{flatOf, kindAt, fieldAt}
-use Rattle.values.specs.Promise.{Permits, takesAny, Asks}
+use Rattle.values.specs.Promise.{Permits, takesAny, FieldsAsk}
 use Rattle.rows.proofs.ReadLaws.{kind-of-row, kind-copy, lentInput, part-input, Reads, length-input}
 
 -- ---- one byte
@@ -137,10 +137,10 @@ copy-first xs i = go (eqb (getD xs (5 * i) 0) 0) (eqb (getD xs (5 * i) 0) 1)
     go false true = refl
     go false false = refl
 
-pub asks-some : (xs : List ℕ) → ((fs : List RuleField) → xs ≡ flatOf fs → every (λ f. takesAny (f .kind)) fs ≡ false) → Asks xs true
-unfolding Asks
+pub asks-some : (xs : List ℕ) → ((fs : List RuleField) → xs ≡ flatOf fs → every (λ f. takesAny (f .kind)) fs ≡ false) → FieldsAsk xs true
+unfolding FieldsAsk
 asks-some xs h fs flat = sym (ap not (h fs flat))
 
-pub asks-none : (xs : List ℕ) → ((fs : List RuleField) → xs ≡ flatOf fs → every (λ f. takesAny (f .kind)) fs ≡ true) → Asks xs false
-unfolding Asks
+pub asks-none : (xs : List ℕ) → ((fs : List RuleField) → xs ≡ flatOf fs → every (λ f. takesAny (f .kind)) fs ≡ true) → FieldsAsk xs false
+unfolding FieldsAsk
 asks-none xs h fs flat = sym (ap not (h fs flat))

@@ -14,12 +14,12 @@ use Rattle.rules.specs.Lent.{zoneF}
 use Rattle.rules.proofs.AllLaws.{all-imply}
 use Rattle.rules.proofs.Tests.{every-all, all-every}
 use Rattle.rows.specs.Flat.{flatOf, FlatFair, Readable}
-use Rattle.values.specs.Promise.{Permits, takesAny, Asks}
+use Rattle.values.specs.Promise.{Permits, takesAny, FieldsAsk}
 use Rattle.values.proofs.CheckLaws.{mayRead, any-read, permits-all}
 
 -- where no field asks anything, every record is permitted
-pub asks-nothing : (xs r : List ℕ) → All Byte r → Asks xs false → Permits xs r true
-unfolding Asks
+pub asks-nothing : (xs r : List ℕ) → All Byte r → FieldsAsk xs false → Permits xs r true
+unfolding FieldsAsk
 asks-nothing xs r small h =
     permits-all xs r small (λ fs flat. all-every (mayRead r) (all-imply (λ f t. any-read r small f t) (every-all (λ f. takesAny (f .kind)) fs (not-false _ (sym (h fs flat))))))
 
@@ -34,6 +34,6 @@ pub permitted-only-one : (xs r : List ℕ) → Readable xs (length r) → (x y :
 unfolding Permits
 permitted-only-one xs r k x y h g = let f = k .fielded in h (f .fields) _ _ (f .fair) (k .long) ∙ sym (g (f .fields) _ _ (f .fair) (k .long))
 
-pub asks-only-one : (fs : List Field) (x y : Bool) → Asks (flatOf fs) x → Asks (flatOf fs) y → x ≡ y
-unfolding Asks
+pub asks-only-one : (fs : List Field) (x y : Bool) → FieldsAsk (flatOf fs) x → FieldsAsk (flatOf fs) y → x ≡ y
+unfolding FieldsAsk
 asks-only-one fs x y h g = h fs refl ∙ sym (g fs refl)

@@ -22,5 +22,5 @@ takesAny (pack n m) = false
 takesAny (unpack n m) = false
 
 -- whether some field asks something of a record
-unfoldable pub Asks : List ℕ → Bool → Type 0
-Asks xs x = (fs : List Field) → xs ≡ flatOf fs → x ≡ not (every (λ f. takesAny (f .kind)) fs)
+unfoldable pub FieldsAsk : List ℕ → Bool → Type 0
+FieldsAsk xs x = (fs : List Field) → xs ≡ flatOf fs → x ≡ not (every (λ f. takesAny (f .kind)) fs)

@@ -10,7 +10,7 @@ ghost use Rattle.rules.specs.Output.{mayBe};
 ghost use Rattle.rules.specs.Lent.{zoneF};
 ghost use Rattle.terms.specs.Meaning.{kindOf};
 ghost use Rattle.rows.specs.Flat.{kindAt, Readable};
-ghost use Rattle.values.specs.Promise.{Permits, Asks};
+ghost use Rattle.values.specs.Promise.{Permits, FieldsAsk};
 use terms::ZONE;
 
 // The digit 0 with F before it.
@@ -116,7 +116,7 @@ pub fn permitted(fields: &[u16], record: &[u8]) -> bool
 
 // Whether some field asks something of the halves that it reads: a copy takes any.
 pub fn asks(fields: &[u16]) -> bool
-    ensures { λ r. ⌜ Asks (now (fields .entry)) r ⌝ }
+    ensures { λ r. ⌜ FieldsAsk (now (fields .entry)) r ⌝ }
 {
     let count = fields.len() / 5;
     let mut i = 0;

@@ -5,7 +5,7 @@ use mathlib.Core.List.{List}
 use Prim.Native.Nat.{ℕ}
 use Rattle.rules.specs.Answer.{Refusal, Answer, fine, refuse, refusedAt}
 use Rattle.rules.specs.Plan.{Plan}
-use Rattle.rules.specs.Run.{Ran as RuleRan, convert, conversion}
+use Rattle.rules.specs.Run.{RunOutput, convert, conversion}
 use Rattle.rules.specs.Lent.{runAnswer}
 use Rattle.rules.specs.Judge.{underB, ourRecords, judgeAnswer}
 use Rattle.rules.proofs.AnswerLaws.{not-fine}
@@ -24,7 +24,7 @@ use Rattle.tasks.specs.Promise.{formUnder}
 use Rattle.tasks.proofs.LengthLaws.{form-judged}
 use Rattle.outcomes.specs.declared.Ran.{Ran}
 use Rattle.outcomes.specs.Promise.{ranStruct}
-use Rattle.checks.specs.Promise.{Given, GivenPlan, Checked}
+use Rattle.checks.specs.Promise.{PlanGiven, SomePlanGiven, Checked}
 use Rattle.pairs.specs.Promise.{BothRead, ApartAt}
 use Rattle.verdicts.specs.declared.Judged.{Judged}
 use Rattle.verdicts.specs.Promise.{judgedOf, refusedWith, toldAs, Ours, OursRead, OfOurs, OfPlan}
@@ -36,7 +36,7 @@ says r x y e q = e ∙ ap (λ (a : Answer ℕ). judgedOf (judgeAnswer a)) (sym q
 -- ---- theirs
 
 module _ {task : Task} {fields theirs : List ℕ} (ours : List ℕ) {under : Form} (u : under ≡ formUnder task) {read : ReelRead} (w : ReadAs under theirs read) where
-  theirs-tell : (p : Plan) → Given task fields p → Tells (underB p) theirs read
+  theirs-tell : (p : Plan) → PlanGiven task fields p → Tells (underB p) theirs read
   theirs-tell p g = tells under (underB p) (form-judged (g .is) u) theirs read w
 
   pub ends-no-reel : read ≡ NotReel → (r : Judged) → r ≡ refusedWith 17 0 0 → OfOurs task fields ours theirs r
@@ -54,7 +54,7 @@ module _ {task : Task} {fields theirs : List ℕ} (ours : List ℕ) {under : For
       }
 
   module _ (blocks records : ℕ) (t : read ≡ Read blocks records) where
-    their-good : (p : Plan) → Given task fields p → (others : List (List (List ℕ))) × Good (underB p) theirs others
+    their-good : (p : Plan) → PlanGiven task fields p → (others : List (List (List ℕ))) × Good (underB p) theirs others
     their-good p g = let x = good-read (underB-accepted p (g .accepted)) (form-judged (g .is) u) (subst (ReadAs under theirs) t w) in (x .0, x .1)
 
     pub both-read : OursRead task fields ours → BothRead task fields ours theirs
@@ -75,17 +75,17 @@ module _ {task : Task} {fields theirs : List ℕ} (ours : List ℕ) {under : For
 
 module _ {task : Task} {fields ours : List ℕ} {r : Ran} (h : Checked task fields ours 0 r) where
   -- the run is refused
-  ran-as : (p : Plan) → Given task fields p → (q : Refusal) × (convert 0 p ours ≡ refuse q) × (r .refusal ≡ q .number) × (r .place ≡ q .place)
+  ran-as : (p : Plan) → PlanGiven task fields p → (q : Refusal) × (convert 0 p ours ≡ refuse q) × (r .refusal ≡ q .number) × (r .place ≡ q .place)
   ran-as p g = go (convert 0 p ours) refl
     where
-      never : (x : RuleRan) → conversion 0 p ours ≡ fine x → (y : Answer (List (List ℕ))) → ourRecords p ours ≡ y → ⊥
+      never : (x : RunOutput) → conversion 0 p ours ≡ fine x → (y : Answer (List (List ℕ))) → ourRecords p ours ≡ y → ⊥
       never x e (fine outs) d = let k = ours-reach p ours outs d in not-fine _ x (sym (k .1) ∙ e)
       never x e (refuse q) d = not-fine q x (sym (ours-refused p ours q d) ∙ e)
 
-      go : (x : Answer RuleRan) → convert 0 p ours ≡ x → (q : Refusal) × (convert 0 p ours ≡ refuse q) × (r .refusal ≡ q .number) × (r .place ≡ q .place)
+      go : (x : Answer RunOutput) → convert 0 p ours ≡ x → (q : Refusal) × (convert 0 p ours ≡ refuse q) × (r .refusal ≡ q .number) × (r .place ≡ q .place)
       go (fine x) e = absurd (never x (sym (plain-run p ours (g .plain)) ∙ e) (ourRecords p ours) refl)
       go (refuse q) e =
-          let w = h .is p g ∙ ap (λ (a : Answer RuleRan). ranStruct (runAnswer a)) e in
+          let w = h .is p g ∙ ap (λ (a : Answer RunOutput). ranStruct (runAnswer a)) e in
           (q, e, ap (λ (s : Ran). s .refusal) w, ap (λ (s : Ran). s .place) w)
 
   pub ours-at-fault : (theirs : List ℕ) → (r .refusal ≡ 15 → ⊥) → (j : Judged) → j ≡ refusedWith (r .refusal) (r .place) 0 → OfPlan task fields ours theirs j
@@ -100,13 +100,13 @@ module _ {task : Task} {fields ours : List ℕ} {r : Ran} (h : Checked task fiel
       }
 
   module _ (n : r .refusal ≡ 15) where
-    fair : (p : Plan) → Given task fields p → (recs : List (List (List ℕ))) × Ours task fields ours p recs
+    fair : (p : Plan) → PlanGiven task fields p → (recs : List (List (List ℕ))) × Ours task fields ours p recs
     fair p g =
         let w = ran-as p g in
         let k = run-reaches p ours (g .plain) (w .0) (w .1) (sym (w .2) ∙ n) in
         (k .0, record { given = g; good = record { accepted = g .accepted; reel = k .1; records = k .2 }; outs = k .3 })
 
-    pub ours-fair : GivenPlan task fields → OursRead task fields ours
+    pub ours-fair : SomePlanGiven task fields → OursRead task fields ours
     ours-fair y = let w = fair (y .p) (y .given) in record { p = y .p; recs = w .0; ours-are = w .1 }
 
     pub of-ours : (theirs : List ℕ) (j : Judged) → OfOurs task fields ours theirs j → OfPlan task fields ours theirs j

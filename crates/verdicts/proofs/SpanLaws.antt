@@ -19,7 +19,7 @@ use Rattle.reels.specs.declared.ReelRead.{ReelRead}
 use Rattle.reels.specs.declared.ReelRead.the-variants.{Read, NotReel, BadBlock}
 use Rattle.turns.specs.Promise.{SpannedAs}
 use Rattle.turns.proofs.SpannedTold.{Tells, tells}
-use Rattle.span_pairs.specs.Promise.{BothSpanned, ApartAt}
+use Rattle.span_pairs.specs.Promise.{BothSpanned, SpannedApartAt}
 use Rattle.verdicts.specs.declared.Judged.{Judged}
 use Rattle.verdicts.specs.Promise.{refusedWith, toldAs, Spanning, OursSpanned, OfSpanned, OfNumbers}
 use Rattle.verdicts.proofs.BlockLaws.{says}
@@ -61,7 +61,7 @@ module _ {m : ℕ} (ours : List ℕ) (passed count : ℕ) {theirs : List ℕ} {r
           counted′ = told .1 .3;
         }
 
-    pub ends-read : (n : ℕ) → ApartAt ours passed count theirs records n → (r : Judged) → r ≡ toldAs n → OfSpanned m ours passed count theirs r
+    pub ends-read : (n : ℕ) → SpannedApartAt ours passed count theirs records n → (r : Judged) → r ≡ toldAs n → OfSpanned m ours passed count theirs r
     ends-read n a r e =
         record {
           is = λ y p s.

@@ -16,7 +16,7 @@ use Rattle.rules.specs.Judge.{ourRecords, JudgeAnswer, judgeAnswer, judgement}
 use Rattle.rules.proofs.JudgeSteps.{copiesBlocks}
 use Rattle.terms.specs.declared.Task.{Task}
 use Rattle.walks.specs.Promise.{Good}
-use Rattle.checks.specs.Promise.{Given}
+use Rattle.checks.specs.Promise.{PlanGiven}
 use Rattle.segments.specs.Promise.{GoodSpans}
 use Rattle.verdicts.specs.declared.Judged.{Judged}
 
@@ -43,7 +43,7 @@ Judges p ours theirs r = r ≡ judgedOf (judgeAnswer (judgement p ours theirs))
 
 -- nothing is at fault with ours
 pub record Ours (task : Task) (fields ours : List ℕ) (p : Plan) (recs : List (List (List ℕ))) : Type 0 where
-  pub given : Given task fields p
+  pub given : PlanGiven task fields p
   pub good : Good p ours recs
   pub outs : ourRecords p ours ≡ fine (map (outRecord p) (joined (takenFrom (p .first) recs)))
 
@@ -56,7 +56,7 @@ pub record OfOurs (task : Task) (fields ours theirs : List ℕ) (r : Judged) : T
   pub is : (p : Plan) (recs : List (List (List ℕ))) → Ours task fields ours p recs → Judges p ours theirs r
 
 pub record OfPlan (task : Task) (fields ours theirs : List ℕ) (r : Judged) : Type 0 where
-  pub is : (p : Plan) → Given task fields p → Judges p ours theirs r
+  pub is : (p : Plan) → PlanGiven task fields p → Judges p ours theirs r
 
 -- ---- in FS
 

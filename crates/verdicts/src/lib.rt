@@ -10,7 +10,7 @@ ghost use Rattle.rules.proofs.JudgeSteps.{copiesBlocks};
 ghost use Rattle.terms.specs.Meaning.{modeOf, planIn};
 ghost use Rattle.rows.specs.Kept.{fieldsIn};
 ghost use Rattle.rows.specs.Fair.{PlanFair};
-ghost use Rattle.checks.specs.Promise.{GivenPlan};
+ghost use Rattle.checks.specs.Promise.{SomePlanGiven};
 ghost use Rattle.verdicts.specs.Promise.{refusedWith, toldAs, judgedOf, OursRead, OfOurs, OfPlan, OursSpanned, OfSpanned, OfNumbers, NotJudged};
 use reels::ReelRead;
 use terms::Asked;
@@ -78,7 +78,7 @@ fn judge_blocks(task: Task, fields: &[u16], ours: &[u8], theirs: &[u8]) -> Judge
 
 // A run with no room goes as far as 15, since every reel has a header: whatever else it is refused with is at fault with ours.
 fn in_blocks(task: Task, fields: &[u16], ours: &[u8], theirs: &[u8]) -> Judged
-    requires { ⌜ GivenPlan task (now fields) ⌝ }
+    requires { ⌜ SomePlanGiven task (now fields) ⌝ }
     ensures { λ r. ⌜ OfPlan task (now (fields .entry)) (now (ours .entry)) (now (theirs .entry)) r ⌝ }
 {
     let ran = checks::check(task, fields, ours, 0);

@@ -15,9 +15,9 @@ use Rattle.pieces.specs.declared.Form.{Form}
 use Rattle.walks.specs.declared.Walk.{Walk}
 use Rattle.walks.specs.declared.RecordRead.{RecordRead}
 use Rattle.walks.specs.declared.RecordRead.the-variants.{Record, End}
-use Rattle.walks.specs.Walking.{Starting, blockStart, firstWalk, behindOf, endIn, recordOf, openedWalk, onwards, takenOf}
+use Rattle.walks.specs.Walking.{Starting, blockStart, firstWalk, behindAt, endIn, recordOf, openedWalk, onwards, takenWalk}
 use Rattle.walks.specs.Marks.{markedAll}
-use Rattle.walks.specs.Promise.{Sound, Standing, Begun, Says, Told, Taken}
+use Rattle.walks.specs.Promise.{Sound, Standing, Begun, RecordSays, RecordTold, WalkTaken}
 use Rattle.walks.proofs.StandsLaws.{stands-all}
 use Rattle.walks.proofs.WalkLaws.{walks-all, says-of, lies-of, walks-taken, starting, Reads, reads-of}
 
@@ -26,11 +26,11 @@ use Rattle.walks.proofs.WalkLaws.{walks-all, says-of, lies-of, walks-ta
 pub begun : (form : Form) (s : List ℕ) (w : Walk) → w ≡ firstWalk form s → Begun form s w
 begun form s w e = record { is = e; all = λ p recs f g. rw e (walks-all form p s recs f g) }
 
-pub told : (form : Form) (s : List ℕ) (w : Walk) (r : RecordRead) → Standing form s w → r ≡ recordOf form s w → Told form s w r
+pub told : (form : Form) (s : List ℕ) (w : Walk) (r : RecordRead) → Standing form s w → r ≡ recordOf form s w → RecordTold form s w r
 told form s w r x e =
     record { is = e; lies = rw e (lies-of form (x .p) s w (x .rest) (x .form-is) (x .walks)); says = λ p rest f k. rw e (says-of form p s w rest f k) }
 
-pub all-taken : (form : Form) (s : List ℕ) (first : ℕ) (w : Walk) → w ≡ takenOf form s first → Taken form s first w
+pub all-taken : (form : Form) (s : List ℕ) (first : ℕ) (w : Walk) → w ≡ takenWalk form s first → WalkTaken form s first w
 all-taken form s first w e = record { is = e; all = λ p recs f g. rw e (walks-taken form p s f first recs g) }
 
 -- ---- before a block
@@ -58,12 +58,12 @@ block-there form s word from first end l a e = rw (lt-leb (length s) from l, a, 
 -- ---- a step
 
 -- the walk behind a record
-pub walk-behind : (form : Form) (s : List ℕ) (w : Walk) (at : ℕ) → at < w .end → record { word = w .word; at = at; end = w .end; begins = false } ≡ behindOf form s w at
-unfolding behindOf
+pub walk-behind : (form : Form) (s : List ℕ) (w : Walk) (at : ℕ) → at < w .end → record { word = w .word; at = at; end = w .end; begins = false } ≡ behindAt form s w at
+unfolding behindAt
 walk-behind form s w at l = rw (lt-ltb at (w .end) l)
 
-pub walk-over : (form : Form) (s : List ℕ) (w : Walk) (at : ℕ) → w .end ≤ at → blockStart form s (w .word + 4) at ≡ behindOf form s w at
-unfolding behindOf
+pub walk-over : (form : Form) (s : List ℕ) (w : Walk) (at : ℕ) → w .end ≤ at → blockStart form s (w .word + 4) at ≡ behindAt form s w at
+unfolding behindAt
 walk-over form s w at l = rw (le-ltb at (w .end) l)
 
 -- the record
@@ -72,7 +72,7 @@ unfolding recordOf
 record-none form s w l = rw (le-leb (length s) (w .at) l)
 
 pub record-found : (form : Form) (s : List ℕ) (w : Walk) (first end : ℕ) (next : Walk) → w .at < length s → first ≡ cost (formatOf (form .format))
-    → end ≡ endIn (formatOf (form .format)) (form .n) s (w .at) (w .end) → next ≡ behindOf form s w end
+    → end ≡ endIn (formatOf (form .format)) (form .n) s (w .at) (w .end) → next ≡ behindAt form s w end
     → Record (w .at + first) (end - (w .at + first)) (w .begins) next ≡ recordOf form s w
 unfolding recordOf
 record-found form s w first end next l a e n = rw (lt-leb (length s) (w .at) l, n, e, a)
@@ -84,11 +84,11 @@ reads {form} {s} {w} x l = reads-of form (x .p) s w (x .rest) (x .form-is) (x .w
 
 -- on the way to record R, from record `number` on
 pub record Going (form : Form) (s : List ℕ) (first : ℕ) (w : Walk) (number : ℕ) : Type 0 where
-  pub same : takenOf form s first ≡ openedWalk (onwards form s (first - number) w)
+  pub same : takenWalk form s first ≡ openedWalk (onwards form s (first - number) w)
   pub stands : Standing form s w
 
 pub going-start : (form : Form) (s : List ℕ) (first : ℕ) (w : Walk) → Sound form s → Begun form s w → Going form s first w 1
-unfolding takenOf
+unfolding takenWalk
 going-start form s first w x b =
     record {
       same = rw (b .is);
@@ -96,20 +96,20 @@ going-start form s first w x b =
     }
 
 -- behind a record the walk stands in the reel again
-pub stands-next : {form : Form} {s : List ℕ} {w : Walk} {r : RecordRead} → Standing form s w → Told form s w r → {start size : ℕ} {begins : Bool} {next : Walk}
+pub stands-next : {form : Form} {s : List ℕ} {w : Walk} {r : RecordRead} → Standing form s w → RecordTold form s w r → {start size : ℕ} {begins : Bool} {next : Walk}
     → r ≡ Record start size begins next → Standing form s next
 stands-next {s = s} x t e =
-    let q = subst (Says (x .p) s (x .rest)) e (t .says (x .p) (x .rest) (x .form-is) (x .walks)) in
+    let q = subst (RecordSays (x .p) s (x .rest)) e (t .says (x .p) (x .rest) (x .form-is) (x .walks)) in
     record { p = x .p; rest = q .more; form-is = x .form-is; walks = q .walks }
 
-module _ {form : Form} {s : List ℕ} {first : ℕ} {w : Walk} {number : ℕ} (g : Going form s first w number) {r : RecordRead} (t : Told form s w r) where
+module _ {form : Form} {s : List ℕ} {first : ℕ} {w : Walk} {number : ℕ} (g : Going form s first w number) {r : RecordRead} (t : RecordTold form s w r) where
   pub going-more : {start size : ℕ} {begins : Bool} {next : Walk} → number < first → r ≡ Record start size begins next → Going form s first next (number + 1)
   going-more l e =
       let z : first - number ≡ suc (first - (number + 1)) = omega arith in
       record { same = g .same ∙ rw (z, sym (t .is) ∙ e); stands = stands-next (g .stands) t e }
 
-  pub going-ended : number < first → r ≡ End → openedWalk w ≡ takenOf form s first
+  pub going-ended : number < first → r ≡ End → openedWalk w ≡ takenWalk form s first
   going-ended l e = let z : first - number ≡ suc (first - (number + 1)) = omega arith in sym (g .same ∙ rw (z, sym (t .is) ∙ e))
 
-pub going-there : {form : Form} {s : List ℕ} {first : ℕ} {w : Walk} {number : ℕ} → Going form s first w number → first ≤ number → openedWalk w ≡ takenOf form s first
+pub going-there : {form : Form} {s : List ℕ} {first : ℕ} {w : Walk} {number : ℕ} → Going form s first w number → first ≤ number → openedWalk w ≡ takenWalk form s first
 going-there {first = first} {number = number} g l = let z : first - number ≡ 0 = omega arith in sym (g .same ∙ rw z)

@@ -19,18 +19,18 @@ use Rattle.rules.proofs.HeaderSteps.{next-at}
 use Rattle.rules.proofs.ReelSteps.{offset-last}
 use Rattle.rules.proofs.BlockWords.{headed-exactly, wordLength-at}
 use Rattle.rules.proofs.BlockSteps.{data-slice}
-use Rattle.reels.specs.Header.{partAt}
+use Rattle.reels.specs.Header.{blockPart}
 use Rattle.reels.proofs.HeaderLaws.{part-there, words-missing, part-outside}
 use Rattle.walks.specs.Walking.{endIn}
 
 -- a part that is not empty: both its words are there, and it lies between its offsets
 pub record Part (s : List ℕ) (i : ℕ) : Type 0 where
   pub words : 4 * i + 12 ≤ length s
-  pub is : partAt s i ≡ slice (offsetAt s i) (offsetAt s (suc i)) s
-  pub ends : offsetAt s i + length (partAt s i) ≡ offsetAt s (suc i)
+  pub is : blockPart s i ≡ slice (offsetAt s i) (offsetAt s (suc i)) s
+  pub ends : offsetAt s i + length (blockPart s i) ≡ offsetAt s (suc i)
   pub most : offsetAt s (suc i) ≤ length s
 
-pub part-inside : (s : List ℕ) (i : ℕ) → 0 < length (partAt s i) → Part s i
+pub part-inside : (s : List ℕ) (i : ℕ) → 0 < length (blockPart s i) → Part s i
 part-inside s i l = words (leb (4 * i + 12) (length s)) refl
   where
     offsets : 4 * i + 12 ≤ length s → (t : Bool) → leb (offsetAt s (suc i)) (length s) ≡ t → Part s i
@@ -46,13 +46,13 @@ part-inside s i l = words (leb (4 * i + 12) (length s)) refl
     words true t = offsets (leb-true (4 * i + 12) (length s) t) (leb (offsetAt s (suc i)) (length s)) refl
 
 -- behind the last block of a reel there is none
-pub no-part : (s : List ℕ) → isReel s ≡ true → length (partAt s (blockCount s)) ≤ 0
-no-part s e = go (leb (length (partAt s (blockCount s))) 0) refl
+pub no-part : (s : List ℕ) → isReel s ≡ true → length (blockPart s (blockCount s)) ≤ 0
+no-part s e = go (leb (length (blockPart s (blockCount s))) 0) refl
   where
-    go : (t : Bool) → leb (length (partAt s (blockCount s))) 0 ≡ t → length (partAt s (blockCount s)) ≤ 0
-    go true t = leb-true (length (partAt s (blockCount s))) 0 t
+    go : (t : Bool) → leb (length (blockPart s (blockCount s))) 0 ≡ t → length (blockPart s (blockCount s)) ≤ 0
+    go true t = leb-true (length (blockPart s (blockCount s))) 0 t
     go false t =
-        let l = leb-false (length (partAt s (blockCount s))) 0 t in
+        let l = leb-false (length (blockPart s (blockCount s))) 0 t in
         let w = part-inside s (blockCount s) l in
         absurd (omega (arith, w .ends, w .most, offset-last s e))
 

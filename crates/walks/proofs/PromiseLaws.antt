@@ -19,7 +19,7 @@ use Rattle.walks.specs.declared.Walk.{Walk}
 use Rattle.walks.specs.declared.RecordRead.{RecordRead}
 use Rattle.walks.specs.declared.RecordRead.the-variants.{Record, End}
 use Rattle.walks.specs.Walking.{fixedStart}
-use Rattle.walks.specs.Promise.{Good, Walks, Begun, Passed, Says, Inside, Lies, Told, Taken}
+use Rattle.walks.specs.Promise.{Good, Walks, Begun, Passed, RecordSays, DataInside, Lies, RecordTold, WalkTaken}
 
 -- ---- a reel that was read
 
@@ -32,9 +32,9 @@ good-read {form} {p} {s} {blocks} {records} ok f x =
 
 -- ---- a turn of a loop over the records, of which `rest` are left
 
-module _ {form : Form} {s : List ℕ} {w : Walk} {r : RecordRead} (x : Told form s w r) where
+module _ {form : Form} {s : List ℕ} {w : Walk} {r : RecordRead} (x : RecordTold form s w r) where
   module _ {start size : ℕ} {begins : Bool} {next : Walk} (e : r ≡ Record start size begins next) where
-    pub inside : Inside s w start size next
+    pub inside : DataInside s w start size next
     inside = subst (Lies s w) e (x .lies)
 
     -- the record as it is lent, `&s[start..start + size]`, and its length
@@ -45,10 +45,10 @@ module _ {form : Form} {s : List ℕ} {w : Walk} {r : RecordRead} (x : Told form
     lent-length = length-slice start (start + size) s (inside .ends) ∙ (let z : start + size - start ≡ size = omega arith in z)
 
     pub passed : {p : Plan} {rest : List (Bool × List ℕ)} → FormIs form p → Walks p s w rest → Passed p s rest start size begins next
-    passed {p} {rest} f k = subst (Says p s rest) e (x .says p rest f k)
+    passed {p} {rest} f k = subst (RecordSays p s rest) e (x .says p rest f k)
 
   pub ended : r ≡ End → {p : Plan} {rest : List (Bool × List ℕ)} → FormIs form p → Walks p s w rest → rest ≡ []
-  ended e {p} {rest} f k = subst (Says p s rest) e (x .says p rest f k)
+  ended e {p} {rest} f k = subst (RecordSays p s rest) e (x .says p rest f k)
 
 -- ---- one outcome only
 
@@ -56,10 +56,10 @@ module _ (form : Form) where
   pub begin-only-one : (s : List ℕ) {x y : Walk} → Begun form s x → Begun form s y → x ≡ y
   begin-only-one s a b = a .is ∙ sym (b .is)
 
-  pub record-only-one : (s : List ℕ) (w : Walk) {x y : RecordRead} → Told form s w x → Told form s w y → x ≡ y
+  pub record-only-one : (s : List ℕ) (w : Walk) {x y : RecordRead} → RecordTold form s w x → RecordTold form s w y → x ≡ y
   record-only-one s w a b = a .is ∙ sym (b .is)
 
-  pub taken-only-one : (s : List ℕ) (first : ℕ) {x y : Walk} → Taken form s first x → Taken form s first y → x ≡ y
+  pub taken-only-one : (s : List ℕ) (first : ℕ) {x y : Walk} → WalkTaken form s first x → WalkTaken form s first y → x ≡ y
   taken-only-one s first a b = a .is ∙ sym (b .is)
 
   pub start-only-one : (s : List ℕ) (first : ℕ) {x y : ℕ} → x ≡ fixedStart form s first → y ≡ fixedStart form s first → x ≡ y

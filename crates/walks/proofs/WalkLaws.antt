@@ -21,13 +21,13 @@ use Rattle.rules.proofs.RecordSteps.{pieceOf, Next, fixed-pos, records-next}
 use Rattle.terms.specs.Meaning.{formatOf}
 use Rattle.pieces.specs.declared.Form.{Form}
 use Rattle.pieces.specs.Form.{FormIs}
-use Rattle.reels.specs.Header.{partAt}
+use Rattle.reels.specs.Header.{blockPart}
 use Rattle.walks.specs.declared.Walk.{Walk}
 use Rattle.walks.specs.declared.RecordRead.{RecordRead}
 use Rattle.walks.specs.declared.RecordRead.the-variants.{Record, End}
 use Rattle.walks.specs.Marks.{marked, markedAll, opened, takenMarks}
-use Rattle.walks.specs.Walking.{Starting, blockStart, firstWalk, behindOf, endIn, recordOf, openedWalk, onRecord, onwards, takenOf, Place, blockPlace, behindPlace, walkOf}
-use Rattle.walks.specs.Promise.{Good, Stands, Walks, Says, Passed, bytesLeft, Inside, Lies}
+use Rattle.walks.specs.Walking.{Starting, blockStart, firstWalk, behindAt, endIn, recordOf, openedWalk, onRecord, onwards, takenWalk, Place, blockPlace, behindPlace, walkOf}
+use Rattle.walks.specs.Promise.{Good, PlaceStands, Walks, RecordSays, Passed, bytesLeft, DataInside, Lies}
 use Rattle.walks.proofs.MarksLaws.{opened-marked, taken-marks}
 use Rattle.walks.proofs.PlaceLaws.{Part, part-inside, data-place, piece-ends}
 use Rattle.walks.proofs.StandsLaws.{stands-block, stands-all, stands-next, nothing-left}
@@ -79,17 +79,17 @@ module _ (form : Form) (s : List ℕ) (e : isReel s ≡ true) where
 -- ---- the record that a walk stands before
 
 record-is : (form : Form) (s : List ℕ) (w : Walk) (to start size : ℕ) (next : Walk) → w .at < length s → endIn (formatOf (form .format)) (form .n) s (w .at) (w .end) ≡ to
-    → w .at + cost (formatOf (form .format)) ≡ start → to - (w .at + cost (formatOf (form .format))) ≡ size → behindOf form s w to ≡ next
+    → w .at + cost (formatOf (form .format)) ≡ start → to - (w .at + cost (formatOf (form .format))) ≡ size → behindAt form s w to ≡ next
     → recordOf form s w ≡ Record start size (w .begins) next
 unfolding recordOf
 record-is form s w to start size next l e b n d = rw (lt-leb (length s) (w .at) l, e, n, b, d)
 
 -- behind a record no walk goes back
-behind-far : (form : Form) (s : List ℕ) (w : Walk) (at : ℕ) → at ≤ behindOf form s w at .at
-unfolding behindOf blockStart
+behind-far : (form : Form) (s : List ℕ) (w : Walk) (at : ℕ) → at ≤ behindAt form s w at .at
+unfolding behindAt blockStart
 behind-far form s w at = go (ltb at (w .end)) refl (leb (length s) at) refl
   where
-    go : (t : Bool) → ltb at (w .end) ≡ t → (u : Bool) → leb (length s) at ≡ u → at ≤ behindOf form s w at .at
+    go : (t : Bool) → ltb at (w .end) ≡ t → (u : Bool) → leb (length s) at ≡ u → at ≤ behindAt form s w at .at
     go true t u z = rw t (omega arith)
     go false t true z = rw (t, z) (omega arith)
     go false t false z = rw (t, z) (omega arith)
@@ -101,16 +101,16 @@ pub record Reads (form : Form) (s : List ℕ) (w : Walk) : Type 0 where
   pub word : w .word ≤ length s
   pub next : w .end ≤ endIn (formatOf (form .format)) (form .n) s (w .at) (w .end) → Starting form s (w .word + 4) (endIn (formatOf (form .format)) (form .n) s (w .at) (w .end))
 
-pub starting : (form : Form) (p : Plan) (s : List ℕ) (j : ℕ) (rest : List (Bool × List ℕ)) → Stands p s (blockPlace form j) rest → Starting form s (4 * j + 8) (offsetAt s j)
+pub starting : (form : Form) (p : Plan) (s : List ℕ) (j : ℕ) (rest : List (Bool × List ℕ)) → PlaceStands p s (blockPlace form j) rest → Starting form s (4 * j + 8) (offsetAt s j)
 starting form p s j rest k h =
     let i = k .inside (starts-in form s (k .reel) j (k .most) h) in
     let q = part-inside s j (omega arith) in
     (omega (arith, q .words), omega (arith, q .ends, q .most))
 
-module _ (form : Form) (p : Plan) (s : List ℕ) (v : Place) (rest : List (Bool × List ℕ)) (f : FormIs form p) (k : Stands p s v rest) where
+module _ (form : Form) (p : Plan) (s : List ℕ) (v : Place) (rest : List (Bool × List ℕ)) (f : FormIs form p) (k : PlaceStands p s v rest) where
   module _ (l : v .block < blockCount s) where
     abbrev b : List ℕ
-    b = partAt s (v .block)
+    b = blockPart s (v .block)
 
     abbrev a : ℕ
     a = offsetAt s (v .block)
@@ -141,12 +141,12 @@ module _ (form : Form) (p : Plan) (s : List ℕ) (v : Place) (rest : List (Bool 
     next = behindPlace form (v .block) (behind y) (length b)
 
     -- the walk behind it
-    behind-walk : behindOf form s (walkOf s v) (a + behind y) ≡ walkOf s next
-    unfolding behindOf behindPlace
+    behind-walk : behindAt form s (walkOf s v) (a + behind y) ≡ walkOf s next
+    unfolding behindAt behindPlace
     behind-walk = rw (walk-in s v l) (go (ltb (behind y) (length b)) refl)
       where
         go : (t : Bool) → ltb (behind y) (length b) ≡ t
-            → behindOf form s (record { word = 4 * v .block + 8; at = a + v .at; end = end; begins = v .begins }) (a + behind y) ≡ walkOf s next
+            → behindAt form s (record { word = 4 * v .block + 8; at = a + v .at; end = end; begins = v .begins }) (a + behind y) ≡ walkOf s next
         go true t =
             let m = ltb-true (behind y) (length b) t in
             rw (t, lt-ltb (a + behind y) end (omega (arith, part .ends))) (sym (walk-in s (record { block = v .block; at = behind y; begins = false }) l))
@@ -191,7 +191,7 @@ module _ (form : Form) (p : Plan) (s : List ℕ) (v : Place) (rest : List (Bool 
           walks = record { place = next; is = refl; stands = stands-next form p s v rest f k (behind y) l (here .more) (here .left) };
         }
 
-    inside : Inside s (walkOf s v) (a + y .place) (y .size) (walkOf s next)
+    inside : DataInside s (walkOf s v) (a + y .place) (y .size) (walkOf s next)
     unfolding bytesLeft
     inside =
         record {
@@ -220,10 +220,10 @@ module _ (form : Form) (p : Plan) (s : List ℕ) (v : Place) (rest : List (Bool 
       let z = ap (λ (w : Walk). w .at) (walk-past s v m) in
       rw (le-leb (length s) (walkOf s v .at) (omega arith))
 
-  says-place : Says p s rest (recordOf form s (walkOf s v)) × Lies s (walkOf s v) (recordOf form s (walkOf s v))
+  says-place : RecordSays p s rest (recordOf form s (walkOf s v)) × Lies s (walkOf s v) (recordOf form s (walkOf s v))
   says-place = go (ltb (v .block) (blockCount s)) refl
     where
-      go : (t : Bool) → ltb (v .block) (blockCount s) ≡ t → Says p s rest (recordOf form s (walkOf s v)) × Lies s (walkOf s v) (recordOf form s (walkOf s v))
+      go : (t : Bool) → ltb (v .block) (blockCount s) ≡ t → RecordSays p s rest (recordOf form s (walkOf s v)) × Lies s (walkOf s v) (recordOf form s (walkOf s v))
       go true t = let l = ltb-true (v .block) (blockCount s) t in rw (step l) (passes l, inside l)
       go false t = let m = ltb-false (v .block) (blockCount s) t in rw (no-record m) (nothing-left form p s v rest f k m, tt)
 
@@ -238,8 +238,8 @@ module _ (form : Form) (p : Plan) (s : List ℕ) (w : Walk) (rest : List (Bool �
   pub reads-of : w .at < length s → Reads form s w
   reads-of h = subst (Reads form s) (sym (k .is)) (reads-place form p s (k .place) rest f (k .stands) (subst (λ (z : Walk). z .at < length s) (k .is) h))
 
-  pub says-of : Says p s rest (recordOf form s w)
-  says-of = subst (λ (z : Walk). Says p s rest (recordOf form s z)) (sym (k .is)) (says-place form p s (k .place) rest f (k .stands) .0)
+  pub says-of : RecordSays p s rest (recordOf form s w)
+  says-of = subst (λ (z : Walk). RecordSays p s rest (recordOf form s z)) (sym (k .is)) (says-place form p s (k .place) rest f (k .stands) .0)
 
   pub lies-of : Lies s w (recordOf form s w)
   lies-of = subst (λ (z : Walk). Lies s z (recordOf form s z)) (sym (k .is)) (says-place form p s (k .place) rest f (k .stands) .1)
@@ -257,7 +257,7 @@ module _ (form : Form) (p : Plan) (s : List ℕ) (f : FormIs form p) where
   walks-onwards zero w rest x = x
   walks-onwards (suc k) w rest x = go (λ v more y. walks-onwards k v more y) (recordOf form s w) (says-of form p s w rest f x)
     where
-      go : ((v : Walk) (more : List (Bool × List ℕ)) → Walks p s v more → Walks p s (onwards form s k v) (drop k more)) → (r : RecordRead) → Says p s rest r
+      go : ((v : Walk) (more : List (Bool × List ℕ)) → Walks p s v more → Walks p s (onwards form s k v) (drop k more)) → (r : RecordRead) → RecordSays p s rest r
           → Walks p s (onRecord r w (λ next. onwards form s k next)) (drop (suc k) rest)
       go ih (Record start size begins next) y = rw (y .is) (ih next (y .more) (y .walks))
       go ih End y = let z : rest ≡ drop (suc k) rest = rw y in subst (Walks p s w) z x
@@ -281,8 +281,8 @@ module _ (form : Form) (p : Plan) (s : List ℕ) (f : FormIs form p) where
         };
       }
 
-  pub walks-taken : (first : ℕ) (recs : List (List (List ℕ))) → Good p s recs → Walks p s (takenOf form s first) (markedAll (takenFrom first recs))
-  unfolding takenOf takenMarks
+  pub walks-taken : (first : ℕ) (recs : List (List (List ℕ))) → Good p s recs → Walks p s (takenWalk form s first) (markedAll (takenFrom first recs))
+  unfolding takenWalk takenMarks
   walks-taken first recs g =
-      subst (Walks p s (takenOf form s first)) (taken-marks first recs)
+      subst (Walks p s (takenWalk form s first)) (taken-marks first recs)
       (walks-opened _ _ (walks-onwards (first - 1) (firstWalk form s) (markedAll recs) (walks-all form p s recs f g)))

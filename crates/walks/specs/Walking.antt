@@ -31,8 +31,8 @@ unfoldable pub firstWalk : Form → List ℕ → Walk
 firstWalk form s = blockStart form s 8 (wordAt s 4)
 
 -- behind a record that ends at a place
-unfoldable pub behindOf : Form → List ℕ → Walk → ℕ → Walk
-behindOf form s w at = cond (ltb at (w .end)) (record { word = w .word; at = at; end = w .end; begins = false }) (blockStart form s (w .word + 4) at)
+unfoldable pub behindAt : Form → List ℕ → Walk → ℕ → Walk
+behindAt form s w at = cond (ltb at (w .end)) (record { word = w .word; at = at; end = w .end; begins = false }) (blockStart form s (w .word + 4) at)
 
 -- where the record at a place ends, in a block that ends at a place
 abbrev pub endIn : Format → ℕ → List ℕ → ℕ → ℕ → ℕ
@@ -43,7 +43,7 @@ endIn fsp n s at end = end
 
 -- the record at the walk's place, which ends at a place
 abbrev pub recordTo : Form → List ℕ → Walk → ℕ → RecordRead
-recordTo form s w end = Record (w .at + cost (formatOf (form .format))) (end - (w .at + cost (formatOf (form .format)))) (w .begins) (behindOf form s w end)
+recordTo form s w end = Record (w .at + cost (formatOf (form .format))) (end - (w .at + cost (formatOf (form .format)))) (w .begins) (behindAt form s w end)
 
 unfoldable pub recordOf : Form → List ℕ → Walk → RecordRead
 recordOf form s w = cond (leb (length s) (w .at)) End (recordTo form s w (endIn (formatOf (form .format)) (form .n) s (w .at) (w .end)))
@@ -61,8 +61,8 @@ abbrev pub onwards : Form → List ℕ → ℕ → Walk → Walk
 onwards form s zero w = w
 onwards form s (suc k) w = onRecord (recordOf form s w) w (λ next. onwards form s k next)
 
-unfoldable pub takenOf : Form → List ℕ → ℕ → Walk
-takenOf form s first = openedWalk (onwards form s (first - 1) (firstWalk form s))
+unfoldable pub takenWalk : Form → List ℕ → ℕ → Walk
+takenWalk form s first = openedWalk (onwards form s (first - 1) (firstWalk form s))
 
 -- where record R starts in FF: all before it have n bytes each
 unfoldable pub fixedStart : Form → List ℕ → ℕ → ℕ

@@ -6,8 +6,8 @@ ghost use Prim.Native.Nat.{_+_, _≤_, _<_};
 ghost use lib.ListN.{length, drop};
 ghost use Rattle.rules.specs.Output.{cost};
 ghost use Rattle.terms.specs.Meaning.{formatOf};
-ghost use Rattle.walks.specs.Walking.{Starting, blockStart, behindOf, endIn, openedWalk, fixedStart};
-ghost use Rattle.walks.specs.Promise.{Sound, Standing, Begun, Told, Taken};
+ghost use Rattle.walks.specs.Walking.{Starting, blockStart, behindAt, endIn, openedWalk, fixedStart};
+ghost use Rattle.walks.specs.Promise.{Sound, Standing, Begun, RecordTold, WalkTaken};
 use pieces::Form;
 use terms::Format;
 
@@ -68,7 +68,7 @@ fn begin(form: Form, s: &[u8]) -> Walk
 fn behind(form: Form, s: &[u8], w: Walk, at: usize) -> Walk
     requires { ⌜ w .word ≤ length (now s) ⌝ }
     requires { ⌜ (w .end ≤ at → Starting form (now s) (w .word + 4) at) ⌝ }
-    ensures { λ r. ⌜ r ≡ behindOf form (now (s .entry)) w at ⌝ }
+    ensures { λ r. ⌜ r ≡ behindAt form (now (s .entry)) w at ⌝ }
 {
     let word = w.word;
     let end = w.end;
@@ -101,7 +101,7 @@ fn record_end(form: Form, s: &[u8], at: usize, end: usize) -> usize
 // The record that a walk stands before, in constant time.
 pub fn record(form: Form, s: &[u8], w: Walk) -> RecordRead
     requires { ⌜ Standing form (now s) w ⌝ }
-    ensures { λ r. ⌜ Told form (now (s .entry)) w r ⌝ }
+    ensures { λ r. ⌜ RecordTold form (now (s .entry)) w r ⌝ }
 {
     let at = w.at;
     if at >= s.len() {
@@ -131,7 +131,7 @@ fn opened(w: Walk) -> Walk
 // Before record R, or behind the last record: R is the first that is taken of its block, so that it counts as the block's first.
 pub fn taken(form: Form, s: &[u8], first: usize) -> Walk
     requires { ⌜ Sound form (now s) ⌝ }
-    ensures { λ r. ⌜ Taken form (now (s .entry)) first r ⌝ }
+    ensures { λ r. ⌜ WalkTaken form (now (s .entry)) first r ⌝ }
 {
     let mut w = begin(form, s);
     let mut number = 1;

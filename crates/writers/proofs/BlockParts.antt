@@ -12,7 +12,7 @@ use Rattle.rules.proofs.BlockWords.{lengthWord-four}
 use Rattle.rules.proofs.BlockLaws.{length-block}
 use Rattle.rules.proofs.FitSteps.{framed-append}
 use Rattle.fillings.proofs.LaidLaws.{Framing}
-use Rattle.writers.specs.Writing.{sizeWord, pieceOf}
+use Rattle.writers.specs.Writing.{sizeWord, recordPiece}
 
 -- ---- a block is its word and its records, each with its word
 
@@ -34,7 +34,7 @@ length-sizeWord fv n = lengthWord-four n
 length-sizeWord fu n = refl
 length-sizeWord fsp n = refl
 
-pub length-piece : (f : Format) (r : List ℕ) → length (pieceOf f r) ≡ cost f + length r
+pub length-piece : (f : Format) (r : List ℕ) → length (recordPiece f r) ≡ cost f + length r
 length-piece f r = omega (arith, length-append (sizeWord f (length r + 4)) r, length-sizeWord f (length r + 4))
 
 pub block-parts : (f : Format) (rs : List (List ℕ)) → blockOf f rs ≡ sizeWord f (total (cost f) (cost f) rs) ++ bodyOf f rs
@@ -46,7 +46,7 @@ block-parts fv rs =
 block-parts fu rs = refl
 block-parts fsp rs = refl
 
-pub body-snoc : (f : Format) (rs : List (List ℕ)) (r : List ℕ) → bodyOf f (rs ++ (r ∷ [])) ≡ bodyOf f rs ++ pieceOf f r
+pub body-snoc : (f : Format) (rs : List (List ℕ)) (r : List ℕ) → bodyOf f (rs ++ (r ∷ [])) ≡ bodyOf f rs ++ recordPiece f r
 body-snoc ff rs r = joined-last rs r
 body-snoc fv rs r = framed-append rs (r ∷ []) ∙ ap (framed rs ++_) (append-nil (lengthWord (length r + 4) ++ r))
 body-snoc fu rs r = joined-last rs r
@@ -64,7 +64,7 @@ framing f =
     record {
       cost = cost f;
       sizeWord = sizeWord f;
-      piece = pieceOf f;
+      piece = recordPiece f;
       body = bodyOf f;
       block = blockOf f;
       long = length-sizeWord f;

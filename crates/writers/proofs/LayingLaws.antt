@@ -8,7 +8,7 @@ use lib.ListN.{length}
 use Rattle.rules.specs.Base.{joined}
 use Rattle.rules.specs.Halves.{over, bytes}
 use Rattle.rules.specs.Grammar.{Format}
-use Rattle.rules.specs.Reel.{word, ends, reelOf}
+use Rattle.rules.specs.Reel.{word, offsetWords, reelOf}
 use Rattle.rules.specs.Plan.{Plan, selects}
 use Rattle.rules.specs.Output.{outRecord, blockOf, cost}
 use Rattle.rules.specs.Run.{outputBlocks}
@@ -19,13 +19,13 @@ use Rattle.terms.specs.Meaning.{formatOf}
 use Rattle.terms.specs.declared.Task.{Task}
 use Rattle.pieces.specs.declared.Form.{Form}
 use Rattle.walks.specs.declared.Walk.{Walk}
-use Rattle.walks.specs.Promise.{Walks, Taken}
-use Rattle.tasks.specs.Promise.{formOf, lengthOf}
+use Rattle.walks.specs.Promise.{Walks, WalkTaken}
+use Rattle.tasks.specs.Promise.{formOf, outputLengthOf}
 use Rattle.fillings.specs.declared.Tally.{Tally}
 use Rattle.fillings.specs.Tallying.{opensOf, tallyOf, Small}
 use Rattle.fillings.proofs.TallyLaws.{empty, tally-opens, tally-behind}
 use Rattle.fillings.specs.Offsets.{offsetPut}
-use Rattle.writers.specs.Writing.{sizeWord, pieceOf}
+use Rattle.writers.specs.Writing.{sizeWord, recordPiece}
 use Rattle.fixed.specs.Promise.{blocksIn, Lent}
 use Rattle.writers.specs.Promise.{Writable, NextFits, nextPut, NextPut}
 use Rattle.fillings.proofs.FilledLaws.{allOf, all-done, soFar, bytesIn, sizeOf, length-snoc, least, Filled, filled-start, filled-opens, behind-some, filled-behind}
@@ -37,8 +37,8 @@ use Rattle.fixed.proofs.ReadyLaws.{marksIn, count-is, header-fits, few-blocks, 
 use Rattle.writers.proofs.TurnLaws.{walks-first, Turn, width-small, cost-small}
 
 -- the tally behind a record that was read
-pub tally-read : (task : Task) (t v : Tally) (begins : Bool) (n size k : ℕ) → v ≡ tallyOf task t begins n → n ≡ lengthOf task size → k ≡ size → v ≡ tallyOf task t begins (lengthOf task k)
-tally-read task t v begins n size k e l m = e ∙ ap (tallyOf task t begins) (l ∙ sym (ap (lengthOf task) m))
+pub tally-read : (task : Task) (t v : Tally) (begins : Bool) (n size k : ℕ) → v ≡ tallyOf task t begins n → n ≡ outputLengthOf task size → k ≡ size → v ≡ tallyOf task t begins (outputLengthOf task k)
+tally-read task t v begins n size k e l m = e ∙ ap (tallyOf task t begins) (l ∙ sym (ap (outputLengthOf task) m))
 
 module _ {task : Task} {xs s : List ℕ} {blocks : ℕ} (old : List ℕ) (y : Lent task xs s blocks (length old)) where
   abbrev p : Plan
@@ -60,7 +60,7 @@ module _ {task : Task} {xs s : List ℕ} {blocks : ℕ} (old : List ℕ) (y : Le
     pub filled : Filled (y .ready .p .format) task (outputBlocks (y .ready .p) (y .ready .recs)) closed now t (outs (y .ready .p) rest)
     pub is : out ≡ laid (framing (y .ready .p .format)) (4 * blocks + 8) old (soFar closed now)
 
-  pub laying-start : {form : Form} → form ≡ formOf task → {w : Walk} → Taken form s (task .first) w → Laying old w empty
+  pub laying-start : {form : Form} → form ≡ formOf task → {w : Walk} → WalkTaken form s (task .first) w → Laying old w empty
   laying-start e t =
       record {
         rest = marksIn (y .ready);
@@ -96,23 +96,23 @@ module _ {task : Task} {xs s : List ℕ} {blocks : ℕ} (old : List ℕ) (y : Le
     pub earlier : List (List (List ℕ))
     pub last : List (List ℕ)
     pub filled : Filled (y .ready .p .format) task (outputBlocks (y .ready .p) (y .ready .recs)) earlier last v more
-    pub piece : task .cost + (task .cost + lengthOf task (length r)) ≤ v .size
+    pub piece : task .cost + (task .cost + outputLengthOf task (length r)) ≤ v .size
     pub grows : t .bytes ≤ v .bytes
     pub put : nextPut task (y .ready .p .fields) r (4 * blocks + 8) t v (laid (framing (y .ready .p .format)) (4 * blocks + 8) old (soFar closed now))
         ≡ laid (framing (y .ready .p .format)) (4 * blocks + 8) old (soFar earlier last)
 
   -- what is put, in the rules' words
   put-is : (t v : Tally) (r out : List ℕ) → nextPut task (p .fields) r (4 * blocks + 8) t v out
-      ≡ over (4 * blocks + 8 + v .bytes - (task .cost + lengthOf task (length r))) (pieceOf (p .format) (outRecord p r))
+      ≡ over (4 * blocks + 8 + v .bytes - (task .cost + outputLengthOf task (length r))) (recordPiece (p .format) (outRecord p r))
       (over (4 * blocks + 8 + v .bytes - v .size) (sizeWord (p .format) (v .size)) (offsetPut (4 * blocks + 8) t v out))
   unfolding nextPut
   put-is t v r out =
       ap₂
-      (λ (f : Format) (d : List ℕ). over (4 * blocks + 8 + v .bytes - (task .cost + lengthOf task (length r))) (pieceOf f d)
+      (λ (f : Format) (d : List ℕ). over (4 * blocks + 8 + v .bytes - (task .cost + outputLengthOf task (length r))) (recordPiece f d)
       (over (4 * blocks + 8 + v .bytes - v .size) (sizeWord f (v .size)) (offsetPut (4 * blocks + 8) t v out)))
       (y .ready .is .format) (sym (out-is y r))
 
-  module _ (closed : List (List (List ℕ))) (t : Tally) (begins : Bool) (r : List ℕ) (more : List (Bool × List ℕ)) (long : length (outRecord p r) ≡ lengthOf task (length r)) where
+  module _ (closed : List (List (List ℕ))) (t : Tally) (begins : Bool) (r : List ℕ) (more : List (Bool × List ℕ)) (long : length (outRecord p r) ≡ outputLengthOf task (length r)) where
     added-opens : (now : List (List ℕ)) → Filled (p .format) task all closed now t ((begins, outRecord p r) ∷ more) → opensOf task t begins (length (outRecord p r)) ≡ true
         → Added closed now t r more (tallyOf task t begins (length (outRecord p r)))
     added-opens now w o =
@@ -137,10 +137,10 @@ module _ {task : Task} {xs s : List ℕ} {blocks : ℕ} (old : List ℕ) (y : Le
           grows = omega arith;
           put =
               put-is t v r (laid (framing f) base old bs)
-              ∙ ap (λ (x : List ℕ). over (base + v .bytes - (task .cost + lengthOf task (length r))) (pieceOf f d) (over (base + v .bytes - v .size) (sizeWord f (v .size)) x))
+              ∙ ap (λ (x : List ℕ). over (base + v .bytes - (task .cost + outputLengthOf task (length r))) (recordPiece f d) (over (base + v .bytes - v .size) (sizeWord f (v .size)) x))
               (sym (offset-opens base t v (laid (framing f) base old bs) (omega arith)))
               ∙ laid-opens (framing f) base old bs (omega arith) (omega (arith, before .long, w .bytes, y .ready .roomy)) d front (omega (arith, after .long, k .bytes, y .ready .roomy))
-              (4 * v .blocks) (base + t .bytes) (base + v .bytes - v .size) (v .size) (base + v .bytes - (task .cost + lengthOf task (length r)))
+              (4 * v .blocks) (base + t .bytes) (base + v .bytes - v .size) (v .size) (base + v .bytes - (task .cost + outputLengthOf task (length r)))
               (omega (arith, w .blocks)) (omega (arith, w .bytes)) (omega arith) (omega (arith, y .ready .is .costs, length-piece f d)) (omega (arith, y .ready .is .costs));
         }
 
@@ -170,10 +170,10 @@ module _ {task : Task} {xs s : List ℕ} {blocks : ℕ} (old : List ℕ) (y : Le
           grows = omega arith;
           put =
               put-is t v r (laid (framing f) base old (soFar closed now))
-              ∙ ap (λ (z : List ℕ). over (base + v .bytes - (task .cost + lengthOf task (length r))) (pieceOf f d) (over (base + v .bytes - v .size) (sizeWord f (v .size)) z))
+              ∙ ap (λ (z : List ℕ). over (base + v .bytes - (task .cost + outputLengthOf task (length r))) (recordPiece f d) (over (base + v .bytes - v .size) (sizeWord f (v .size)) z))
               (sym (offset-stays base t v (laid (framing f) base old (soFar closed now)) (omega arith)))
               ∙ laid-behind (framing f) base old closed now (omega (arith, before .many, w .blocks)) d (omega (arith, after .long, k .bytes, y .ready .roomy))
-              (base + v .bytes - v .size) (v .size) (base + v .bytes - (task .cost + lengthOf task (length r)))
+              (base + v .bytes - v .size) (v .size) (base + v .bytes - (task .cost + outputLengthOf task (length r)))
               (omega (arith, w .size, w .bytes, sum)) (omega (arith, w .size, y .ready .is .costs, total-body f now, length-piece f d)) (omega (arith, w .bytes));
         }
 
@@ -199,7 +199,7 @@ module _ {task : Task} {xs s : List ℕ} {blocks : ℕ} (old : List ℕ) (y : Le
 
     -- at the end
     pub laying-end : l .rest ≡ [] → (new : List ℕ) → new ≡ over (4 * blocks + 4) (word (4 * blocks + 8 + t .bytes)) out
-        → new ≡ over 4 (ends (4 * blocks + 8) (blocksIn (y .ready .p) (y .ready .recs)) ++ joined (blocksIn (y .ready .p) (y .ready .recs))) old
+        → new ≡ over 4 (offsetWords (4 * blocks + 8) (blocksIn (y .ready .p) (y .ready .recs)) ++ joined (blocksIn (y .ready .p) (y .ready .recs))) old
     unfolding blocksIn
     laying-end none new e =
         let f = p .format in
@@ -212,9 +212,9 @@ module _ {task : Task} {xs s : List ℕ} {blocks : ℕ} (old : List ℕ) (y : Le
         e
         ∙ ap₂ (λ (n : ℕ) (x : List ℕ). over (4 * blocks + 4) (word (base + n)) x) (l .filled .bytes) (l .is)
         ∙ laid-ends (framing f) base old bs (omega arith) (omega (arith, k .long, l .filled .bytes, y .ready .roomy)) (omega arith) (4 * blocks + 4) (omega arith)
-        ∙ ap (λ (x : List (List (List ℕ))). over 4 (ends base (map (blockOf f) x) ++ bytesIn f x) old) same
+        ∙ ap (λ (x : List (List (List ℕ))). over 4 (offsetWords base (map (blockOf f) x) ++ bytesIn f x) old) same
 
-    module _ {r : List ℕ} {begins : Bool} {next : Walk} (u : Turn (y .ready) (l .rest) r begins next) (v : Tally) (is : v ≡ tallyOf task t begins (lengthOf task (length r))) where
+    module _ {r : List ℕ} {begins : Bool} {next : Walk} (u : Turn (y .ready) (l .rest) r begins next) (v : Tally) (is : v ≡ tallyOf task t begins (outputLengthOf task (length r))) where
       pub added : Added (l .closed) (l .now) t r (outs (y .ready .p) (u .more)) v
       added =
           let d = outRecord p r in

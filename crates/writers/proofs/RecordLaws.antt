@@ -20,10 +20,10 @@ use Rattle.terms.specs.declared.Task.{Task}
 use Rattle.rows.specs.Flat.{FlatFair}
 use Rattle.records.specs.Promise.{outBytes, Puts}
 use Rattle.fillings.specs.declared.Tally.{Tally}
-use Rattle.tasks.specs.Promise.{tailOf, lengthOf}
+use Rattle.tasks.specs.Promise.{tailLengthOf, outputLengthOf}
 use Rattle.tasks.proofs.LengthLaws.{length-selected, length-carried}
 use Rattle.fillings.specs.Offsets.{offsetPut}
-use Rattle.writers.specs.Writing.{sizeWord, pieceOf}
+use Rattle.writers.specs.Writing.{sizeWord, recordPiece}
 use Rattle.fixed.specs.Promise.{outOf}
 use Rattle.writers.specs.Promise.{Writable, DataPut, PiecePut, nextPut, NextPut}
 use Rattle.records.proofs.PromiseLaws.{bytes-size}
@@ -44,12 +44,12 @@ word-cost e k = k ∙ ap (λ (f : Format). cost (formatOf f)) e
 -- ---- the output
 
 module _ (task : Task) (xs r : List ℕ) where
-  pub copy-room : {m : Mode} → task .mode ≡ m → selects (modeOf m) ≡ false → (room : ℕ) → lengthOf task (length r) ≤ room → length r ≤ room
+  pub copy-room : {m : Mode} → task .mode ≡ m → selects (modeOf m) ≡ false → (room : ℕ) → outputLengthOf task (length r) ≤ room → length r ≤ room
   copy-room e s room l = omega (arith, length-carried task (length r) e s)
 
-  pub record-room : {m : Mode} → task .mode ≡ m → selects (modeOf m) ≡ true → (room : ℕ) → lengthOf task (length r) ≤ room
+  pub record-room : {m : Mode} → task .mode ≡ m → selects (modeOf m) ≡ true → (room : ℕ) → outputLengthOf task (length r) ≤ room
       → task .width + cond (task .carries) (length r - task .n) 0 ≤ room
-  unfolding tailOf
+  unfolding tailLengthOf
   record-room e s room l = subst (λ (k : ℕ). k ≤ room) (sym (length-selected task (length r) e s)) l
 
   module _ (old new : List ℕ) where
@@ -63,8 +63,8 @@ module _ (task : Task) (xs r : List ℕ) where
         q fs fair ∙ sym (ap (λ (b : Bool). over 0 (cond b (outBytes (task .n) (task .width) fs (task .carries) r) r) old) (selects-as task e true s))
 
   -- its length
-  pub out-size : Writable task xs r → (fs : List Field) → FlatFair xs fs (task .n) (task .width) → length (outOf task fs r) ≡ lengthOf task (length r)
-  unfolding outOf lengthOf tailOf
+  pub out-size : Writable task xs r → (fs : List Field) → FlatFair xs fs (task .n) (task .width) → length (outOf task fs r) ≡ outputLengthOf task (length r)
+  unfolding outOf outputLengthOf tailLengthOf
   out-size w fs fair = go (selects (modeOf (task .mode))) refl
     where
       go : (b : Bool) → selects (modeOf (task .mode)) ≡ b
@@ -74,8 +74,8 @@ module _ (task : Task) (xs r : List ℕ) where
 
   -- ---- the record
 
-  module _ (w : Writable task xs r) (at : ℕ) (old : List ℕ) (fits : at + (task .cost + lengthOf task (length r)) ≤ length old) where
-    pub piece-put : (n : ℕ) → n ≡ lengthOf task (length r) → (out ys : List ℕ) → out ≡ over at (sizeWord (formatOf (task .format)) (n + 4)) old
+  module _ (w : Writable task xs r) (at : ℕ) (old : List ℕ) (fits : at + (task .cost + outputLengthOf task (length r)) ≤ length old) where
+    pub piece-put : (n : ℕ) → n ≡ outputLengthOf task (length r) → (out ys : List ℕ) → out ≡ over at (sizeWord (formatOf (task .format)) (n + 4)) old
         → DataPut task xs r (take (length out - (at + task .cost)) (drop (at + task .cost) out)) ys
         → PiecePut task xs r at old (putMid (at + task .cost) (length out - (at + task .cost)) out ys)
     unfolding DataPut PiecePut
@@ -83,7 +83,7 @@ module _ (task : Task) (xs r : List ℕ) where
         let f = formatOf (task .format) in
         let x = outOf task fs r in
         let from = at + task .cost in
-        let k : length x ≡ lengthOf task (length r) = out-size w fs fair in
+        let k : length x ≡ outputLengthOf task (length r) = out-size w fs fair in
         let z : length (sizeWord f (n + 4)) ≡ cost f = length-sizeWord f (n + 4) in
         let same : length out ≡ length old = ap length q ∙ length-over at (sizeWord f (n + 4)) old (omega (arith, w .costs)) in
         ap (putMid from (length out - from) out) (d fs fair)
@@ -93,13 +93,13 @@ module _ (task : Task) (xs r : List ℕ) where
         ∙ ap (λ (i : ℕ). over at (sizeWord f (i + 4) ++ x) old) (e ∙ sym k)
 
   -- the offset, the word of the block, and the record
-  pub next-put : (base : ℕ) (tally more : Tally) (old first second new : List ℕ) (n : ℕ) → n ≡ lengthOf task (length r) → first ≡ offsetPut base tally more old
+  pub next-put : (base : ℕ) (tally more : Tally) (old first second new : List ℕ) (n : ℕ) → n ≡ outputLengthOf task (length r) → first ≡ offsetPut base tally more old
       → second ≡ over (base + more .bytes - more .size) (sizeWord (formatOf (task .format)) (more .size)) first
       → PiecePut task xs r (base + more .bytes - (task .cost + n)) second new → NextPut task xs r base tally more old new
   unfolding PiecePut NextPut nextPut
   next-put base tally more old first second new n e a b d fs fair =
       let f = formatOf (task .format) in
       d fs fair
-      ∙ ap (λ (k : ℕ). over (base + more .bytes - (task .cost + k)) (pieceOf f (outOf task fs r)) second) e
-      ∙ ap (over (base + more .bytes - (task .cost + lengthOf task (length r))) (pieceOf f (outOf task fs r)))
+      ∙ ap (λ (k : ℕ). over (base + more .bytes - (task .cost + k)) (recordPiece f (outOf task fs r)) second) e
+      ∙ ap (over (base + more .bytes - (task .cost + outputLengthOf task (length r))) (recordPiece f (outOf task fs r)))
       (b ∙ ap (over (base + more .bytes - more .size) (sizeWord f (more .size))) a)

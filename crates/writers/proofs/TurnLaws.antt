@@ -19,16 +19,16 @@ use Rattle.walks.specs.declared.Walk.{Walk}
 use Rattle.walks.specs.declared.RecordRead.{RecordRead}
 use Rattle.walks.specs.declared.RecordRead.the-variants.{Record}
 use Rattle.walks.specs.Marks.{markedAll}
-use Rattle.walks.specs.Promise.{Walks, Standing, Told, Taken}
+use Rattle.walks.specs.Promise.{Walks, Standing, RecordTold, WalkTaken}
 use Rattle.walks.proofs.PromiseLaws.{passed, inside, lent, lent-length}
-use Rattle.tasks.specs.Promise.{formOf, lengthOf}
+use Rattle.tasks.specs.Promise.{formOf, outputLengthOf}
 use Rattle.tasks.proofs.LengthLaws.{form-given, out-length}
 use Rattle.fixed.specs.Promise.{Ready}
 use Rattle.fillings.proofs.GatheredLaws.{outs}
 use Rattle.fixed.proofs.ReadyLaws.{marksIn, input-small}
 
 -- the record as it is lent, and its length
-pub record-long : {form : Form} {s : List ℕ} {w : Walk} {read : RecordRead} (t : Told form s w read) {start size : ℕ} {begins : Bool} {next : Walk} (e : read ≡ Record start size begins next)
+pub record-long : {form : Form} {s : List ℕ} {w : Walk} {read : RecordRead} (t : RecordTold form s w read) {start size : ℕ} {begins : Bool} {next : Walk} (e : read ≡ Record start size begins next)
     → length (take (start + size - start) (drop start s)) ≡ size
 record-long t e = ap length (lent t e) ∙ lent-length t e
 
@@ -37,7 +37,7 @@ module _ {task : Task} {s : List ℕ} {blocks room : ℕ} (x : Ready task s bloc
   pub stands : {form : Form} → form ≡ formOf task → {w : Walk} {rest : List (Bool × List ℕ)} → Walks (x .p) s w rest → Standing form s w
   stands e {rest = rest} k = record { p = x .p; rest = rest; form-is = form-given (x .is) e; walks = k }
 
-  pub walks-first : {form : Form} → form ≡ formOf task → {w : Walk} → Taken form s (task .first) w → Walks (x .p) s w (marksIn x)
+  pub walks-first : {form : Form} → form ≡ formOf task → {w : Walk} → WalkTaken form s (task .first) w → Walks (x .p) s w (marksIn x)
   walks-first e {w} t =
       subst (λ (k : ℕ). Walks (x .p) s w (markedAll (takenFrom k (x .recs)))) (x .is .first) (t .all (x .p) (x .recs) (form-given (x .is) e) (x .good))
 
@@ -45,11 +45,11 @@ module _ {task : Task} {s : List ℕ} {blocks room : ℕ} (x : Ready task s bloc
   pub record Turn (rest : List (Bool × List ℕ)) (r : List ℕ) (begins : Bool) (next : Walk) : Type 0 where
     pub more : List (Bool × List ℕ)
     pub left : outs (x .p) rest ≡ (begins, outRecord (x .p) r) ∷ outs (x .p) more
-    pub long : length (outRecord (x .p) r) ≡ lengthOf task (length r)
+    pub long : length (outRecord (x .p) r) ≡ outputLengthOf task (length r)
     pub least : leastData (x .p) ≤ length r
     pub walks : Walks (x .p) s next more
 
-  module _ {form : Form} (same : form ≡ formOf task) {w : Walk} {rest : List (Bool × List ℕ)} (k : Walks (x .p) s w rest) {read : RecordRead} (t : Told form s w read) {start size : ℕ} {begins : Bool}
+  module _ {form : Form} (same : form ≡ formOf task) {w : Walk} {rest : List (Bool × List ℕ)} (k : Walks (x .p) s w rest) {read : RecordRead} (t : RecordTold form s w read) {start size : ℕ} {begins : Bool}
       {next : Walk} (e : read ≡ Record start size begins next) where
     pub turn : Turn rest (take (start + size - start) (drop start s)) begins next
     turn =
@@ -80,7 +80,7 @@ module _ {task : Task} {s : List ℕ} {blocks room : ℕ} (x : Ready task s bloc
   pub cost-small : task .cost ≤ 4
   cost-small = omega (arith, x .is .costs, cost-high (x .p .format))
 
-  module _ {form : Form} {w : Walk} {read : RecordRead} (t : Told form s w read) {start size : ℕ} {begins : Bool} {next : Walk} (e : read ≡ Record start size begins next) where
+  module _ {form : Form} {w : Walk} {read : RecordRead} (t : RecordTold form s w read) {start size : ℕ} {begins : Bool} {next : Walk} (e : read ≡ Record start size begins next) where
     pub record-ends : start + size ≤ 65536
     record-ends = omega (arith, inside t e .ends, input-small)
 

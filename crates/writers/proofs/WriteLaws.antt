@@ -7,7 +7,7 @@ use native.Mathlib.Omega.{arith}
 use lib.ListN.{length, drop}
 use Rattle.rules.specs.Base.{joined}
 use Rattle.rules.specs.Halves.{over}
-use Rattle.rules.specs.Reel.{word, ends, reelOf}
+use Rattle.rules.specs.Reel.{word, offsetWords, reelOf}
 use Rattle.rules.specs.Plan.{Plan, isTC, isFS}
 use Rattle.rules.specs.Output.{blockOf}
 use Rattle.rules.specs.Run.{ranOf, outputBlocks}
@@ -62,7 +62,7 @@ module _ {task : Task} {xs s : List ℕ} {blocks : ℕ} (old : List ℕ) (y : Le
     reel-put second q =
         let bs = blocksIn (y .ready .p) (y .ready .recs) in
         q (lent-as first-length y)
-        ∙ ap (over 4 (ends (4 * blocks + 8) bs ++ joined bs)) count
+        ∙ ap (over 4 (offsetWords (4 * blocks + 8) bs ++ joined bs)) count
         ∙ reel-over bs blocks (sym (count-is (y .ready))) old (y .ready .roomy)
 
 -- ---- for callers

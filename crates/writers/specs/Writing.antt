@@ -13,5 +13,5 @@ sizeWord fu n = []
 sizeWord fsp n = []
 
 -- a record in its block
-abbrev pub pieceOf : Format → List ℕ → List ℕ
-pieceOf f r = sizeWord f (length r + 4) ++ r
+abbrev pub recordPiece : Format → List ℕ → List ℕ
+recordPiece f r = sizeWord f (length r + 4) ++ r

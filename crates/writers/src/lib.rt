@@ -5,7 +5,7 @@ ghost use Prim.Native.Nat.{_+_, _≤_};
 ghost use lib.ListN.{length};
 ghost use Rattle.rules.specs.Output.{cost};
 ghost use Rattle.records.specs.Promise.{Covers};
-ghost use Rattle.tasks.specs.Promise.{lengthOf};
+ghost use Rattle.tasks.specs.Promise.{outputLengthOf};
 ghost use Rattle.fixed.specs.Promise.{Lent, BodyPut};
 ghost use Rattle.writers.specs.Promise.{Writable, DataPut, PiecePut, NextFits, NextPut, ReelPut};
 use fillings::Tally;
@@ -16,7 +16,7 @@ use walks::RecordRead;
 // The output of a record, at the front of out: TR carries records unchanged.
 fn put_data(task: Task, fields: &[u16], covered: bool, record: &[u8], out: &mut [u8])
     requires { ⌜ Writable task (now fields) (now «record») ⌝ }
-    requires { ⌜ lengthOf task (length (now «record»)) ≤ length (now out) ⌝ }
+    requires { ⌜ outputLengthOf task (length (now «record»)) ≤ length (now out) ⌝ }
     requires { ⌜ Covers (now fields) (task .width) covered ⌝ }
     ensures { λ _. ⌜ DataPut task (now (fields .entry)) (now («record» .entry)) (now (out .entry)) (now (out .exit)) ⌝ }
 {
@@ -47,9 +47,9 @@ fn put_piece(
     out: &mut [u8],
 )
     requires { ⌜ Writable task (now fields) (now «record») ⌝ }
-    requires { ⌜ at + (task .cost + lengthOf task (length (now «record»))) ≤ length (now out) ⌝ }
+    requires { ⌜ at + (task .cost + outputLengthOf task (length (now «record»))) ≤ length (now out) ⌝ }
     requires { ⌜ Covers (now fields) (task .width) covered ⌝ }
-    requires { ⌜ (n ≡ lengthOf task (length (now «record»))) × (task .format ≡ Format.FV) ⌝ }
+    requires { ⌜ (n ≡ outputLengthOf task (length (now «record»))) × (task .format ≡ Format.FV) ⌝ }
     ensures { λ _. ⌜ PiecePut task (now (fields .entry)) (now («record» .entry)) at (now (out .entry)) (now (out .exit)) ⌝ }
 {
     pieces::put_length_word(out, at, n + 4);
@@ -73,7 +73,7 @@ fn put_next(
     requires { ⌜ Writable task (now fields) (now «record») ⌝ }
     requires { ⌜ NextFits task (length (now «record»)) base tally more (length (now out)) ⌝ }
     requires { ⌜ Covers (now fields) (task .width) covered ⌝ }
-    requires { ⌜ (n ≡ lengthOf task (length (now «record»))) × (task .format ≡ Format.FV) ⌝ }
+    requires { ⌜ (n ≡ outputLengthOf task (length (now «record»))) × (task .format ≡ Format.FV) ⌝ }
     ensures { λ _. ⌜ NextPut task (now (fields .entry)) (now («record» .entry)) base tally more (now (out .entry)) (now (out .exit)) ⌝ }
 {
     fillings::put_offset(base, tally, more, out);

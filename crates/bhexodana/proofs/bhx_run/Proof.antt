@@ -7,7 +7,7 @@ use lib.ListN.{length}
 use lib.Seq.{length-take-le}
 use borrow.Author.Needs.{needs}
 use Rattle.rules.specs.Answer.{Answer}
-use Rattle.rules.specs.Run.{Ran as RuleRan}
+use Rattle.rules.specs.Run.{RunOutput}
 use Rattle.rules.specs.Lent.{runAnswer, outputAfter}
 use Rattle.rows.proofs.RowLaws.{row-none}
 use Rattle.plans.proofs.FilledLaws.{plans-long}
@@ -27,7 +27,7 @@ returns c =
     let a = c .before .before .before .before .before .before .before .before .args in
     let p = c .before .before .before .plan-deck in
     let e = run-refused (now (a .deck)) (p .result) (p .last .1 .0) (p .ensures) (c .before .if1 .taken) (length (now (a .out))) (now (a .reel)) in
-    record { answer = c .refused .ensures ∙ ap (λ (x : Answer RuleRan). ranStruct (runAnswer x)) (sym e); output = ap (outputAfter (now (a .out))) (sym e) }
+    record { answer = c .refused .ensures ∙ ap (λ (x : Answer RunOutput). ranStruct (runAnswer x)) (sym e); output = ap (outputAfter (now (a .out))) (sym e) }
 
 mul-end : tie.Need-mul-end
 mul-end c =
@@ -60,7 +60,7 @@ returns-2 c =
     let p = c .before .before .before .before .before .before .before .before .before .plan-deck in
     let r = c .before .before .run-plan in
     let e = run-accepted (now (a .deck)) (p .result) (p .last .1 .0) (p .ensures) (c .before .before .before .before .before .before .before .if1 .left) (length (now (a .out))) (now (a .reel)) in
-    record { answer = r .ensures .0 ∙ ap (λ (x : Answer RuleRan). ranStruct (runAnswer x)) (sym e); output = r .ensures .1 ∙ ap (outputAfter (now (a .out))) (sym e) }
+    record { answer = r .ensures .0 ∙ ap (λ (x : Answer RunOutput). ranStruct (runAnswer x)) (sym e); output = r .ensures .1 ∙ ap (outputAfter (now (a .out))) (sym e) }
 
 pub bhx-run-spec : {M : Type 1} → statement M
 bhx-run-spec =

@@ -1,5 +1,5 @@
 -- `cards::asked_for` meets its contract: its parts are those that were noted, key and data joined.
-use Rattle.cards.specs.Verdict.{askedFor}
+use Rattle.cards.specs.CardRefusals.{askedFor}
 use borrow.Author.Needs.{needs}
 use Rattle.cards.proofs.asked_for.Statement.{statement}
 use Rattle.cards.proofs.asked_for.Tie as tie

@@ -17,7 +17,7 @@ use Rattle.lines.specs.Meaning.{IsCard}
 use Rattle.cards.specs.declared.CardAt.{CardAt}
 use Rattle.cards.specs.declared.CardAt.the-variants.{UAt, FsAt, NoOperand}
 use Rattle.cards.specs.declared.Noted.{Noted}
-use Rattle.cards.specs.Selected.{Taken}
+use Rattle.cards.specs.Selected.{NotedRow}
 use Rattle.cards.specs.Deck.{cardsIn, OperandAt, CardAtSays}
 use Rattle.cards.proofs.HolderLaws.{Seeking, Held, seeking-start, seeking-none, seeking-u, seeking-key, seeking-found, seeking-more}
 use Rattle.cards.proofs.CardAt as card-type
@@ -47,7 +47,7 @@ enum-known-found : tie.Need-enum-known-found Inv-loop μ-loop
 enum-known-found c = search needs
 
 -- a card whose number is not that of `FsAt`
-other : (deck : List ℕ) (from field : ℕ) (t : Taken) (card at : ℕ) (g : Seeking deck from field (t .0 .count) card at) (r : CardAt) → CardAtSays deck at r
+other : (deck : List ℕ) (from field : ℕ) (t : NotedRow) (card at : ℕ) (g : Seeking deck from field (t .0 .count) card at) (r : CardAt) → CardAtSays deck at r
     → (tagOf card-type.the-type r ≡ 0) ⊎ (tagOf card-type.the-type r ≡ 2) → Held deck from field t card at g 0
 other deck from field t card at g (UAt start end next) h k = seeking-u deck from field t card at g (start - at) start end next h
 other deck from field t card at g (FsAt start end next) h k = absurd (⊎-elim (λ e. omega arith) (λ e. omega arith) k)

@@ -1,9 +1,9 @@
--- `cards::field_noted` meets its contract: the field is counted and its part noted, and of the first with a number outside its limits card and column are noted.
+-- `cards::field_noted` meets its contract: the field is fieldCounted and its part noted, and of the first with a number outside its limits card and column are noted.
 use mathlib.Core.Path.{_≡_, ap, _∙_}
 use borrow.Author.Tests.{eq-eqb, ne-eqb}
 use Rattle.terms.specs.Meaning.{partOf}
 use Rattle.cards.specs.declared.Noted.{Noted}
-use Rattle.cards.specs.Selected.{counted, keyNoted, fieldNoted}
+use Rattle.cards.specs.Selected.{fieldCounted, keyNoted, fieldNoted}
 use borrow.Author.Needs.{needs}
 use Rattle.cards.proofs.field_noted.Statement.{statement}
 use Rattle.cards.proofs.field_noted.Tie as tie
@@ -14,8 +14,8 @@ counted-requires c κs = search needs
 key-noted-requires : tie.Need-key-noted-requires
 key-noted-requires c κs = search needs
 
--- counted, with its part
-next : (c : tie.After-key-noted) → let a = c .before .before .args in c .key-noted .result ≡ keyNoted (counted (a .noted) (a .card)) (a .card) (partOf (a .part))
+-- fieldCounted, with its part
+next : (c : tie.After-key-noted) → let a = c .before .before .args in c .key-noted .result ≡ keyNoted (fieldCounted (a .noted) (a .card)) (a .card) (partOf (a .part))
 next c = let a = c .before .before .args in c .key-noted .ensures ∙ ap (λ (n : Noted). keyNoted n (a .card) (partOf (a .part))) (c .before .counted .ensures)
 
 returns : tie.Need-returns

@@ -19,7 +19,7 @@ use Rattle.lines.specs.Meaning.{IsCard}
 use Rattle.cards.specs.declared.CardAt.{CardAt}
 use Rattle.cards.specs.declared.CardAt.the-variants.{UAt, FsAt, NoOperand}
 use Rattle.cards.specs.declared.Noted.{Noted}
-use Rattle.cards.specs.Selected.{Taken, nothingNoted, noSelection}
+use Rattle.cards.specs.Selected.{NotedRow, nothingNoted, noSelection}
 use Rattle.cards.specs.Deck.{cardsIn, fsFirst, OperandAt, CardAtSays, FsSaid}
 use Rattle.cards.proofs.ListedLaws.{key-kept}
 use Rattle.cards.proofs.DeckLaws.{Selecting, selecting-start, selecting-none, selecting-u, selecting-stop, selecting-more, lent-list}
@@ -39,7 +39,7 @@ nothing-noted-requires c κs = tt
 
 start : (deck : List ℕ) (from key : ℕ) (n : Noted) (row : List ℕ) → n ≡ nothingNoted key → row ≡ rowOf [] → Selecting deck from key (n, row) 2 from
 unfolding noSelection
-start deck from key n row e f = subst (λ (t : Taken). Selecting deck from key t 2 from) (λ i. (sym e i, sym f i)) (selecting-start deck from key)
+start deck from key n row e f = subst (λ (t : NotedRow). Selecting deck from key t 2 from) (λ i. (sym e i, sym f i)) (selecting-start deck from key)
 
 loop-holds : tie.Need-loop-holds Inv-loop μ-loop
 loop-holds c =
@@ -58,7 +58,7 @@ enum-known-found : tie.Need-enum-known-found Inv-loop μ-loop
 enum-known-found c = search needs
 
 -- a card whose number is not that of `FsAt`
-other : (deck : List ℕ) (from key : ℕ) (t : Taken) (card at : ℕ) → Selecting deck from key t card at → (r : CardAt) → CardAtSays deck at r
+other : (deck : List ℕ) (from key : ℕ) (t : NotedRow) (card at : ℕ) → Selecting deck from key t card at → (r : CardAt) → CardAtSays deck at r
     → (tagOf card-type.the-type r ≡ 0) ⊎ (tagOf card-type.the-type r ≡ 2)
     → FsSaid 2 (noSelection key) (fsFirst (cardsIn (drop from deck))) (record { noted = t .0; unread = 0; column = 0 }) (t .1)
 other deck from key t card at g (UAt start end next) h k = selecting-u deck from key t card at g (start - at) start end next h

@@ -1,6 +1,6 @@
 -- `cards::limits_on` meets its contract: each return has passed the tests before it.
 use borrow.Author.Tests.{eq-eqb, ne-eqb}
-use Rattle.cards.specs.Verdict.{limitsOf}
+use Rattle.cards.specs.CardRefusals.{limitsOf}
 use borrow.Author.Needs.{needs}
 use Rattle.cards.proofs.limits_on.Statement.{statement}
 use Rattle.cards.proofs.limits_on.Tie as tie

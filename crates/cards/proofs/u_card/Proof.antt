@@ -14,7 +14,7 @@ use Rattle.rules.specs.Words.{worded}
 use Rattle.readers.specs.declared.ParameterRead.the-variants.{IsParameter, NoParameter}
 use Rattle.readers.specs.Meaning.{ParameterSays}
 use Rattle.cards.specs.declared.Parameters.{Parameters}
-use Rattle.cards.specs.declared.Outside.{Outside}
+use Rattle.cards.specs.declared.OutsideColumns.{OutsideColumns}
 use Rattle.cards.specs.declared.URead.{URead}
 use Rattle.cards.specs.Parameters.{withParameter, noneOutside, withNumbers, uRead, UListed}
 use Rattle.cards.proofs.ParameterLaws.{Going, going-start, going-stop, parameter-inside, second-low, going-last, going-other, going-more}
@@ -36,7 +36,7 @@ none-outside-requires c κs = tt
 loop-holds : tie.Need-loop-holds Inv-loop μ-loop
 loop-holds c =
     let a = c .before .before .before .args in
-    subst (λ (o : Outside). Going (a .column) (now (a .operand)) (c .before .no-parameter .result) o 0) (sym (c .none-outside .ensures))
+    subst (λ (o : OutsideColumns). Going (a .column) (now (a .operand)) (c .before .no-parameter .result) o 0) (sym (c .none-outside .ensures))
     (subst (λ (x : Parameters). Going (a .column) (now (a .operand)) x noneOutside 0) (sym (c .before .no-parameter .ensures)) (going-start (a .column) (now (a .operand))))
 
 sub-parameter : tie.Need-sub-parameter Inv-loop μ-loop
@@ -125,7 +125,7 @@ returns-2 c =
     let s = n .before .before .before .before .before .before .before .before in
     let g = n .next2 .given .0 in
     let made : c .u-read2 .result ≡ uRead (withParameter (l .state) (g .0) (s .args .column + l .at)) (withNumbers (l .outside) (g .0) (g .1 .0) (s .args .column + l .at)) 0
-    = c .u-read2 .ensures ∙ ap₂ (λ (x : Parameters) (y : Outside). uRead x y 0) (c .before .before .before .with-parameter .ensures) (c .before .before .with-numbers .ensures) in
+    = c .u-read2 .ensures ∙ ap₂ (λ (x : Parameters) (y : OutsideColumns). uRead x y 0) (c .before .before .before .with-parameter .ensures) (c .before .before .with-numbers .ensures) in
     subst (UListed (s .args .column) (now (s .args .operand)) (listOf "," (worded parameter) (now (s .args .operand)))) (sym made)
     (going-last (s .args .column) (s .pre .0) (now (s .args .operand)) (l .state) (l .outside) (l .at) (l .inv) (g .0) (g .1 .0) (g .1 .1 .0) (is-parameter n) (c .before .if1 .taken))
 
@@ -163,7 +163,7 @@ loop-again c =
     let h = inside n in
     let k = c .before .before .if1 .left in
     subst (λ (x : Parameters). Going (s .args .column) (now (s .args .operand)) x (c .before .before .before .with-numbers .result) (l .at + g .1 .1 .0 + 1)) (sym (c .before .before .before .before .with-parameter .ensures))
-    (subst (λ (x : Outside). Going (s .args .column) (now (s .args .operand)) (withParameter (l .state) (g .0) (s .args .column + l .at)) x (l .at + g .1 .1 .0 + 1)) (sym (c .before .before .before .with-numbers .ensures))
+    (subst (λ (x : OutsideColumns). Going (s .args .column) (now (s .args .operand)) (withParameter (l .state) (g .0) (s .args .column + l .at)) x (l .at + g .1 .1 .0 + 1)) (sym (c .before .before .before .with-numbers .ensures))
     (going-more (s .args .column) (s .pre .0) (now (s .args .operand)) (l .state) (l .outside) (l .at) (l .inv) (g .0) (g .1 .0) (g .1 .1 .0) (is-parameter n) (omega arith) (c .if2 .left)))
 
 pub u-card-spec : {M : Type 1} → statement M

@@ -4,7 +4,7 @@ use native.Mathlib.Omega.{arith}
 use borrow.Author.Needs.{needs}
 use borrow.Author.Tests.{not-true}
 use Rattle.rules.proofs.HalfBytes.{all-bytes}
-use Rattle.values.specs.Promise.{Asks}
+use Rattle.values.specs.Promise.{FieldsAsk}
 use Rattle.checks.proofs.RunLaws.{none-asked}
 use Rattle.checks.proofs.unpermitted_selected.Statement.{statement}
 use Rattle.checks.proofs.unpermitted_selected.Tie as tie
@@ -16,7 +16,7 @@ returns : tie.Need-returns
 returns c =
     let s = c .before .before .before .before in
     none-asked (s .args .task) (s .args .fields .now) (s .args .s .now) (all-bytes (s .args .s .now) (λ i. omega (arith, c .before .before .shared-slice-known2 .given i)))
-    (subst (Asks (s .args .fields .now)) (not-true (c .before .asks .result) (c .if1 .taken)) (c .before .asks .ensures))
+    (subst (FieldsAsk (s .args .fields .now)) (not-true (c .before .asks .result) (c .if1 .taken)) (c .before .asks .ensures))
 
 first-unpermitted-requires : tie.Need-first-unpermitted-requires
 first-unpermitted-requires c κs = search needs

@@ -8,7 +8,7 @@ use borrow.Author.Needs.{needs}
 use Rattle.terms.specs.declared.Field.{Field}
 use Rattle.terms.specs.declared.Kind.the-variants.{Copy}
 use Rattle.keeping.specs.Marks.{Put}
-use Rattle.keeping.specs.Promise.{FairField}
+use Rattle.keeping.specs.Promise.{FieldInside}
 use Rattle.keeping.proofs.Arrays.{put-below, put-inside, put-above}
 use Rattle.keeping.proofs.FieldSources.{copy-gives}
 use Rattle.keeping.proofs.Walk.{Upto, upto-none, upto-more, upto-all}
@@ -17,7 +17,7 @@ use Rattle.keeping.proofs.copy_sources.Tie as tie
 
 -- a copy of these halves to these places
 record Copies (from to many : ℕ) (f : Field) : Type 0 where
-  fair : FairField 4096 4096 f
+  fair : FieldInside 4096 4096 f
   kind : f .kind ≡ Copy
   reads : from ≡ 2 * f .r - 1
   writes : to ≡ 2 * f .t - 2

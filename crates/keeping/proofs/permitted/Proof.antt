@@ -11,8 +11,8 @@ use Rattle.rules.specs.Permitted.{permitted}
 use Rattle.rules.specs.Lent.{zoneF}
 use Rattle.rules.specs.Halves.{Field as RuleField}
 use Rattle.rows.specs.Kept.{fieldsIn}
-use Rattle.keeping.specs.Marks.{Says}
-use Rattle.keeping.specs.Promise.{FairField}
+use Rattle.keeping.specs.Marks.{MarkSays}
+use Rattle.keeping.specs.Promise.{FieldInside}
 use Rattle.keeping.proofs.AllFields.{fields-all, says-none, says-more}
 use Rattle.keeping.proofs.Arrays.{Met, met-below, met-inside, met-past, asking-most}
 use Rattle.keeping.proofs.Walk.{Upto, upto-none, upto-more, upto-all}
@@ -20,21 +20,21 @@ use Rattle.keeping.proofs.permitted.Statement.{statement}
 use Rattle.keeping.proofs.permitted.Tie as tie
 
 abbrev Inv-loop2 : tie.InvT-loop2
-Inv-loop2 fields marks₀ count k f from many j₀ marks j = FairField 4096 4096 f × (length marks₀ ≡ 8192) × (many ≤ 2 * f .input) × (j ≤ many) × Upto 0 (Met f) marks₀ marks (from + j)
+Inv-loop2 fields marks₀ count k f from many j₀ marks j = FieldInside 4096 4096 f × (length marks₀ ≡ 8192) × (many ≤ 2 * f .input) × (j ≤ many) × Upto 0 (Met f) marks₀ marks (from + j)
 
 abbrev μ-loop2 : tie.MeasureT-loop2
 μ-loop2 fields marks₀ count k f from many j₀ marks j = many - j
 
 abbrev Inv-loop : tie.InvT-loop
-Inv-loop fields marks₀ count k₀ marks k = (length marks ≡ 8192) × (k ≤ count) × ((h : ℕ) → h < 8192 → Says (getD marks h 0) (permitted zoneF (take k (fieldsIn fields)) h))
+Inv-loop fields marks₀ count k₀ marks k = (length marks ≡ 8192) × (k ≤ count) × ((h : ℕ) → h < 8192 → MarkSays (getD marks h 0) (permitted zoneF (take k (fieldsIn fields)) h))
 
 abbrev μ-loop : tie.MeasureT-loop
 μ-loop fields marks₀ count k₀ marks k = count - k
 
 -- each field that is read is fair
-fair : (c : tie.After-field-at Inv-loop2 μ-loop2 Inv-loop μ-loop) → FairField 4096 4096 (c .field-at .result)
+fair : (c : tie.After-field-at Inv-loop2 μ-loop2 Inv-loop μ-loop) → FieldInside 4096 4096 (c .field-at .result)
 fair c =
-    subst (FairField 4096 4096) (sym (c .field-at .ensures))
+    subst (FieldInside 4096 4096) (sym (c .field-at .ensures))
     (c .before .before .before .before .pre .0 .each (c .before .before .loop .k) (omega (arith, c .before .loop-test .taken)))
 
 loop-holds : tie.Need-loop-holds Inv-loop2 μ-loop2 Inv-loop μ-loop
@@ -110,7 +110,7 @@ returns c =
     let row = now (c .before .before .before .args .fields) in
     let l = c .before .loop in (
       l .inv .0,
-      λ h t. subst (λ (fs : List RuleField). Says (getD (l .marks) h 0) (permitted zoneF fs h)) (fields-all row (l .k) (c .loop-test .left)) (l .inv .2 h t),
+      λ h t. subst (λ (fs : List RuleField). MarkSays (getD (l .marks) h 0) (permitted zoneF fs h)) (fields-all row (l .k) (c .loop-test .left)) (l .inv .2 h t),
     )
 
 pub permitted-spec : {M : Type 1} → statement M

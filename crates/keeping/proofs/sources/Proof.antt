@@ -10,13 +10,13 @@ use Rattle.rules.specs.Lent.{zoneF}
 use Rattle.rules.specs.Halves.{Field as RuleField, sources}
 use Rattle.rows.specs.Kept.{fieldsIn}
 use Rattle.keeping.specs.Marks.{Stand}
-use Rattle.keeping.specs.Promise.{FairField, Fair}
+use Rattle.keeping.specs.Promise.{FieldInside, RowInside}
 use Rattle.keeping.proofs.AllFields.{fields-all, stand-none, stand-more}
 use Rattle.keeping.proofs.sources.Statement.{statement}
 use Rattle.keeping.proofs.sources.Tie as tie
 
 abbrev Inv-loop : tie.InvT-loop
-Inv-loop fields out₀ count i₀ out i = (length out ≡ 8192) × (i ≤ count) × ((n m : ℕ) → Fair fields n m → Stand out (sources zoneF m (take i (fieldsIn fields)) (2 * n)))
+Inv-loop fields out₀ count i₀ out i = (length out ≡ 8192) × (i ≤ count) × ((n m : ℕ) → RowInside fields n m → Stand out (sources zoneF m (take i (fieldsIn fields)) (2 * n)))
 
 abbrev μ-loop : tie.MeasureT-loop
 μ-loop fields out₀ count i₀ out i = count - i
@@ -30,7 +30,7 @@ field-at-requires c κs = omega (arith, c .loop-test .taken)
 field-sources-requires : tie.Need-field-sources-requires Inv-loop μ-loop
 field-sources-requires c κs =
     let read = c .before in (
-      subst (FairField 4096 4096) (sym (read .field-at .ensures))
+      subst (FieldInside 4096 4096) (sym (read .field-at .ensures))
           (read .before .before .before .before .pre .0 .each (read .before .before .loop .i) (omega (arith, read .before .loop-test .taken))),
       read .before .before .loop .inv .0,
     )

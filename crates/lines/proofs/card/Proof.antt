@@ -2,13 +2,13 @@
 use mathlib.Core.Path.{_≡_, sym, ap, _∙_}
 use borrow.Author.Needs.{needs}
 use Rattle.rules.specs.Deck.{cardOf}
-use Rattle.lines.specs.Ordering.{kindOf, isOther}
+use Rattle.lines.specs.Ordering.{cardKindOf, isOther}
 use Rattle.lines.proofs.MeaningLaws.{other-none, known-card}
 use Rattle.lines.proofs.card.Statement.{statement}
 use Rattle.lines.proofs.card.Tie as tie
 
 -- what the test of the kind tells
-told : (c : tie.After-is-other) → c .is-other .result ≡ isOther (kindOf (cardOf (c .before .before .before .args .line .now)))
+told : (c : tie.After-is-other) → c .is-other .result ≡ isOther (cardKindOf (cardOf (c .before .before .before .args .line .now)))
 told c = c .is-other .ensures ∙ ap isOther (c .before .kind .ensures)
 
 kind-requires : tie.Need-kind-requires

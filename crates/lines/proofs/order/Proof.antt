@@ -10,7 +10,7 @@ use borrow.Author.Needs.{needs}
 use Rattle.rules.specs.Deck.{cardOf}
 use Rattle.rules.proofs.Lists.{slice-part}
 use Rattle.lines.specs.Meaning.{LineSays}
-use Rattle.lines.specs.Ordering.{kindOf, withLine, orderOf}
+use Rattle.lines.specs.Ordering.{cardKindOf, withLine, orderOf}
 use Rattle.lines.specs.declared.LineRead.the-variants.{Line}
 use Rattle.lines.proofs.SeenLaws.{Left, left-line, left-none, deck-seen}
 use Rattle.lines.proofs.order.Statement.{statement}
@@ -78,7 +78,7 @@ loop-again c =
     (sym
     (c .with-line .ensures
     ∙ ap (withLine (l .seen))
-    (c .before .kind .ensures ∙ ap (λ (x : List ℕ). kindOf (cardOf x)) (sym (slice-part (l .at) (r .read .given .0 .0) (now d) (k .1))))))
+    (c .before .kind .ensures ∙ ap (λ (x : List ℕ). cardKindOf (cardOf x)) (sym (slice-part (l .at) (r .read .given .0 .0) (now d) (k .1))))))
     (left-line (now d) (l .at) (r .read .given .0 .0) (r .read .given .0 .1 .0) (l .seen) k (l .inv))
 
 pub order-spec : {M : Type 1} → statement M

@@ -5,13 +5,13 @@ use native.Mathlib.Omega.{arith}
 use borrow.Author.Needs.{needs}
 use denote.Ref.{now}
 use lib.ListN.{length, drop, length-drop}
-use Rattle.pieces.specs.Pieces.{lengthOf}
+use Rattle.pieces.specs.Pieces.{lengthWordOf}
 use Rattle.pieces.specs.declared.LengthRead.the-variants.{Length}
 use Rattle.pieces.proofs.PiecesLaws.{length-within, variable-piece, variable-bad}
 use Rattle.pieces.proofs.variable_piece.Statement.{statement}
 use Rattle.pieces.proofs.variable_piece.Tie as tie
 
-a-word : (c : tie.After-word) → lengthOf (c .before .before .before .before .args .top) 5 (drop (c .before .before .before .before .args .at) (now (c .before .before .before .before .args .b))) ≡ Length (c .word .given .0 .0)
+a-word : (c : tie.After-word) → lengthWordOf (c .before .before .before .before .args .top) 5 (drop (c .before .before .before .before .args .at) (now (c .before .before .before .before .args .b))) ≡ Length (c .word .given .0 .0)
 a-word c = sym (c .before .before .length-word .ensures) ∙ c .word .given .1
 
 within : (c : tie.After-word) → (5 ≤ c .word .given .0 .0) × (c .before .before .before .before .args .at + c .word .given .0 .0 ≤ length (now (c .before .before .before .before .args .b)))

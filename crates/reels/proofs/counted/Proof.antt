@@ -5,7 +5,7 @@ use native.Mathlib.Omega.{arith}
 use borrow.Author.Needs.{needs}
 use denote.Ref.{now}
 use lib.ListN.{length}
-use Rattle.pieces.specs.Pieces.{pieceOf}
+use Rattle.pieces.specs.Pieces.{pieceReadOf}
 use Rattle.pieces.specs.declared.PieceRead.the-variants.{Piece}
 use Rattle.reels.proofs.RecordsLaws.{Counting, counting-start, counting-further, counting-step, counting-short, counting-bad, counting-none, counting-end}
 use Rattle.reels.proofs.counted.Statement.{statement}
@@ -19,7 +19,7 @@ abbrev μ-loop : tie.MeasureT-loop
 
 -- the piece that was read
 a-piece : (c : tie.After-read Inv-loop μ-loop)
-    → pieceOf (c .before .before .before .before .before .before .args .form) (now (c .before .before .before .before .before .before .args .b)) (c .before .before .before .loop .at)
+    → pieceReadOf (c .before .before .before .before .before .before .args .form) (now (c .before .before .before .before .before .before .args .b)) (c .before .before .before .loop .at)
     ≡ Piece (c .read .given .0 .0) (c .read .given .0 .1 .0) (c .read .given .0 .1 .1 .0) (c .read .given .0 .1 .1 .1 .0)
 a-piece c = sym (c .before .before .piece .ensures) ∙ c .read .given .1
 

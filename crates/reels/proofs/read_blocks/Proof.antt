@@ -5,8 +5,8 @@ use native.Mathlib.Omega.{arith}
 use borrow.Author.Needs.{needs}
 use lib.ListN.{length}
 use denote.Ref.{now}
-use Rattle.reels.specs.Header.{partAt}
-use Rattle.reels.specs.Records.{Judged}
+use Rattle.reels.specs.Header.{blockPart}
+use Rattle.reels.specs.Records.{BlockSays}
 use Rattle.reels.specs.declared.BlockRead.the-variants.{Records, Breaks}
 use Rattle.reels.proofs.ReelReads.{Reading, reading-start, part-full, reading-step, reading-bad, reading-end, reading-most}
 use Rattle.reels.proofs.read_blocks.Statement.{statement}
@@ -20,20 +20,20 @@ abbrev μ-loop : tie.MeasureT-loop
 
 -- what the rule says of block i
 judged-some : (c : tie.After-read Inv-loop μ-loop)
-    → Judged (c .before .before .before .before .before .before .before .args .form)
-    (partAt (now (c .before .before .before .before .before .before .before .args .s)) (c .before .before .before .before .before .loop .i)) (Records (c .read .given .0 .0))
+    → BlockSays (c .before .before .before .before .before .before .before .args .form)
+    (blockPart (now (c .before .before .before .before .before .before .before .args .s)) (c .before .before .before .before .before .loop .i)) (Records (c .read .given .0 .0))
 judged-some c =
     let form = c .before .before .before .before .before .before .before .args .form in
-    subst (λ b. Judged form b (Records (c .read .given .0 .0))) (c .before .before .before .block .ensures)
-    (subst (Judged form (now (c .before .before .before .block .result))) (c .read .given .1) (c .before .before .rule .ensures))
+    subst (λ b. BlockSays form b (Records (c .read .given .0 .0))) (c .before .before .before .block .ensures)
+    (subst (BlockSays form (now (c .before .before .before .block .result))) (c .read .given .1) (c .before .before .rule .ensures))
 
 judged-none : (c : tie.After-enum-told Inv-loop μ-loop)
-    → Judged (c .before .before .before .before .before .before .before .args .form)
-    (partAt (now (c .before .before .before .before .before .before .before .args .s)) (c .before .before .before .before .before .loop .i)) Breaks
+    → BlockSays (c .before .before .before .before .before .before .before .args .form)
+    (blockPart (now (c .before .before .before .before .before .before .before .args .s)) (c .before .before .before .before .before .loop .i)) Breaks
 judged-none c =
     let form = c .before .before .before .before .before .before .before .args .form in
-    subst (λ b. Judged form b Breaks) (c .before .before .before .block .ensures)
-    (subst (Judged form (now (c .before .before .before .block .result))) (c .enum-told .given .1) (c .before .before .rule .ensures))
+    subst (λ b. BlockSays form b Breaks) (c .before .before .before .block .ensures)
+    (subst (BlockSays form (now (c .before .before .before .block .result))) (c .enum-told .given .1) (c .before .before .rule .ensures))
 
 loop-holds : tie.Need-loop-holds Inv-loop μ-loop
 loop-holds c = reading-start _ _ _ (c .before .pre)

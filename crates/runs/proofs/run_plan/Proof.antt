@@ -1,6 +1,6 @@
 -- In FS the run of its own, by the numbers of the plan; else the plan's numbers, and then the run over its fields, which are lent as they are.
 use mathlib.Core.Path.{ap, sym, _∙_}
-use Rattle.rules.specs.Run.{Ran as RuleRan}
+use Rattle.rules.specs.Run.{RunOutput}
 use Rattle.rules.specs.Answer.{Answer}
 use Rattle.rules.specs.Lent.{zoneF, runAnswer, outputAfter}
 use Rattle.terms.specs.Meaning.{planIn}
@@ -42,7 +42,7 @@ returns c =
     let q
     = by-spans (st .args .asked) (now (st .args .fields)) e _ _ _ (c .before .before .before .before .before .before .is-tc .ensures)
     (c .before .before .before .before .before .block-length .ensures) (c .before .before .before .before .block-length2 .ensures) (length (now (st .args .out))) (now (st .args .s)) in
-    (c .before .before .run-spanned .ensures .0 ∙ ap (λ (x : Answer RuleRan). ranStruct (runAnswer x)) q, c .before .before .run-spanned .ensures .1 ∙ ap (outputAfter (now (st .args .out))) q)
+    (c .before .before .run-spanned .ensures .0 ∙ ap (λ (x : Answer RunOutput). ranStruct (runAnswer x)) q, c .before .before .run-spanned .ensures .1 ∙ ap (outputAfter (now (st .args .out))) q)
 
 task-of-requires : tie.Need-task-of-requires
 task-of-requires c κs = search needs
@@ -63,7 +63,7 @@ returns-2 c =
     let p = planIn zoneF (st .args .asked) (fieldsIn (now (st .args .fields))) in
     let g = given-plan (st .pre) e _ (c .before .before .before .before .task-of .ensures) in
     let q = by-blocks (st .args .asked) (now (st .args .fields)) e (length (now (st .args .out))) (now (st .args .s)) in
-    (c .before .before .run .ensures .answer p g ∙ ap (λ (x : Answer RuleRan). ranStruct (runAnswer x)) q, c .before .before .run .ensures .output p g ∙ ap (outputAfter (now (st .args .out))) q)
+    (c .before .before .run .ensures .answer p g ∙ ap (λ (x : Answer RunOutput). ranStruct (runAnswer x)) q, c .before .before .run .ensures .output p g ∙ ap (outputAfter (now (st .args .out))) q)
 
 pub run-plan-spec : {M : Type 1} → statement M
 run-plan-spec = tie.close (tie.spec is-fs-requires is-tc-requires block-length-requires block-length-requires-2 run-spanned-requires same-length returns task-of-requires run-requires same-length-2 returns-2)

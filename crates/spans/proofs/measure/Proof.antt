@@ -2,14 +2,14 @@
 use mathlib.Core.List.{List}
 use Prim.Native.Nat.{ℕ, _-_}
 use native.Mathlib.Omega.{arith}
-use Rattle.spans.specs.Promise.{Standing}
+use Rattle.spans.specs.Promise.{SpotStanding}
 use Rattle.spans.proofs.WalkLaws.{Passes, passes-start, passes-coming, passes-turn, turn-small, turn-passes, measures}
 use borrow.Author.Needs.{needs}
 use Rattle.spans.proofs.measure.Statement.{statement}
 use Rattle.spans.proofs.measure.Tie as tie
 
 abbrev Inv-loop : tie.InvT-loop
-Inv-loop m s count at₀ tally₀ number₀ at tally number = (y : Standing s at₀ count) → (rest : List (List ℕ)) × Passes m y at tally number rest
+Inv-loop m s count at₀ tally₀ number₀ at tally number = (y : SpotStanding s at₀ count) → (rest : List (List ℕ)) × Passes m y at tally number rest
 
 abbrev μ-loop : tie.MeasureT-loop
 μ-loop m s count at₀ tally₀ number₀ at tally number = count - number

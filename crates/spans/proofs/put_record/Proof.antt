@@ -2,7 +2,7 @@
 use mathlib.Core.Path.{_≡_, refl, _∙_}
 use native.Mathlib.Omega.{arith}
 use lib.ListN.{length}
-use Rattle.cuts.specs.Cutting.{Fair}
+use Rattle.cuts.specs.Cutting.{BetweenSegments}
 use Rattle.spans.specs.Promise.{Streaming}
 use Rattle.cuts.proofs.CutLaws.{Going, next-is, going-start, going-next, going-end, fair-next}
 use Rattle.spans.proofs.PutLaws.{Puts, puts-start, puts-streaming, puts-next, puts-end, next-fits}
@@ -11,7 +11,7 @@ use Rattle.spans.proofs.put_record.Tie as tie
 
 abbrev Inv-loop : tie.InvT-loop
 Inv-loop m base s size out₀ at₀ now₀ first₀ rest₀ out at now first rest =
-    Going m now₀ size now rest × Fair m now × (length out ≡ length out₀) × ((y : Streaming s at₀ size) → Puts m base y now₀ out₀ out at now first rest)
+    Going m now₀ size now rest × BetweenSegments m now × (length out ≡ length out₀) × ((y : Streaming s at₀ size) → Puts m base y now₀ out₀ out at now first rest)
 
 abbrev μ-loop : tie.MeasureT-loop
 μ-loop m base s size out₀ at₀ now₀ first₀ rest₀ out at now first rest = rest

@@ -3,7 +3,7 @@ use mathlib.Core.Path.{sym, _∙_}
 use Prim.Native.Nat.{_-_}
 use native.Mathlib.Omega.{arith}
 use lib.ListN.{length}
-use Rattle.spans.specs.Promise.{Lent, ReelPut}
+use Rattle.spans.specs.Promise.{SpannedLent, SpannedPut}
 use Rattle.spans.proofs.WalkLaws.{passes-coming, passes-turn}
 use Rattle.spans.proofs.WriteLaws.{header-fits, few-blocks, lent-as, Writes, writes-start, writes-within, writes-length, writes-streaming, writes-fits, writes-next, writes-end}
 use borrow.Author.Needs.{needs}
@@ -11,7 +11,7 @@ use Rattle.spans.proofs.write.Statement.{statement}
 use Rattle.spans.proofs.write.Tie as tie
 
 abbrev Inv-loop : tie.InvT-loop
-Inv-loop m s count blocks out₀ base at₀ tally₀ number₀ out at tally number = (y : Lent m s at₀ count blocks (length out₀)) → Writes out₀ y out at tally number
+Inv-loop m s count blocks out₀ base at₀ tally₀ number₀ out at tally number = (y : SpannedLent m s at₀ count blocks (length out₀)) → Writes out₀ y out at tally number
 
 abbrev μ-loop : tie.MeasureT-loop
 μ-loop m s count blocks out₀ base at₀ tally₀ number₀ out at tally number = count - number
@@ -86,7 +86,7 @@ same-length c =
     c .before .before .put-word2 .kept .0 ∙ writes-length _ y (l .loop .inv y) ∙ past-put-word l .put-word .kept .0
 
 returns : tie.Need-returns Inv-loop μ-loop
-unfolding ReelPut
+unfolding SpannedPut
 returns c =
     let l = c .before .before .before .before .before .before in
     λ z.

@@ -5,7 +5,7 @@ use native.Mathlib.Omega.{arith}
 use borrow.Author.Needs.{needs}
 use denote.Ref.{now}
 use lib.ListN.{length}
-use Rattle.reels.specs.Header.{partAt}
+use Rattle.reels.specs.Header.{blockPart}
 use Rattle.turns.specs.declared.TurnsRead.the-variants.{InTurn, Breaks}
 use Rattle.turns.specs.Turns.{Ruled}
 use Rattle.turns.proofs.ReadingLaws.{Reading, reading-start, reading-room, reading-step, reading-bad, reading-unfinished, reading-end}
@@ -21,7 +21,7 @@ abbrev μ-loop : tie.MeasureT-loop
 -- what block i is read as
 ruled-some : (c : tie.After-read Inv-loop μ-loop)
     → Ruled (c .before .before .before .before .before .before .before .args .g) (c .before .before .before .before .before .loop .counts)
-    (partAt (now (c .before .before .before .before .before .before .before .args .s)) (c .before .before .before .before .before .loop .i)) (InTurn (c .read .given .0 .0))
+    (blockPart (now (c .before .before .before .before .before .before .before .args .s)) (c .before .before .before .before .before .loop .i)) (InTurn (c .read .given .0 .0))
 ruled-some c =
     let g = c .before .before .before .before .before .before .before .args .g in
     let counts = c .before .before .before .before .before .loop .counts in
@@ -30,7 +30,7 @@ ruled-some c =
 
 ruled-none : (c : tie.After-enum-told Inv-loop μ-loop)
     → Ruled (c .before .before .before .before .before .before .before .args .g) (c .before .before .before .before .before .loop .counts)
-    (partAt (now (c .before .before .before .before .before .before .before .args .s)) (c .before .before .before .before .before .loop .i)) Breaks
+    (blockPart (now (c .before .before .before .before .before .before .before .args .s)) (c .before .before .before .before .before .loop .i)) Breaks
 ruled-none c =
     let g = c .before .before .before .before .before .before .before .args .g in
     let counts = c .before .before .before .before .before .loop .counts in

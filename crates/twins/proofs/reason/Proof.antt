@@ -9,22 +9,22 @@ use denote.Ref.{now}
 use Rattle.rules.specs.Lent.{zoneF}
 use Rattle.rules.specs.Twins.{reasonBy}
 use Rattle.rows.specs.Kept.{fieldsIn}
-use Rattle.keeping.specs.Promise.{FairField, Fair}
+use Rattle.keeping.specs.Promise.{FieldInside, RowInside}
 use Rattle.twins.proofs.ReasonLaws.{room, reason-read, reason-unread, reason-all}
 use Rattle.twins.proofs.reason.Statement.{statement}
 use Rattle.twins.proofs.reason.Tie as tie
 
 abbrev Inv-loop : tie.InvT-loop
-Inv-loop fields h count reason₀ k₀ reason k = (k ≤ count) × ((n m : ℕ) → Fair fields n m → reasonBy zoneF (2 * n) h reason (drop k (fieldsIn fields)) ≡ reasonBy zoneF (2 * n) h 1 (fieldsIn fields))
+Inv-loop fields h count reason₀ k₀ reason k = (k ≤ count) × ((n m : ℕ) → RowInside fields n m → reasonBy zoneF (2 * n) h reason (drop k (fieldsIn fields)) ≡ reasonBy zoneF (2 * n) h 1 (fieldsIn fields))
 
 abbrev μ-loop : tie.MeasureT-loop
 μ-loop fields h count reason₀ k₀ reason k = count - k
 
 -- the field that is read lies inside the longest records
-read-fair : (c : tie.After-field-at Inv-loop μ-loop) → FairField 4096 4096 (c .field-at .result)
+read-fair : (c : tie.After-field-at Inv-loop μ-loop) → FieldInside 4096 4096 (c .field-at .result)
 read-fair c =
     let l = c .before .before in
-    subst (FairField 4096 4096) (sym (c .field-at .ensures)) (l .before .before .pre .each (l .loop .k) (omega (arith, c .before .loop-test .taken)))
+    subst (FieldInside 4096 4096) (sym (c .field-at .ensures)) (l .before .before .pre .each (l .loop .k) (omega (arith, c .before .loop-test .taken)))
 
 loop-holds : tie.Need-loop-holds Inv-loop μ-loop
 loop-holds c = (omega arith, λ n m fair. refl)
@@ -56,7 +56,7 @@ loop-again c =
           let o = l .loop .inv .1 n m fair in
           ⊎-elim
           (λ w. reason-read _ (2 * n) _ row _ here f (read .field-at .ensures) _ _ _ o _ (c .before .reads .ensures) (w .0 .taken)
-          (w .2 ∙ w .1 .ensures (2 * n) (room n m f (subst (FairField n m) (sym (read .field-at .ensures)) (fair .each _ here)))))
+          (w .2 ∙ w .1 .ensures (2 * n) (room n m f (subst (FieldInside n m) (sym (read .field-at .ensures)) (fair .each _ here)))))
           (λ w. reason-unread _ (2 * n) _ row _ here f (read .field-at .ensures) _ _ _ o _ (c .before .reads .ensures) (w .0 .left) (w .1))
           (c .if1 .came),
     )

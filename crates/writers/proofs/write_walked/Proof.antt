@@ -5,7 +5,7 @@ use borrow.Author.Needs.{needs}
 use lib.ListN.{length}
 use Rattle.walks.specs.Promise.{bytesLeft}
 use Rattle.walks.proofs.PromiseLaws.{inside, ended}
-use Rattle.tasks.specs.Promise.{lengthOf}
+use Rattle.tasks.specs.Promise.{outputLengthOf}
 use Rattle.tasks.proofs.LengthLaws.{form-given, length-most}
 use Rattle.fixed.specs.Promise.{Lent, BodyPut}
 use Rattle.fixed.proofs.ReadyLaws.{sound, header-fits, few-blocks}
@@ -87,7 +87,7 @@ put-next-requires c κs =
     let l = r .before .loop .inv y in
     let u = turn (y .ready) (past-form-of r .form-of .ensures) (l .walks) (r .«record» .ensures) (c .before .before .before .before .before .read .given .1) in
     let v = (tally-read _ _ _ _ _ _ _ (c .before .before .tallied .ensures) (c .before .before .before .output-length .ensures) (record-long (r .«record» .ensures) (c .before .before .before .before .before .read .given .1))) in
-    (laying-writable (start r .args .out .now) y l u _ v (record-few (y .ready) (r .«record» .ensures) (c .before .before .before .before .before .read .given .1)), (laying-fits (start r .args .out .now) y l u _ v, (r .before .before .before .before .covers .ensures, (c .before .before .before .output-length .ensures ∙ sym (ap (lengthOf (start r .args .task)) (record-long (r .«record» .ensures) (c .before .before .before .before .before .read .given .1))), start r .pre .1))))
+    (laying-writable (start r .args .out .now) y l u _ v (record-few (y .ready) (r .«record» .ensures) (c .before .before .before .before .before .read .given .1)), (laying-fits (start r .args .out .now) y l u _ v, (r .before .before .before .before .covers .ensures, (c .before .before .before .output-length .ensures ∙ sym (ap (outputLengthOf (start r .args .task)) (record-long (r .«record» .ensures) (c .before .before .before .before .before .read .given .1))), start r .pre .1))))
 
 loop-less : tie.Need-loop-less Inv-loop μ-loop
 loop-less c = inside (c .before .before .before .before .before .before .before .before .before .before .«record» .ensures) (c .before .before .before .before .before .before .before .before .read .given .1) .less

@@ -35,13 +35,13 @@ use Rattle.rows.specs.Kept.{rowOf}
 use Rattle.keys.specs.Keys.{joinedOf, keyOf}
 use Rattle.keys.proofs.KeyLaws.{joined-is, key-told}
 use Rattle.cards.specs.declared.Parameters.{Parameters}
-use Rattle.cards.specs.declared.Outside.{Outside}
+use Rattle.cards.specs.declared.OutsideColumns.{OutsideColumns}
 use Rattle.cards.specs.declared.Noted.{Noted}
-use Rattle.cards.specs.declared.Verdict.{Verdict}
-use Rattle.cards.specs.Selected.{Taken, noSelection, withCards}
+use Rattle.cards.specs.declared.CardRefusal.{CardRefusal}
+use Rattle.cards.specs.Selected.{NotedRow, noSelection, withCards}
 use Rattle.cards.specs.Parameters.{hasSeen, givenOf, Notes, NotesOutside}
-use Rattle.cards.specs.Verdict.{isComplete, utilityIn, uOutside, verdict, orNoted, orColumn, limitsOf, verdictOf, askedFor, judgedAs}
-use Rattle.cards.specs.Promise.{Accepts, Reads}
+use Rattle.cards.specs.CardRefusals.{isComplete, utilityIn, uOutside, cardRefusal, orNoted, orColumn, limitsOf, cardRefusalOf, askedFor, judgedAs}
+use Rattle.cards.specs.Promise.{Accepts, DeckAnswered}
 use Rattle.cards.proofs.NotedLaws.{allFields, manyFields, limited}
 use Rattle.cards.proofs.RowLaws.{Holds}
 use Rattle.cards.proofs.ColumnLaws.{cv-column, number-column}
@@ -66,7 +66,7 @@ complete-given p = go (hasSeen p 0) (hasSeen p 1) (hasSeen p 2) (hasSeen p 3) re
 abbrev pub judging : Operands → Cards → Answer RuleAsked
 judging os c = once os c >> (complete (given (c .parameters)) >>= λ u. limits os c u >> fine (record { utility = u; cards = c .items }))
 
-abbrev answerOf : {A : Type 0} → Verdict → A → Answer A
+abbrev answerOf : {A : Type 0} → CardRefusal → A → Answer A
 answerOf v a = cond (eqb (v .number) 0) (fine a) (refusedAt (v .number) (v .place) (v .column))
 
 -- a card that was noted, and a column of the U card that was noted, where 0 is none
@@ -91,14 +91,14 @@ column-noted number (suc c) false e = refl
 
 -- the tests, each as it was noted
 limits-order : {A : Type 0} (over out beyond column : ℕ) (a : A)
-    → ((noted 6 over >> (columnNoted 7 out >> cardNoted 7 beyond column)) >> fine a) ≡ answerOf (orNoted 6 over 0 (orColumn 7 out (orNoted 7 beyond column (verdict 0 0 0)))) a
+    → ((noted 6 over >> (columnNoted 7 out >> cardNoted 7 beyond column)) >> fine a) ≡ answerOf (orNoted 6 over 0 (orColumn 7 out (orNoted 7 beyond column (cardRefusal 0 0 0)))) a
 unfolding _>>_
 limits-order (suc k) out beyond column a = rw (ne-eqb (suc k) 0 (λ q. omega arith))
 limits-order zero (suc k) beyond column a = rw (ne-eqb (suc k) 0 (λ q. omega arith))
 limits-order zero zero (suc k) column a = rw (ne-eqb (suc k) 0 (λ q. omega arith))
 limits-order zero zero zero column a = refl
 
-once-order : {A : Type 0} (twice second column : ℕ) (later : Answer A) (v : Verdict) (a : A) → (twice ≡ 0 → later ≡ answerOf v a)
+once-order : {A : Type 0} (twice second column : ℕ) (later : Answer A) (v : CardRefusal) (a : A) → (twice ≡ 0 → later ≡ answerOf v a)
     → ((columnNoted 4 twice >> cardNoted 4 second column) >> later) ≡ answerOf (orColumn 4 twice (orNoted 4 second column v)) a
 unfolding _>>_
 once-order (suc k) second column later v a h = rw (ne-eqb (suc k) 0 (λ q. omega arith))
@@ -109,8 +109,8 @@ once-order zero zero column later v a h = h refl
 outside-same : {A : Type 0} (f g : A → List Limit) → ((a : A) → f a ≡ g a) → (c : ℕ) (ws : List (Worded A)) → outsideAmong f c ws ≡ outsideAmong g c ws
 outside-same f g h c ws = λ i. outsideAmong (λ a. h a i) c ws
 
-module _ (os : Operands) (p : Parameters) (o : Outside) (ws : List (Worded Parameter)) (t : UText (os .u) (valuesOf ws)) (same : uWords (os .u) ≡ ws)
-    (n : Notes (suc (os .before)) p ws) (nums : NotesOutside (suc (os .before)) o ws) (s : Taken) (is : s ≡ withCards 2 (map fsWords (os .fs)) (noSelection (keyOf (p .input))))
+module _ (os : Operands) (p : Parameters) (o : OutsideColumns) (ws : List (Worded Parameter)) (t : UText (os .u) (valuesOf ws)) (same : uWords (os .u) ≡ ws)
+    (n : Notes (suc (os .before)) p ws) (nums : NotesOutside (suc (os .before)) o ws) (s : NotedRow) (is : s ≡ withCards 2 (map fsWords (os .fs)) (noSelection (keyOf (p .input))))
     (cs : List (List Item)) (b : Both FsText (os .fs) cs) (h : Holds (keyOf (p .input)) s cs) where
   abbrev ps : List Parameter
   ps = valuesOf ws
@@ -140,14 +140,14 @@ module _ (os : Operands) (p : Parameters) (o : Outside) (ws : List (Worded Param
   second-is =
       ap (located (cvColumn [] 2 (os .fs))) (sym (h .tells .twice))
       ∙ card-noted (cvColumn [] 2 (os .fs)) 4 (k .«second_cv») (k .«second_column»)
-      (subst (λ (x : Taken). (x .0 .«second_cv» ≡ 0 → ⊥) → x .0 .«second_column» ≡ cvColumn [] 2 (os .fs) (x .0 .«second_cv»)) (sym is) (cv-column (keyOf (p .input)) (os .fs)))
+      (subst (λ (x : NotedRow). (x .0 .«second_cv» ≡ 0 → ⊥) → x .0 .«second_column» ≡ cvColumn [] 2 (os .fs) (x .0 .«second_cv»)) (sym is) (cv-column (keyOf (p .input)) (os .fs)))
 
   -- refusal 7
   beyond-is : located (fieldColumn 2 (os .fs) cs) (each 7 limited 2 cs) ≡ cardNoted 7 (k .beyond) (k .«beyond_column»)
   beyond-is =
       ap (located (fieldColumn 2 (os .fs) cs)) (sym (h .tells .beyond))
       ∙ card-noted (fieldColumn 2 (os .fs) cs) 7 (k .beyond) (k .«beyond_column»)
-      (subst (λ (x : Taken). (x .0 .beyond ≡ 0 → ⊥) → x .0 .«beyond_column» ≡ fieldColumn 2 (os .fs) cs (x .0 .beyond)) (sym is) (number-column (keyOf (p .input)) (os .fs) cs b))
+      (subst (λ (x : NotedRow). (x .0 .beyond ≡ 0 → ⊥) → x .0 .«beyond_column» ≡ fieldColumn 2 (os .fs) cs (x .0 .beyond)) (sym is) (number-column (keyOf (p .input)) (os .fs) cs b))
 
   parts : UParts (os .u) ws
   parts = subst (UParts (os .u)) same (u-worded (os .u) ps t .0)
@@ -171,19 +171,19 @@ module _ (os : Operands) (p : Parameters) (o : Outside) (ws : List (Worded Param
       ∙ sym (utility-exactly ps u single (complete-fine ps u e)) in
       ap (λ (c : ℕ). located (λ q. c) (unless (utilityLimits u) 7 1)) (column-of (u .format)) ∙ column-noted 7 (uOutside (u .format) o) (utilityLimits u) q
 
-  judging-is : judging os theCards ≡ answerOf (verdictOf p o k) theAsked
-  unfolding once limits limitsOf verdictOf utilityIn _>>=_
+  judging-is : judging os theCards ≡ answerOf (cardRefusalOf p o k) theAsked
+  unfolding once limits limitsOf cardRefusalOf utilityIn _>>=_
   judging-is =
       (λ i. (twice-is i >> second-is i) >> (complete (given ps) >>= rest))
       ∙ once-order (p .twice) (k .«second_cv») (k .«second_column») (complete (given ps) >>= rest)
-      (cond (isComplete p) (orNoted 6 (k .«sixty_fifth») 0 (orColumn 7 (uOutside (formatOf (p .format)) o) (orNoted 7 (k .beyond) (k .«beyond_column») (verdict 0 0 0)))) (verdict 5 1 0)) theAsked
+      (cond (isComplete p) (orNoted 6 (k .«sixty_fifth») 0 (orColumn 7 (uOutside (formatOf (p .format)) o) (orNoted 7 (k .beyond) (k .«beyond_column») (cardRefusal 0 0 0)))) (cardRefusal 5 1 0)) theAsked
       (λ z. go z (isComplete p) refl)
     where
       rest : Utility → Answer RuleAsked
       rest u = limits os theCards u >> fine (record { utility = u; cards = cs })
 
       go : p .twice ≡ 0 → (full : Bool) → isComplete p ≡ full → (complete (given ps) >>= rest)
-          ≡ answerOf (cond (isComplete p) (orNoted 6 (k .«sixty_fifth») 0 (orColumn 7 (uOutside (formatOf (p .format)) o) (orNoted 7 (k .beyond) (k .«beyond_column») (verdict 0 0 0)))) (verdict 5 1 0)) theAsked
+          ≡ answerOf (cond (isComplete p) (orNoted 6 (k .«sixty_fifth») 0 (orColumn 7 (uOutside (formatOf (p .format)) o) (orNoted 7 (k .beyond) (k .«beyond_column») (cardRefusal 0 0 0)))) (cardRefusal 5 1 0)) theAsked
       go z false e =
           let c : complete (given ps) ≡ refused 5 1 = complete-is ∙ ap (λ (x : Bool). cond x (fine (utilityIn p)) (refused 5 1)) e in
           rw (c, e) refl
@@ -246,16 +246,16 @@ module _ (os : Operands) (p : Parameters) (o : Outside) (ws : List (Worded Param
         subst UtilityWithin own (utility-within (s2 .0) .0 (unless-fine _ 7 1 (located-fine _ _ tt (s5 .0)))),
       )
 
-  pub judged-said : (fs : ℕ) → fs ≡ length cs → Reads (judging os theCards) (judgedAs p o k fs) (s .1)
+  pub judged-said : (fs : ℕ) → fs ≡ length cs → DeckAnswered (judging os theCards) (judgedAs p o k fs) (s .1)
   unfolding judgedAs
-  judged-said fs m = go (eqb (verdictOf p o k .number) 0) refl
+  judged-said fs m = go (eqb (cardRefusalOf p o k .number) 0) refl
     where
-      go : (t : Bool) → eqb (verdictOf p o k .number) 0 ≡ t → Reads (judging os theCards) (judgedAs p o k fs) (s .1)
+      go : (t : Bool) → eqb (cardRefusalOf p o k .number) 0 ≡ t → DeckAnswered (judging os theCards) (judgedAs p o k fs) (s .1)
       go true e =
-          let j : judging os theCards ≡ fine theAsked = judging-is ∙ ap (λ (t : Bool). cond t (fine theAsked) (refusedAt (verdictOf p o k .number) (verdictOf p o k .place) (verdictOf p o k .column))) e in
+          let j : judging os theCards ≡ fine theAsked = judging-is ∙ ap (λ (t : Bool). cond t (fine theAsked) (refusedAt (cardRefusalOf p o k .number) (cardRefusalOf p o k .place) (cardRefusalOf p o k .column))) e in
           let g = fair-fields j in
-          subst (λ (x : Answer RuleAsked). Reads x (judgedAs p o k fs) (s .1)) (sym j) (rw e (accepts fs m (g .0) (g .1) (g .2)))
+          subst (λ (x : Answer RuleAsked). DeckAnswered x (judgedAs p o k fs) (s .1)) (sym j) (rw e (accepts fs m (g .0) (g .1) (g .2)))
       go false e =
-          let j : judging os theCards ≡ refusedAt (verdictOf p o k .number) (verdictOf p o k .place) (verdictOf p o k .column)
-          = judging-is ∙ ap (λ (t : Bool). cond t (fine theAsked) (refusedAt (verdictOf p o k .number) (verdictOf p o k .place) (verdictOf p o k .column))) e in
-          subst (λ (x : Answer RuleAsked). Reads x (judgedAs p o k fs) (s .1)) (sym j) (rw e)
+          let j : judging os theCards ≡ refusedAt (cardRefusalOf p o k .number) (cardRefusalOf p o k .place) (cardRefusalOf p o k .column)
+          = judging-is ∙ ap (λ (t : Bool). cond t (fine theAsked) (refusedAt (cardRefusalOf p o k .number) (cardRefusalOf p o k .place) (cardRefusalOf p o k .column))) e in
+          subst (λ (x : Answer RuleAsked). DeckAnswered x (judgedAs p o k fs) (s .1)) (sym j) (rw e)
