@@ -368,7 +368,12 @@ fn none_outside() -> OutsideColumns
 }
 
 // The numbers of one parameter more.
-fn with_numbers(before: OutsideColumns, parameter: UParameter, second: usize, column: usize) -> OutsideColumns
+fn with_numbers(
+    before: OutsideColumns,
+    parameter: UParameter,
+    second: usize,
+    column: usize,
+) -> OutsideColumns
     requires { ⌜ Reaches column 5 × Reaches column second ⌝ }
     ensures { λ r. ⌜ r ≡ withNumbers before parameter second column ⌝ }
 {

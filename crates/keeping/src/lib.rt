@@ -286,12 +286,12 @@ fn block_end(g: usize, outputs: usize) -> usize
 
 // The lowest of the 2n input halves with two or more permitted values from which none of the 2m output halves is taken, or 2n. The walk over the output
 // halves goes on where it last stood, some at a time, so each of them is looked at once in all.
-fn lost_half(marks: &[u8; 8192], sources: &[u16; 8192], n: usize, m: usize) -> usize
-    requires { ⌜ (n ≤ 4096) × (m ≤ 4096) × ((g : ℕ) → g < 2 * m → getD (now sources) g 0 ≤ 8192) ⌝ }
-    ensures { λ r. ⌜ ((ss : List Source) → length ss ≡ 2 * m → Stand (now (sources .entry)) ss → r ≡ lostHalf (permitsIn (now (marks .entry))) ss (2 * n)) ⌝ }
+fn lost_half(marks: &[u8; 8192], sources: &[u16; 8192], n: usize, width: usize) -> usize
+    requires { ⌜ (n ≤ 4096) × (width ≤ 4096) × ((g : ℕ) → g < 2 * width → getD (now sources) g 0 ≤ 8192) ⌝ }
+    ensures { λ r. ⌜ ((ss : List Source) → length ss ≡ 2 * width → Stand (now (sources .entry)) ss → r ≡ lostHalf (permitsIn (now (marks .entry))) ss (2 * n)) ⌝ }
 {
     let inputs = 2 * n;
-    let outputs = 2 * m;
+    let outputs = 2 * width;
     let mut seen = [false; 8192];
     let mut h: usize = 0;
     let mut g = 0;
@@ -326,9 +326,9 @@ fn lost_half(marks: &[u8; 8192], sources: &[u16; 8192], n: usize, m: usize) -> u
 }
 
 // What the fields of a plan do to records of n bytes, which become m bytes.
-pub fn weigh(fields: &[u16], n: usize, m: usize) -> Weighed
-    requires { ⌜ RowInside (now fields) n m ⌝ }
-    ensures { λ r. ⌜ answerOf r ≡ weighedOf zoneF (fieldsIn (now (fields .entry))) n m ⌝ }
+pub fn weigh(fields: &[u16], n: usize, width: usize) -> Weighed
+    requires { ⌜ RowInside (now fields) n width ⌝ }
+    ensures { λ r. ⌜ answerOf r ≡ weighedOf zoneF (fieldsIn (now (fields .entry))) n width ⌝ }
 {
     let mut marks = [0u8; 8192];
     permitted(fields, &mut marks);
@@ -338,7 +338,7 @@ pub fn weigh(fields: &[u16], n: usize, m: usize) -> Weighed
     }
     let mut taken = [0u16; 8192];
     sources(fields, &mut taken);
-    let lost = lost_half(&marks, &taken, n, m);
+    let lost = lost_half(&marks, &taken, n, width);
     if lost < 2 * n {
         return Weighed::Lost { half: lost };
     }

@@ -25,16 +25,16 @@ pub enum Measured {
 }
 
 // The number of the first record taken of which a half is not permitted, or 0: along the walk.
-fn first_walked(task: Task, fields: &[u16], s: &[u8]) -> usize
-    requires { ⌜ Selected task (now fields) (now s) ⌝ }
-    ensures { λ r. ⌜ FirstUnpermitted task (now (fields .entry)) (now (s .entry)) r ⌝ }
+fn first_walked(task: Task, fields: &[u16], reel: &[u8]) -> usize
+    requires { ⌜ Selected task (now fields) (now reel) ⌝ }
+    ensures { λ r. ⌜ FirstUnpermitted task (now (fields .entry)) (now (reel .entry)) r ⌝ }
 {
     let form = tasks::form_of(task);
     let first = task.first;
-    let mut w = walks::taken(form, s, first);
+    let mut w = walks::taken(form, reel, first);
     let mut number = first;
     loop {
-        let read = walks::record(form, s, w);
+        let read = walks::record(form, reel, w);
         match read {
             RecordRead::Record {
                 start,
@@ -43,7 +43,7 @@ fn first_walked(task: Task, fields: &[u16], s: &[u8]) -> usize
                 next,
             } => {
                 let end = start + length;
-                if !values::permitted(fields, &s[start..end]) {
+                if !values::permitted(fields, &reel[start..end]) {
                     return number;
                 }
                 w = next;
@@ -57,15 +57,15 @@ fn first_walked(task: Task, fields: &[u16], s: &[u8]) -> usize
 }
 
 // Whether the output of each record taken fits, and what the output reel measures: along the walk, in a pass that holds three numbers and builds nothing.
-fn measure_walked(task: Task, s: &[u8]) -> Measured
-    requires { ⌜ Measurable task (now s) ⌝ }
-    ensures { λ r. ⌜ Measures task (now (s .entry)) r ⌝ }
+fn measure_walked(task: Task, reel: &[u8]) -> Measured
+    requires { ⌜ Measurable task (now reel) ⌝ }
+    ensures { λ r. ⌜ Measures task (now (reel .entry)) r ⌝ }
 {
     let form = tasks::form_of(task);
     let first = task.first;
     // The least size that a block of B may not have.
     let over = task.limit + 1;
-    let mut walk = walks::taken(form, s, first);
+    let mut walk = walks::taken(form, reel, first);
     let mut number = first;
     let mut tally = Tally {
         blocks: 0,
@@ -73,7 +73,7 @@ fn measure_walked(task: Task, s: &[u8]) -> Measured
         bytes: 0,
     };
     loop {
-        let read = walks::record(form, s, walk);
+        let read = walks::record(form, reel, walk);
         match read {
             RecordRead::Record {
                 start: _,
@@ -106,15 +106,15 @@ fn measure_walked(task: Task, s: &[u8]) -> Measured
 }
 
 // In FF the records taken stand one behind the other, through all blocks.
-fn first_fixed(task: Task, fields: &[u16], s: &[u8]) -> usize
-    requires { ⌜ Selected task (now fields) (now s) ⌝ }
+fn first_fixed(task: Task, fields: &[u16], reel: &[u8]) -> usize
+    requires { ⌜ Selected task (now fields) (now reel) ⌝ }
     requires { ⌜ task .format ≡ Format.FF ⌝ }
-    ensures { λ r. ⌜ FirstUnpermitted task (now (fields .entry)) (now (s .entry)) r ⌝ }
+    ensures { λ r. ⌜ FirstUnpermitted task (now (fields .entry)) (now (reel .entry)) r ⌝ }
 {
     let n = task.n;
     let first = task.first;
-    let from = walks::fixed_start(tasks::form_of(task), s, first);
-    let data = walks::rest(s, from);
+    let from = walks::fixed_start(tasks::form_of(task), reel, first);
+    let data = walks::rest(reel, from);
     let mut at = 0;
     let mut number = first;
     while at < data.len() {
@@ -129,29 +129,29 @@ fn first_fixed(task: Task, fields: &[u16], s: &[u8]) -> usize
 }
 
 // The number of the first record taken of which a half is not permitted, or 0.
-pub fn first_unpermitted(task: Task, fields: &[u16], s: &[u8]) -> usize
-    requires { ⌜ Selected task (now fields) (now s) ⌝ }
-    ensures { λ r. ⌜ FirstUnpermitted task (now (fields .entry)) (now (s .entry)) r ⌝ }
+pub fn first_unpermitted(task: Task, fields: &[u16], reel: &[u8]) -> usize
+    requires { ⌜ Selected task (now fields) (now reel) ⌝ }
+    ensures { λ r. ⌜ FirstUnpermitted task (now (fields .entry)) (now (reel .entry)) r ⌝ }
 {
     let format = task.format;
     match format {
-        Format::FF => first_fixed(task, fields, s),
-        Format::FV => first_walked(task, fields, s),
-        Format::FU => first_walked(task, fields, s),
-        Format::FS => first_walked(task, fields, s),
+        Format::FF => first_fixed(task, fields, reel),
+        Format::FV => first_walked(task, fields, reel),
+        Format::FU => first_walked(task, fields, reel),
+        Format::FS => first_walked(task, fields, reel),
     }
 }
 
 // How many blocks of a reel end behind a place.
-fn blocks_behind(s: &[u8], from: usize) -> usize
-    requires { ⌜ isReel (now s) ≡ true ⌝ }
-    ensures { λ r. ⌜ r ≡ countBehind from (offsets (now (s .entry))) ⌝ }
+fn blocks_behind(reel: &[u8], from: usize) -> usize
+    requires { ⌜ isReel (now reel) ≡ true ⌝ }
+    ensures { λ r. ⌜ r ≡ countBehind from (offsets (now (reel .entry))) ⌝ }
 {
-    let count = pieces::word(s, 0);
+    let count = pieces::word(reel, 0);
     let mut blocks = 0;
     let mut i = 0;
     while i < count {
-        if from < pieces::word(s, 4 * i + 8) {
+        if from < pieces::word(reel, 4 * i + 8) {
             blocks += 1;
         }
         i += 1;
@@ -169,28 +169,28 @@ fn blocks_filled(task: Task, records: usize) -> usize
 }
 
 // In FF: how many blocks the records from a place on make. In TF each input block that ends behind it makes one.
-fn fixed_blocks(task: Task, s: &[u8], from: usize, records: usize) -> usize
-    requires { ⌜ FixedFrom task (now s) from records ⌝ }
-    ensures { λ r. ⌜ FixedBlocks task (now (s .entry)) r ⌝ }
+fn fixed_blocks(task: Task, reel: &[u8], from: usize, records: usize) -> usize
+    requires { ⌜ FixedFrom task (now reel) from records ⌝ }
+    ensures { λ r. ⌜ FixedBlocks task (now (reel .entry)) r ⌝ }
 {
     let mode = task.mode;
     match mode {
         Mode::TC => blocks_filled(task, records),
-        Mode::TF => blocks_behind(s, from),
+        Mode::TF => blocks_behind(reel, from),
         Mode::TR => blocks_filled(task, records),
         Mode::TRF => blocks_filled(task, records),
     }
 }
 
 // In FF each output fits, and all have one length: the measure is found by dividing.
-fn measure_fixed(task: Task, s: &[u8]) -> Measured
-    requires { ⌜ Measurable task (now s) ⌝ }
+fn measure_fixed(task: Task, reel: &[u8]) -> Measured
+    requires { ⌜ Measurable task (now reel) ⌝ }
     requires { ⌜ task .format ≡ Format.FF ⌝ }
-    ensures { λ r. ⌜ Measures task (now (s .entry)) r ⌝ }
+    ensures { λ r. ⌜ Measures task (now (reel .entry)) r ⌝ }
 {
-    let from = walks::fixed_start(tasks::form_of(task), s, task.first);
-    let records = walks::rest(s, from).len() / task.n;
-    let blocks = fixed_blocks(task, s, from, records);
+    let from = walks::fixed_start(tasks::form_of(task), reel, task.first);
+    let records = walks::rest(reel, from).len() / task.n;
+    let blocks = fixed_blocks(task, reel, from, records);
     let words = 4 * blocks;
     let header = words + 8;
     let data = records * task.width;
@@ -203,15 +203,15 @@ fn measure_fixed(task: Task, s: &[u8]) -> Measured
 }
 
 // Whether the output of each record taken fits, and what the output reel measures.
-pub fn measure(task: Task, s: &[u8]) -> Measured
-    requires { ⌜ Measurable task (now s) ⌝ }
-    ensures { λ r. ⌜ Measures task (now (s .entry)) r ⌝ }
+pub fn measure(task: Task, reel: &[u8]) -> Measured
+    requires { ⌜ Measurable task (now reel) ⌝ }
+    ensures { λ r. ⌜ Measures task (now (reel .entry)) r ⌝ }
 {
     let format = task.format;
     match format {
-        Format::FF => measure_fixed(task, s),
-        Format::FV => measure_walked(task, s),
-        Format::FU => measure_walked(task, s),
-        Format::FS => measure_walked(task, s),
+        Format::FF => measure_fixed(task, reel),
+        Format::FV => measure_walked(task, reel),
+        Format::FU => measure_walked(task, reel),
+        Format::FS => measure_walked(task, reel),
     }
 }

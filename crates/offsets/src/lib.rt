@@ -50,18 +50,18 @@ fn put_end(
 }
 
 // TF: a block for each input block that ends behind a place.
-pub fn put_each(n: usize, w: usize, s: &[u8], from: usize, base: usize, out: &mut [u8])
-    requires { ⌜ isReel (now s) ≡ true ⌝ }
+pub fn put_each(n: usize, w: usize, reel: &[u8], from: usize, base: usize, out: &mut [u8])
+    requires { ⌜ isReel (now reel) ≡ true ⌝ }
     requires { ⌜ EachSmall n w base ⌝ }
-    requires { ⌜ 4 + length (word base ++ endsBehind n w from base (offsets (now s))) ≤ length (now out) ⌝ }
-    ensures { λ _. ⌜ now (out .exit) ≡ over 4 (word base ++ endsBehind n w from base (offsets (now (s .entry)))) (now (out .entry)) ⌝ }
+    requires { ⌜ 4 + length (word base ++ endsBehind n w from base (offsets (now reel))) ≤ length (now out) ⌝ }
+    ensures { λ _. ⌜ now (out .exit) ≡ over 4 (word base ++ endsBehind n w from base (offsets (now (reel .entry)))) (now (out .entry)) ⌝ }
 {
     pieces::put_word(out, 4, base);
-    let count = pieces::word(s, 0);
+    let count = pieces::word(reel, 0);
     let mut at = 8;
     let mut i = 0;
     while i < count {
-        let end = pieces::word(s, 4 * i + 8);
+        let end = pieces::word(reel, 4 * i + 8);
         at = put_end(n, w, from, base, end, at, out);
         i += 1;
     }

@@ -19,12 +19,12 @@ use Rattle.rows.specs.Kept.{rowOf}
 use Rattle.plans.specs.Verdict.{planned, markOf, SaysAsked, SaysSome}
 use Rattle.plans.proofs.VerdictLaws.{fields-same, plan-same}
 use Rattle.cards.specs.Promise.{nothingAsked}
-use Rattle.plans.specs.Promise.{plannedOf, refusedDeck, plannedBy, HoldsPlan, HoldsFor, Plans}
+use Rattle.plans.specs.Promise.{plannedOf, refusedDeckPlan, plannedBy, HoldsPlan, HoldsFor, Plans}
 use Rattle.plans.specs.declared.DeckPlan.{DeckPlan}
 
 -- ---- a deck that is refused by 1 to 7
 
-pub refused-deck : (deck : List ℕ) (q : Refusal) (row : List ℕ) → askedOf deck ≡ refuse q → row ≡ rowOf [] → Plans deck (refusedDeck (q .number) (q .place) (q .column)) row
+pub refused-deck : (deck : List ℕ) (q : Refusal) (row : List ℕ) → askedOf deck ≡ refuse q → row ≡ rowOf [] → Plans deck (refusedDeckPlan (q .number) (q .place) (q .column)) row
 unfolding plan
 refused-deck deck q row e none =
     let r = deck-refused zoneF deck q e in

@@ -14,7 +14,7 @@ use Rattle.cards.specs.Promise.{Accepts, DeckSays}
 use Rattle.cards.proofs.PromiseLaws.{accepted, refused-as}
 use Rattle.cards.specs.declared.DeckRead.{DeckRead}
 use Rattle.plans.specs.Verdict.{SaysSome}
-use Rattle.plans.specs.Promise.{refusedDeck, Verdicts, Plans}
+use Rattle.plans.specs.Promise.{refusedDeckPlan, Verdicts, Plans}
 use Rattle.plans.specs.declared.DeckPlan.{DeckPlan}
 use Rattle.plans.proofs.DeckLaws.{refused-deck, says, judgeable, asked-kept, asked-refused}
 
@@ -23,7 +23,7 @@ front : (d : DeckRead) (row : List ℕ) (a : RuleAsked) → Accepts d row a → 
 front d row a h = ap (take (5 * d .asked .count)) (h .fields) ∙ flat-front (laidFields a) (5 * d .asked .count) (ap (λ (n : ℕ). 5 * n) (many-laid (d .asked) a (h .means)))
 
 module _ (deck : List ℕ) (d : DeckRead) (row : List ℕ) (reads-of : DeckSays deck d row) where
-  pub refused-read : (d .refusal ≡ 0 → ⊥) → Plans deck (refusedDeck (d .refusal) (d .place) (d .column)) row
+  pub refused-read : (d .refusal ≡ 0 → ⊥) → Plans deck (refusedDeckPlan (d .refusal) (d .place) (d .column)) row
   refused-read h = refused-deck deck (record { number = d .refusal; place = d .place; column = d .column }) row (refused-as deck d row (reads-of .reads) h) (reads-of .none h)
 
   module _ (z : d .refusal ≡ 0) where

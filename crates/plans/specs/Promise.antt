@@ -35,8 +35,8 @@ refusedPlan number place column = record { refusal = number; place = place; colu
 
 -- ---- the plan of a deck
 
-abbrev pub refusedDeck : ℕ → ℕ → ℕ → DeckPlan
-refusedDeck number place column = record { answer = refusedPlan number place column; asked = nothingAsked }
+abbrev pub refusedDeckPlan : ℕ → ℕ → ℕ → DeckPlan
+refusedDeckPlan number place column = record { answer = refusedPlan number place column; asked = nothingAsked }
 
 abbrev pub keptAs : Asked → ℕ → ℕ → DeckPlan
 keptAs x keeping lost = record { answer = record { refusal = 0; place = 0; column = 0; keeping = keeping; lost = lost; fields = x .count }; asked = x }
@@ -44,7 +44,7 @@ keptAs x keeping lost = record { answer = record { refusal = 0; place = 0; colum
 -- the verdict on what a deck asks for, with the plan: its refusal, or the mark of keeping and the lost place
 abbrev pub plannedBy : Asked → Answer (ℕ × ℕ) → DeckPlan
 plannedBy x (fine n) = keptAs x (n .0) (n .1)
-plannedBy x (refuse r) = refusedDeck (r .number) (r .place) (r .column)
+plannedBy x (refuse r) = refusedDeckPlan (r .number) (r .place) (r .column)
 
 unfoldable pub Verdicts : Asked → List ℕ → DeckPlan → Type 0
 Verdicts x row r = (a : RuleAsked) → SaysAsked x row a → r ≡ plannedBy x (markOf (planned zoneF a))

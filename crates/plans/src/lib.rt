@@ -14,7 +14,7 @@ ghost use Rattle.terms.specs.Meaning.{fieldOf, entryFor};
 ghost use Rattle.rows.specs.Kept.{fieldsIn, rowOf};
 ghost use Rattle.combinations.specs.Promise.{FieldFair, FieldsFair};
 ghost use Rattle.plans.specs.Verdict.{SaysSome};
-ghost use Rattle.plans.specs.Promise.{refusedPlan, refusedDeck, keptAs, Verdicts, Plans, OfDeck, partOnCard, placeOnCard, onCard, tableOf, notFilled, filledFor};
+ghost use Rattle.plans.specs.Promise.{refusedPlan, refusedDeckPlan, keptAs, Verdicts, Plans, OfDeck, partOnCard, placeOnCard, onCard, tableOf, notFilled, filledFor};
 
 // What a plan answers: refusal, place, column, 1 for keeping or 0, lost place or 0, field count. In C it lies as it stands here.
 #[repr(C)]
@@ -50,7 +50,7 @@ pub struct DeckPlan {
 }
 
 fn refused_deck(number: usize, place: usize, column: usize) -> DeckPlan
-    ensures { λ r. ⌜ r ≡ refusedDeck number place column ⌝ }
+    ensures { λ r. ⌜ r ≡ refusedDeckPlan number place column ⌝ }
 {
     let answer = refused(number, place, column);
     let asked = cards::nothing_asked();

@@ -53,11 +53,11 @@ module _ (xs : List ℕ) (covered i : ℕ) (known : Reaching xs covered i) where
       ∙ ap (λ (k : ℕ). reachOf k (drop (i + 1) fs))
       (ap (λ (o : ℕ). fartherOf (fieldAt xs i .t - 1) o covered) (sym (output-of-row fs flat i l)) ∙ ap (λ (g : Field). fartherOf (g .t - 1) (g .output) covered) (sym e) ∙ sym q)
 
-  pub reach-end : length xs ≤ 5 * i + 4 → (m : ℕ) → Covers xs m (leb m covered)
+  pub reach-end : length xs ≤ 5 * i + 4 → (width : ℕ) → Covers xs width (leb width covered)
   unfolding Covers
-  reach-end l m fs flat =
+  reach-end l width fs flat =
       let all : length fs ≤ i = omega (arith, fields-many fs flat) in
-      ap (leb m) (sym (known fs flat ∙ ap (reachOf covered) (drop-of-length-le fs all)))
+      ap (leb width) (sym (known fs flat ∙ ap (reachOf covered) (drop-of-length-le fs all)))
 
 -- ---- two outputs with the same fields over them
 
@@ -87,46 +87,46 @@ module _ (to : ℕ) (v x y : List ℕ) (rx : to + length v ≤ length x) (ry : t
       behind : to ≤ g → getD (over to v x) g 0 ≡ getD (over to v y) g 0
       behind b = elim (decLe (to + length v) g) [ yes l ↦ after l | no l ↦ inside b (omega arith) ]
 
-module _ (a m : ℕ) (r : List ℕ) (long : a ≤ length r) where
-  agree-written : (fs : List RuleField) (x y : List ℕ) (covered : ℕ) → All (Fits a m) fs → length x ≡ m → length y ≡ m → Agree covered x y
+module _ (a width : ℕ) (r : List ℕ) (long : a ≤ length r) where
+  agree-written : (fs : List RuleField) (x y : List ℕ) (covered : ℕ) → All (Fits a width) fs → length x ≡ width → length y ≡ width → Agree covered x y
       → Agree (reachOf covered fs) (writtenBytes zoneF fs r x) (writtenBytes zoneF fs r y)
   agree-written [] x y covered noMore lx ly same = same
   agree-written (f ∷ fs) x y covered (also h hs) lx ly same =
       let v = fieldBytes zoneF f r in
-      let rx = field-room zoneF a m r long f x h lx in
-      let ry = field-room zoneF a m r long f y h ly in
+      let rx = field-room zoneF a width r long f x h lx in
+      let ry = field-room zoneF a width r long f y h ly in
       let size : fartherOf (f .t - 1) (length v) covered ≡ fartherOf (f .t - 1) (outputSize (f .kind)) covered =
-      ap (λ (o : ℕ). fartherOf (f .t - 1) o covered) (length-fieldBytes zoneF a m r long f h)
+      ap (λ (o : ℕ). fartherOf (f .t - 1) o covered) (length-fieldBytes zoneF a width r long f h)
       in
       agree-written fs (over (f .t - 1) v x) (over (f .t - 1) v y) _ hs (length-over (f .t - 1) v x rx ∙ lx) (length-over (f .t - 1) v y ry ∙ ly)
       (subst (λ (n : ℕ). Agree n (over (f .t - 1) v x) (over (f .t - 1) v y)) size (agree-over (f .t - 1) v x y rx ry covered same))
 
   -- where they reach the end, it is all the same what they are written over
-  pub covered-same : (fs : List RuleField) (x y : List ℕ) → All (Fits a m) fs → length x ≡ m → length y ≡ m → m ≤ reachOf 0 fs
+  pub covered-same : (fs : List RuleField) (x y : List ℕ) → All (Fits a width) fs → length x ≡ width → length y ≡ width → width ≤ reachOf 0 fs
       → writtenBytes zoneF fs r x ≡ writtenBytes zoneF fs r y
   covered-same fs x y h lx ly far =
-      let many : length (writtenBytes zoneF fs r x) ≡ m = length-writtenBytes zoneF a m r long fs x h lx in
-      ext-getD 0 _ _ (many ∙ sym (length-writtenBytes zoneF a m r long fs y h ly))
+      let many : length (writtenBytes zoneF fs r x) ≡ width = length-writtenBytes zoneF a width r long fs x h lx in
+      ext-getD 0 _ _ (many ∙ sym (length-writtenBytes zoneF a width r long fs y h ly))
       (λ g l. agree-written fs x y 0 h lx ly (λ k b. absurd (not-suc-le-zero b)) g (omega arith))
 
 -- ---- the ground
 
-pub ground-blank : (m : ℕ) (old front : List ℕ) → front ≡ replicate m 0x40 → front ++ drop m old ≡ groundOf m false old
+pub ground-blank : (width : ℕ) (old front : List ℕ) → front ≡ replicate width 0x40 → front ++ drop width old ≡ groundOf width false old
 unfolding groundOf
-ground-blank m old front e = ap (λ (x : List ℕ). x ++ drop m old) e
+ground-blank width old front e = ap (λ (x : List ℕ). x ++ drop width old) e
 
-pub ground-stays : (m : ℕ) (old : List ℕ) → old ≡ groundOf m true old
+pub ground-stays : (width : ℕ) (old : List ℕ) → old ≡ groundOf width true old
 unfolding groundOf
-ground-stays m old = refl
+ground-stays width old = refl
 
 -- the fields over the ground are the fields over blanks
-pub grounded : (xs : List ℕ) (n m : ℕ) (covered : Bool) (r old : List ℕ) → n ≤ length r → m ≤ length old → Covers xs m covered → (fs : List RuleField) → FlatFair xs fs n m
-    → writtenBytes zoneF fs r (groundOf m covered old) ≡ writtenBytes zoneF fs r (replicate m 0x40) ++ drop m old
+pub grounded : (xs : List ℕ) (n width : ℕ) (covered : Bool) (r old : List ℕ) → n ≤ length r → width ≤ length old → Covers xs width covered → (fs : List RuleField) → FlatFair xs fs n width
+    → writtenBytes zoneF fs r (groundOf width covered old) ≡ writtenBytes zoneF fs r (replicate width 0x40) ++ drop width old
 unfolding groundOf Covers
-grounded xs n m false r old long room told fs fair = written-rest zoneF n m r long fs (replicate m 0x40) (drop m old) (fair .fits) (length-replicate {A = ℕ} m 0x40)
-grounded xs n m true r old long room told fs fair =
-    let front : length (take m old) ≡ m = length-take-le m old room in
-    ap (writtenBytes zoneF fs r) (sym (take-append-drop m old))
-    ∙ written-rest zoneF n m r long fs (take m old) (drop m old) (fair .fits) front
-    ∙ ap (λ (x : List ℕ). x ++ drop m old)
-    (covered-same n m r long fs (take m old) (replicate m 0x40) (fair .fits) front (length-replicate {A = ℕ} m 0x40) (leb-true m (reachOf 0 fs) (sym (told fs (fair .flat)))))
+grounded xs n width false r old long room told fs fair = written-rest zoneF n width r long fs (replicate width 0x40) (drop width old) (fair .fits) (length-replicate {A = ℕ} width 0x40)
+grounded xs n width true r old long room told fs fair =
+    let front : length (take width old) ≡ width = length-take-le width old room in
+    ap (writtenBytes zoneF fs r) (sym (take-append-drop width old))
+    ∙ written-rest zoneF n width r long fs (take width old) (drop width old) (fair .fits) front
+    ∙ ap (λ (x : List ℕ). x ++ drop width old)
+    (covered-same n width r long fs (take width old) (replicate width 0x40) (fair .fits) front (length-replicate {A = ℕ} width 0x40) (leb-true width (reachOf 0 fs) (sym (told fs (fair .flat)))))

@@ -19,10 +19,10 @@ use Rattle.records.proofs.CoverLaws.{covered-same}
 -- ---- fields that cover the output
 
 -- where the fields cover the output, it is all the same what they are written over
-pub covers-all : (xs : List ℕ) (n m : ℕ) (r x y : List ℕ) → n ≤ length r → Covers xs m true → (fs : List Field) → FlatFair xs fs n m → length x ≡ m → length y ≡ m
+pub covers-all : (xs : List ℕ) (n width : ℕ) (r x y : List ℕ) → n ≤ length r → Covers xs width true → (fs : List Field) → FlatFair xs fs n width → length x ≡ width → length y ≡ width
     → writtenBytes zoneF fs r x ≡ writtenBytes zoneF fs r y
 unfolding Covers
-covers-all xs n m r x y long h fs fair lx ly = covered-same n m r long fs x y (fair .fits) lx ly (leb-true m (reachOf 0 fs) (sym (h fs (fair .flat))))
+covers-all xs n width r x y long h fs fair lx ly = covered-same n width r long fs x y (fair .fits) lx ly (leb-true width (reachOf 0 fs) (sym (h fs (fair .flat))))
 
 -- ---- what the rules say
 
@@ -36,15 +36,15 @@ unfolding Puts
 puts-of p xs r old new z fair h = h (p .fields) fair ∙ ap (λ (v : List ℕ). over 0 v old) (selected-of p r z)
 
 -- B's n bytes, and with CV the data past A's n
-pub bytes-size : {xs : List ℕ} {n m : ℕ} {fs : List Field} → FlatFair xs fs n m → (c : Bool) (r : List ℕ) → n ≤ length r → length (outBytes n m fs c r) ≡ m + cond c (length r - n) 0
+pub bytes-size : {xs : List ℕ} {n width : ℕ} {fs : List Field} → FlatFair xs fs n width → (c : Bool) (r : List ℕ) → n ≤ length r → length (outBytes n width fs c r) ≡ width + cond c (length r - n) 0
 unfolding outBytes
-bytes-size {n = n} {m} {fs} fair c r long =
-    length-append (bytes (outHalves zoneF value m fs (halves (take n r)))) (cond {A = List ℕ} c (drop n r) []) ∙ ap₂ (λ (i j : ℕ). i + j) size (tail c)
+bytes-size {n = n} {width} {fs} fair c r long =
+    length-append (bytes (outHalves zoneF value width fs (halves (take n r)))) (cond {A = List ℕ} c (drop n r) []) ∙ ap₂ (λ (i j : ℕ). i + j) size (tail c)
   where
-    size : length (bytes (outHalves zoneF value m fs (halves (take n r)))) ≡ m
+    size : length (bytes (outHalves zoneF value width fs (halves (take n r)))) ≡ width
     size =
-        ap length (out-bytes zoneF n m r long fs (fair .fits))
-        ∙ length-writtenBytes zoneF n m r long fs (replicate m 0x40) (fair .fits) (length-replicate {A = ℕ} m 0x40)
+        ap length (out-bytes zoneF n width r long fs (fair .fits))
+        ∙ length-writtenBytes zoneF n width r long fs (replicate width 0x40) (fair .fits) (length-replicate {A = ℕ} width 0x40)
 
     tail : (c : Bool) → length (cond {A = List ℕ} c (drop n r) []) ≡ cond {A = ℕ} c (length r - n) 0
     tail true = length-drop n r
@@ -52,14 +52,14 @@ bytes-size {n = n} {m} {fs} fair c r long =
 
 -- ---- one outcome only
 
-pub covers-only-one : (fs : List Field) (m : ℕ) (x y : Bool) → Covers (flatOf fs) m x → Covers (flatOf fs) m y → x ≡ y
+pub covers-only-one : (fs : List Field) (width : ℕ) (x y : Bool) → Covers (flatOf fs) width x → Covers (flatOf fs) width y → x ≡ y
 unfolding Covers
-covers-only-one fs m x y h g = h fs refl ∙ sym (g fs refl)
+covers-only-one fs width x y h g = h fs refl ∙ sym (g fs refl)
 
-pub put-only-one : (xs : List ℕ) (n m : ℕ) (carries : Bool) (r old : List ℕ) → Fielded xs n m → (x y : List ℕ) → Puts xs n m carries r old x → Puts xs n m carries r old y → x ≡ y
+pub put-only-one : (xs : List ℕ) (n width : ℕ) (carries : Bool) (r old : List ℕ) → Fielded xs n width → (x y : List ℕ) → Puts xs n width carries r old x → Puts xs n width carries r old y → x ≡ y
 unfolding Puts
-put-only-one xs n m carries r old k x y h g = h (k .fields) (k .fair) ∙ sym (g (k .fields) (k .fair))
+put-only-one xs n width carries r old k x y h g = h (k .fields) (k .fair) ∙ sym (g (k .fields) (k .fair))
 
-pub fields-only-one : (xs : List ℕ) (n m : ℕ) (r old : List ℕ) → Fielded xs n m → (x y : List ℕ) → FieldsWritten xs r old x → FieldsWritten xs r old y → x ≡ y
+pub fields-only-one : (xs : List ℕ) (n width : ℕ) (r old : List ℕ) → Fielded xs n width → (x y : List ℕ) → FieldsWritten xs r old x → FieldsWritten xs r old y → x ≡ y
 unfolding FieldsWritten
-fields-only-one xs n m r old k x y h g = h (k .fields) (k .fair .flat) ∙ sym (g (k .fields) (k .fair .flat))
+fields-only-one xs n width r old k x y h g = h (k .fields) (k .fair .flat) ∙ sym (g (k .fields) (k .fair .flat))

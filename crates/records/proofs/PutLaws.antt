@@ -159,37 +159,37 @@ fields-wider a′ b′ h k x =
     record { fields = x .fields; fair = record { flat = x .fair .flat; fits = all-imply (fits-wider a′ b′ h k) (x .fair .fits); sizes = x .fair .sizes } }
 
 -- with CV the tail has room
-pub tail-room : (carries : Bool) (m k l : ℕ) → carries ≡ true → m + cond carries k 0 ≤ l → m + k ≤ l
-tail-room carries m k l e h = subst (λ (c : Bool). m + cond c k 0 ≤ l) e h
+pub tail-room : (carries : Bool) (width k l : ℕ) → carries ≡ true → width + cond carries k 0 ≤ l → width + k ≤ l
+tail-room carries width k l e h = subst (λ (c : Bool). width + cond c k 0 ≤ l) e h
 
 -- B's n bytes of hex 40, the fields over them, and what lay behind them
-module _ (xs : List ℕ) (n m : ℕ) (covered : Bool) (r old base new : List ℕ) (long : n ≤ length r) (room : m ≤ length old) (told : Covers xs m covered) (laid : base ≡ groundOf m covered old) (w : FieldsWritten xs r base new) where
-  length-fixed : (fs : List RuleField) → FlatFair xs fs n m → length (writtenBytes zoneF fs r (replicate m 0x40)) ≡ m
-  length-fixed fs fair = length-writtenBytes zoneF n m r long fs (replicate m 0x40) (fair .fits) (length-replicate {A = ℕ} m 0x40)
+module _ (xs : List ℕ) (n width : ℕ) (covered : Bool) (r old base new : List ℕ) (long : n ≤ length r) (room : width ≤ length old) (told : Covers xs width covered) (laid : base ≡ groundOf width covered old) (w : FieldsWritten xs r base new) where
+  length-fixed : (fs : List RuleField) → FlatFair xs fs n width → length (writtenBytes zoneF fs r (replicate width 0x40)) ≡ width
+  length-fixed fs fair = length-writtenBytes zoneF n width r long fs (replicate width 0x40) (fair .fits) (length-replicate {A = ℕ} width 0x40)
 
-  put-fixed : (fs : List RuleField) → FlatFair xs fs n m → new ≡ over 0 (bytes (outHalves zoneF value m fs (halves (take n r)))) old
+  put-fixed : (fs : List RuleField) → FlatFair xs fs n width → new ≡ over 0 (bytes (outHalves zoneF value width fs (halves (take n r)))) old
   unfolding FieldsWritten
   put-fixed fs fair =
       w fs (fair .flat)
       ∙ ap (writtenBytes zoneF fs r) laid
-      ∙ grounded xs n m covered r old long room told fs fair
-      ∙ front-over m old (writtenBytes zoneF fs r (replicate m 0x40)) (length-fixed fs fair)
-      ∙ ap (λ (x : List ℕ). over 0 x old) (sym (out-bytes zoneF n m r long fs (fair .fits)))
+      ∙ grounded xs n width covered r old long room told fs fair
+      ∙ front-over width old (writtenBytes zoneF fs r (replicate width 0x40)) (length-fixed fs fair)
+      ∙ ap (λ (x : List ℕ). over 0 x old) (sym (out-bytes zoneF n width r long fs (fair .fits)))
 
   -- without CV
-  pub put-alone : Puts xs n m false r old new
+  pub put-alone : Puts xs n width false r old new
   unfolding Puts outBytes
-  put-alone fs fair = put-fixed fs fair ∙ ap (λ (x : List ℕ). over 0 x old) (sym (append-nil (bytes (outHalves zoneF value m fs (halves (take n r))))))
+  put-alone fs fair = put-fixed fs fair ∙ ap (λ (x : List ℕ). over 0 x old) (sym (append-nil (bytes (outHalves zoneF value width fs (halves (take n r))))))
 
   -- with CV the tail stands behind
-  pub put-tail : (s part tail : List ℕ) → s ≡ drop n r → length part ≡ length r - n → tail ≡ over 0 s part → m + (length r - n) ≤ length old
-      → Puts xs n m true r old (putMid m (m + (length r - n) - m) new tail)
+  pub put-tail : (s part tail : List ℕ) → s ≡ drop n r → length part ≡ length r - n → tail ≡ over 0 s part → width + (length r - n) ≤ length old
+      → Puts xs n width true r old (putMid width (width + (length r - n) - width) new tail)
   unfolding Puts outBytes
   put-tail s part tail e k q more fs fair =
-      let fixed : List ℕ = bytes (outHalves zoneF value m fs (halves (take n r))) in
-      let size : length fixed ≡ m = ap length (out-bytes zoneF n m r long fs (fair .fits)) ∙ length-fixed fs fair in
+      let fixed : List ℕ = bytes (outHalves zoneF value width fs (halves (take n r))) in
+      let size : length fixed ≡ width = ap length (out-bytes zoneF n width r long fs (fair .fits)) ∙ length-fixed fs fair in
       let many : length s ≡ length r - n = ap length e ∙ length-drop n r in
       let is : tail ≡ drop n r = q ∙ over-whole s part (omega arith) ∙ e in
-      part-over m (length r - n) new tail (ap length is ∙ length-drop n r)
-      ∙ ap₂ (λ (x y : List ℕ). over m x y) is (put-fixed fs fair)
-      ∙ over-behind 0 m fixed (drop n r) old (omega arith) (omega (arith, length-drop n r))
+      part-over width (length r - n) new tail (ap length is ∙ length-drop n r)
+      ∙ ap₂ (λ (x y : List ℕ). over width x y) is (put-fixed fs fair)
+      ∙ over-behind 0 width fixed (drop n r) old (omega arith) (omega (arith, length-drop n r))

@@ -23,18 +23,18 @@ abbrev pub reachOf : ℕ → List Field → ℕ
 reachOf covered [] = covered
 reachOf covered (f ∷ fs) = reachOf (fartherOf (f .t - 1) (outputSize (f .kind)) covered) fs
 
--- whether they reach the end of a record of m bytes
+-- whether they reach the end of a record of width bytes
 unfoldable pub Covers : List ℕ → ℕ → Bool → Type 0
-Covers xs m x = (fs : List Field) → xs ≡ flatOf fs → x ≡ leb m (reachOf 0 fs)
+Covers xs width x = (fs : List Field) → xs ≡ flatOf fs → x ≡ leb width (reachOf 0 fs)
 
--- what the fields are written over: m bytes of hex 40, unless the fields cover them
+-- what the fields are written over: width bytes of hex 40, unless the fields cover them
 unfoldable pub groundOf : ℕ → Bool → List ℕ → List ℕ
-groundOf m covered old = cond covered old (replicate m 0x40 ++ drop m old)
+groundOf width covered old = cond covered old (replicate width 0x40 ++ drop width old)
 
 -- B's n bytes of hex 40, then the fields; with CV the input's data past A's n follows
 unfoldable pub outBytes : ℕ → ℕ → List Field → Bool → List ℕ → List ℕ
-outBytes n m fs carries r = bytes (outHalves zoneF value m fs (halves (take n r))) ++ cond carries (drop n r) []
+outBytes n width fs carries r = bytes (outHalves zoneF value width fs (halves (take n r))) ++ cond carries (drop n r) []
 
 -- the output record stands at the front of the lent output, and bytes past it stay
 unfoldable pub Puts : List ℕ → ℕ → ℕ → Bool → List ℕ → List ℕ → List ℕ → Type 0
-Puts xs n m carries r old new = (fs : List Field) → FlatFair xs fs n m → new ≡ over 0 (outBytes n m fs carries r) old
+Puts xs n width carries r old new = (fs : List Field) → FlatFair xs fs n width → new ≡ over 0 (outBytes n width fs carries r) old

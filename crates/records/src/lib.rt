@@ -88,10 +88,10 @@ fn farther(f: Field, covered: usize) -> usize
     past
 }
 
-// Whether the fields, taken in their order, cover an output record of m bytes from its first byte on, so that no blank stays. A gap that a later
+// Whether the fields, taken in their order, cover an output record of width bytes from its first byte on, so that no blank stays. A gap that a later
 // field fills is taken for one: blanks are then put for nothing.
-pub fn covers(fields: &[u16], m: usize) -> bool
-    ensures { λ r. ⌜ Covers (now (fields .entry)) m r ⌝ }
+pub fn covers(fields: &[u16], width: usize) -> bool
+    ensures { λ r. ⌜ Covers (now (fields .entry)) width r ⌝ }
 {
     let count = fields.len() / 5;
     let mut covered = 0;
@@ -100,16 +100,16 @@ pub fn covers(fields: &[u16], m: usize) -> bool
         covered = farther(rows::field_at(fields, i), covered);
         i += 1;
     }
-    m <= covered
+    width <= covered
 }
 
 // Lays the blanks that the fields are written over, unless the fields cover them all.
-fn put_ground(m: usize, covered: bool, out: &mut [u8])
-    requires { ⌜ m ≤ length (now out) ⌝ }
-    ensures { λ _. ⌜ now (out .exit) ≡ groundOf m covered (now (out .entry)) ⌝ }
+fn put_ground(width: usize, covered: bool, out: &mut [u8])
+    requires { ⌜ width ≤ length (now out) ⌝ }
+    ensures { λ _. ⌜ now (out .exit) ≡ groundOf width covered (now (out .entry)) ⌝ }
 {
     if !covered {
-        put_blanks(&mut out[..m]);
+        put_blanks(&mut out[..width]);
     }
 }
 
@@ -117,23 +117,23 @@ fn put_ground(m: usize, covered: bool, out: &mut [u8])
 pub fn put_record(
     fields: &[u16],
     n: usize,
-    m: usize,
+    width: usize,
     carries: bool,
     covered: bool,
     record: &[u8],
     out: &mut [u8],
 )
-    requires { ⌜ Fielded (now fields) n m ⌝ }
+    requires { ⌜ Fielded (now fields) n width ⌝ }
     requires { ⌜ n ≤ length (now «record») ⌝ }
-    requires { ⌜ m + cond carries (length (now «record») - n) 0 ≤ length (now out) ⌝ }
-    requires { ⌜ Covers (now fields) m covered ⌝ }
+    requires { ⌜ width + cond carries (length (now «record») - n) 0 ≤ length (now out) ⌝ }
+    requires { ⌜ Covers (now fields) width covered ⌝ }
     requires { ⌜ length (now «record») ≤ 65536 ⌝ }
-    ensures { λ _. ⌜ Puts (now (fields .entry)) n m carries (now («record» .entry)) (now (out .entry)) (now (out .exit)) ⌝ }
+    ensures { λ _. ⌜ Puts (now (fields .entry)) n width carries (now («record» .entry)) (now (out .entry)) (now (out .exit)) ⌝ }
 {
-    put_ground(m, covered, out);
+    put_ground(width, covered, out);
     put_fields(fields, record, out);
     if carries {
-        let end = m + (record.len() - n);
-        copies::copy(&record[n..], &mut out[m..end]);
+        let end = width + (record.len() - n);
+        copies::copy(&record[n..], &mut out[width..end]);
     }
 }

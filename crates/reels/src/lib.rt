@@ -20,28 +20,28 @@ pub enum HeaderRead {
 }
 
 // Whether s is a reel, and of how many blocks: every offset is looked at once.
-pub fn header(s: &[u8]) -> HeaderRead
-    ensures { λ r. ⌜ r ≡ headerOf (now (s .entry)) ⌝ }
+pub fn header(reel: &[u8]) -> HeaderRead
+    ensures { λ r. ⌜ r ≡ headerOf (now (reel .entry)) ⌝ }
 {
-    let end = s.len();
+    let end = reel.len();
     if end > 65536 {
         return HeaderRead::NoReel;
     }
     if end < 8 {
         return HeaderRead::NoReel;
     }
-    let count = pieces::word(s, 0);
+    let count = pieces::word(reel, 0);
     // The count may be any 32-bit number: it is compared before it is multiplied.
     if count > (end - 8) / 4 {
         return HeaderRead::NoReel;
     }
-    let mut a = pieces::word(s, 4);
+    let mut a = pieces::word(reel, 4);
     if a != 4 * count + 8 {
         return HeaderRead::NoReel;
     }
     let mut i = 0;
     while i < count {
-        let b = pieces::word(s, 4 * i + 8);
+        let b = pieces::word(reel, 4 * i + 8);
         if b <= a {
             return HeaderRead::NoReel;
         }
@@ -55,25 +55,25 @@ pub fn header(s: &[u8]) -> HeaderRead
 }
 
 // The part of a reel from offset i to offset i+1, i from 0: block i. It is empty where the two offsets are not there or do not name a part.
-pub fn block(s: &[u8], i: usize) -> &[u8]
-    ensures { λ r. ⌜ now r ≡ blockPart (now (s .entry)) i ⌝ }
+pub fn block(reel: &[u8], i: usize) -> &[u8]
+    ensures { λ r. ⌜ now r ≡ blockPart (now (reel .entry)) i ⌝ }
 {
-    let end = s.len();
+    let end = reel.len();
     if end < 12 {
-        return &s[..0];
+        return &reel[..0];
     }
     if i > (end - 12) / 4 {
-        return &s[..0];
+        return &reel[..0];
     }
-    let a = pieces::word(s, 4 * i + 4);
-    let e = pieces::word(s, 4 * i + 8);
+    let a = pieces::word(reel, 4 * i + 4);
+    let e = pieces::word(reel, 4 * i + 8);
     if e > end {
-        return &s[..0];
+        return &reel[..0];
     }
     if e < a {
-        return &s[..0];
+        return &reel[..0];
     }
-    &s[a..e]
+    &reel[a..e]
 }
 
 // What a block is read as: so many records, or it breaks its rule.
@@ -180,14 +180,14 @@ fn rule(form: Form, b: &[u8]) -> BlockRead
 }
 
 // The blocks of a reel, one after the other, up to the first that breaks its rule.
-fn read_blocks(form: Form, s: &[u8], blocks: usize) -> ReelRead
-    requires { ⌜ headerOf (now s) ≡ HeaderRead.Reel blocks ⌝ }
-    ensures { λ r. ⌜ ReadAs form (now (s .entry)) r ⌝ }
+fn read_blocks(form: Form, reel: &[u8], blocks: usize) -> ReelRead
+    requires { ⌜ headerOf (now reel) ≡ HeaderRead.Reel blocks ⌝ }
+    ensures { λ r. ⌜ ReadAs form (now (reel .entry)) r ⌝ }
 {
     let mut records = 0;
     let mut i = 0;
     while i < blocks {
-        let b = block(s, i);
+        let b = block(reel, i);
         let read = rule(form, b);
         match read {
             BlockRead::Records { count } => {
@@ -204,12 +204,12 @@ fn read_blocks(form: Form, s: &[u8], blocks: usize) -> ReelRead
 }
 
 // What a reel is read as, by what a plan asks of blocks.
-pub fn read_reel(form: Form, s: &[u8]) -> ReelRead
-    ensures { λ r. ⌜ ReadAs form (now (s .entry)) r ⌝ }
+pub fn read_reel(form: Form, reel: &[u8]) -> ReelRead
+    ensures { λ r. ⌜ ReadAs form (now (reel .entry)) r ⌝ }
 {
-    let read = header(s);
+    let read = header(reel);
     match read {
-        HeaderRead::Reel { blocks } => read_blocks(form, s, blocks),
+        HeaderRead::Reel { blocks } => read_blocks(form, reel, blocks),
         HeaderRead::NoReel => ReelRead::NotReel,
     }
 }

@@ -16,40 +16,40 @@ use terms::Mode;
 use terms::Task;
 
 // Writes the output reel of a run that finishes. The output of TC is its input.
-fn write(task: Task, fields: &[u16], s: &[u8], blocks: usize, out: &mut [u8])
-    requires { ⌜ Finishing task (now fields) (now s) blocks (length (now out)) ⌝ }
-    ensures { λ _. ⌜ ReelWritten task (now (fields .entry)) (now (s .entry)) blocks (now (out .entry)) (now (out .exit)) ⌝ }
+fn write(task: Task, fields: &[u16], reel: &[u8], blocks: usize, out: &mut [u8])
+    requires { ⌜ Finishing task (now fields) (now reel) blocks (length (now out)) ⌝ }
+    ensures { λ _. ⌜ ReelWritten task (now (fields .entry)) (now (reel .entry)) blocks (now (out .entry)) (now (out .exit)) ⌝ }
 {
     let mode = task.mode;
     match mode {
-        Mode::TC => copies::copy(s, out),
-        Mode::TF => writers::write_reel(task, fields, s, blocks, out),
-        Mode::TR => writers::write_reel(task, fields, s, blocks, out),
-        Mode::TRF => writers::write_reel(task, fields, s, blocks, out),
+        Mode::TC => copies::copy(reel, out),
+        Mode::TF => writers::write_reel(task, fields, reel, blocks, out),
+        Mode::TR => writers::write_reel(task, fields, reel, blocks, out),
+        Mode::TRF => writers::write_reel(task, fields, reel, blocks, out),
     }
 }
 
 // A run that is refused writes nothing.
-fn run(task: Task, fields: &[u16], s: &[u8], out: &mut [u8]) -> Ran
+fn run(task: Task, fields: &[u16], reel: &[u8], out: &mut [u8]) -> Ran
     requires { ⌜ SomePlanGiven task (now fields) ⌝ }
-    ensures { λ r. ⌜ PlanRanInto task (now (fields .entry)) (now (s .entry)) (now (out .entry)) r (now (out .exit)) ⌝ }
+    ensures { λ r. ⌜ PlanRanInto task (now (fields .entry)) (now (reel .entry)) (now (out .entry)) r (now (out .exit)) ⌝ }
 {
-    let answer = checks::check(task, fields, s, out.len());
+    let answer = checks::check(task, fields, reel, out.len());
     let refusal = answer.refusal;
     let blocks = answer.blocks;
     if refusal > 0 {
         return answer;
     }
-    write(task, fields, s, blocks, out);
+    write(task, fields, reel, blocks, out);
     answer
 }
 
 // The run of a plan over a reel: refusals 11 to 15, or the output reel at the front of what is lent. FS has a run of its own, since no record is in a block by
 // itself there.
-pub fn run_plan(asked: Asked, fields: &[u16], s: &[u8], out: &mut [u8]) -> Ran
+pub fn run_plan(asked: Asked, fields: &[u16], reel: &[u8], out: &mut [u8]) -> Ran
     requires { ⌜ PlanFair asked (now fields) ⌝ }
-    ensures answer { λ r. ⌜ r ≡ ranStruct (runAnswer (conversion (length (now (out .entry))) (planIn zoneF asked (fieldsIn (now (fields .entry)))) (now (s .entry)))) ⌝ }
-    ensures output { λ _. ⌜ now (out .exit) ≡ outputAfter (now (out .entry)) (conversion (length (now (out .entry))) (planIn zoneF asked (fieldsIn (now (fields .entry)))) (now (s .entry))) ⌝ }
+    ensures answer { λ r. ⌜ r ≡ ranStruct (runAnswer (conversion (length (now (out .entry))) (planIn zoneF asked (fieldsIn (now (fields .entry)))) (now (reel .entry)))) ⌝ }
+    ensures output { λ _. ⌜ now (out .exit) ≡ outputAfter (now (out .entry)) (conversion (length (now (out .entry))) (planIn zoneF asked (fieldsIn (now (fields .entry)))) (now (reel .entry))) ⌝ }
 {
     let format = asked.format;
     if terms::is_fs(format) {
@@ -59,8 +59,8 @@ pub fn run_plan(asked: Asked, fields: &[u16], s: &[u8], out: &mut [u8]) -> Ran
         let copies = terms::is_tc(mode);
         let g = terms::block_length(input);
         let m = terms::block_length(output);
-        return spans::run_spanned(copies, g, m, asked.first, s, out);
+        return spans::run_spanned(copies, g, m, asked.first, reel, out);
     }
     let task = tasks::task_of(asked);
-    run(task, fields, s, out)
+    run(task, fields, reel, out)
 }

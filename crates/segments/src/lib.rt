@@ -33,10 +33,10 @@ struct SegmentRead {
 }
 
 // The segment whose word stands at a place of a block.
-fn read_at(s: &[u8], block: usize, at: usize) -> SegmentRead
-    ensures { λ r. ⌜ r ≡ readAt (now (s .entry)) block at ⌝ }
+fn read_at(reel: &[u8], block: usize, at: usize) -> SegmentRead
+    ensures { λ r. ⌜ r ≡ readAt (now (reel .entry)) block at ⌝ }
 {
-    let read = pieces::segment(reels::block(s, block), Cursor { at });
+    let read = pieces::segment(reels::block(reel, block), Cursor { at });
     match read {
         PieceRead::Piece {
             place,
@@ -71,17 +71,17 @@ fn nothing(block: usize, at: usize) -> SegmentRead
 }
 
 // The segment behind a spot: a block's end leads to the first segment of the next block.
-fn next(s: &[u8], v: Spot) -> SegmentRead
-    requires { ⌜ v .block ≤ length (now s) ⌝ }
-    ensures { λ r. ⌜ r ≡ nextOf (now (s .entry)) v ⌝ }
+fn next(reel: &[u8], v: Spot) -> SegmentRead
+    requires { ⌜ v .block ≤ length (now reel) ⌝ }
+    ensures { λ r. ⌜ r ≡ nextOf (now (reel .entry)) v ⌝ }
 {
     let block = v.block;
     let at = v.to;
-    let b = reels::block(s, block);
+    let b = reels::block(reel, block);
     if at < b.len() {
-        return read_at(s, block, at);
+        return read_at(reel, block, at);
     }
-    read_at(s, block + 1, 4)
+    read_at(reel, block + 1, 4)
 }
 
 // Behind so many of the bytes that are left of the segment.
@@ -97,14 +97,14 @@ fn passed(v: Spot, n: usize) -> Spot
 }
 
 // The record that begins at a spot: the words of its segments are walked, and nothing is copied.
-pub fn ahead(s: &[u8], v: Spot) -> RecordAhead
-    requires { ⌜ Coming (now s) v ⌝ }
-    ensures { λ r. ⌜ Comes (now (s .entry)) v r ⌝ }
+pub fn ahead(reel: &[u8], v: Spot) -> RecordAhead
+    requires { ⌜ Coming (now reel) v ⌝ }
+    ensures { λ r. ⌜ Comes (now (reel .entry)) v r ⌝ }
 {
     let mut at = v;
     let mut size = 0;
     loop {
-        let read = next(s, at);
+        let read = next(reel, at);
         let here = read.spot;
         let left = here.to - here.from;
         at = passed(here, left);
@@ -116,9 +116,9 @@ pub fn ahead(s: &[u8], v: Spot) -> RecordAhead
 }
 
 // Behind so many records.
-pub fn taken(s: &[u8], count: usize) -> Spot
-    requires { ⌜ Takeable (now s) count ⌝ }
-    ensures { λ r. ⌜ SpotTaken (now (s .entry)) count r ⌝ }
+pub fn taken(reel: &[u8], count: usize) -> Spot
+    requires { ⌜ Takeable (now reel) count ⌝ }
+    ensures { λ r. ⌜ SpotTaken (now (reel .entry)) count r ⌝ }
 {
     let mut at = Spot {
         block: 0,
@@ -127,7 +127,7 @@ pub fn taken(s: &[u8], count: usize) -> Spot
     };
     let mut number = 0;
     while number < count {
-        let record = ahead(s, at);
+        let record = ahead(reel, at);
         at = record.behind;
         number += 1;
     }
@@ -135,14 +135,14 @@ pub fn taken(s: &[u8], count: usize) -> Spot
 }
 
 // The same spot, or, where nothing is left of its segment, the next segment.
-fn on_data(s: &[u8], v: Spot) -> Spot
-    requires { ⌜ v .block ≤ length (now s) ⌝ }
-    ensures { λ r. ⌜ r ≡ onData (now (s .entry)) v ⌝ }
+fn on_data(reel: &[u8], v: Spot) -> Spot
+    requires { ⌜ v .block ≤ length (now reel) ⌝ }
+    ensures { λ r. ⌜ r ≡ onData (now (reel .entry)) v ⌝ }
 {
     if v.from < v.to {
         return v;
     }
-    let read = next(s, v);
+    let read = next(reel, v);
     read.spot
 }
 
@@ -157,27 +157,27 @@ pub fn smaller(a: usize, b: usize) -> usize
 }
 
 // So many of the bytes that are left of a segment, to the front of out.
-fn put(s: &[u8], v: Spot, n: usize, out: &mut [u8])
-    requires { ⌜ (v .from + n ≤ length (blockPart (now s) (v .block))) × (n ≤ 65536) × (n ≤ length (now out)) ⌝ }
-    ensures { λ _. ⌜ now (out .exit) ≡ over 0 (take n (drop (v .from) (blockPart (now (s .entry)) (v .block)))) (now (out .entry)) ⌝ }
+fn put(reel: &[u8], v: Spot, n: usize, out: &mut [u8])
+    requires { ⌜ (v .from + n ≤ length (blockPart (now reel) (v .block))) × (n ≤ 65536) × (n ≤ length (now out)) ⌝ }
+    ensures { λ _. ⌜ now (out .exit) ≡ over 0 (take n (drop (v .from) (blockPart (now (reel .entry)) (v .block)))) (now (out .entry)) ⌝ }
 {
-    let b = reels::block(s, v.block);
+    let b = reels::block(reel, v.block);
     let from = v.from;
     let end = from + n;
     copies::copy(&b[from..end], out);
 }
 
 // So many bytes of data from a spot on go to the front of out, across segments and blocks; and the spot behind them.
-pub fn copy(s: &[u8], v: Spot, n: usize, out: &mut [u8]) -> Spot
-    requires { ⌜ Copyable (now s) v n (length (now out)) ⌝ }
-    ensures { λ r. ⌜ Copied (now (s .entry)) v n (now (out .entry)) (now (out .exit)) r ⌝ }
+pub fn copy(reel: &[u8], v: Spot, n: usize, out: &mut [u8]) -> Spot
+    requires { ⌜ Copyable (now reel) v n (length (now out)) ⌝ }
+    ensures { λ r. ⌜ Copied (now (reel .entry)) v n (now (out .entry)) (now (out .exit)) r ⌝ }
 {
     let mut at = v;
     let mut done = 0;
     while done < n {
-        let here = on_data(s, at);
+        let here = on_data(reel, at);
         let size = smaller(n - done, here.to - here.from);
-        put(s, here, size, &mut out[done..]);
+        put(reel, here, size, &mut out[done..]);
         at = passed(here, size);
         done += size;
     }
@@ -185,11 +185,11 @@ pub fn copy(s: &[u8], v: Spot, n: usize, out: &mut [u8]) -> Spot
 }
 
 // Whether so many of the bytes that are left of a segment are those that are left of a segment of another reel.
-fn same_part(s: &[u8], v: Spot, t: &[u8], u: Spot, n: usize) -> bool
-    requires { ⌜ (v .from + n ≤ length (blockPart (now s) (v .block))) × (u .from + n ≤ length (blockPart (now t) (u .block))) × (n ≤ 65536) ⌝ }
-    ensures { λ r. ⌜ (r ≡ true) ↔ (take n (drop (v .from) (blockPart (now (s .entry)) (v .block))) ≡ take n (drop (u .from) (blockPart (now (t .entry)) (u .block)))) ⌝ }
+fn same_part(reel: &[u8], v: Spot, t: &[u8], u: Spot, n: usize) -> bool
+    requires { ⌜ (v .from + n ≤ length (blockPart (now reel) (v .block))) × (u .from + n ≤ length (blockPart (now t) (u .block))) × (n ≤ 65536) ⌝ }
+    ensures { λ r. ⌜ (r ≡ true) ↔ (take n (drop (v .from) (blockPart (now (reel .entry)) (v .block))) ≡ take n (drop (u .from) (blockPart (now (t .entry)) (u .block)))) ⌝ }
 {
-    let b = reels::block(s, v.block);
+    let b = reels::block(reel, v.block);
     let c = reels::block(t, u.block);
     let start = v.from;
     let end = start + n;
@@ -199,19 +199,19 @@ fn same_part(s: &[u8], v: Spot, t: &[u8], u: Spot, n: usize) -> bool
 }
 
 // Whether so many bytes of data from a spot on are those from a spot of another reel on, across segments and blocks of both.
-pub fn same(s: &[u8], v: Spot, t: &[u8], u: Spot, n: usize) -> bool
-    requires { ⌜ Streamed (now s) v n × Streamed (now t) u n ⌝ }
-    ensures { λ r. ⌜ SameData (now (s .entry)) v (now (t .entry)) u n r ⌝ }
+pub fn same(reel: &[u8], v: Spot, t: &[u8], u: Spot, n: usize) -> bool
+    requires { ⌜ Streamed (now reel) v n × Streamed (now t) u n ⌝ }
+    ensures { λ r. ⌜ SameData (now (reel .entry)) v (now (t .entry)) u n r ⌝ }
 {
     let mut at = v;
     let mut there = u;
     let mut done = 0;
     while done < n {
-        let here = on_data(s, at);
+        let here = on_data(reel, at);
         let other = on_data(t, there);
         let both = smaller(here.to - here.from, other.to - other.from);
         let size = smaller(n - done, both);
-        if !same_part(s, here, t, other, size) {
+        if !same_part(reel, here, t, other, size) {
             return false;
         }
         at = passed(here, size);

@@ -15,15 +15,15 @@ use reels::ReelRead;
 use segments::Spot;
 
 // What so many records from a spot on measure as blocks of m bytes: along the words of their segments, in a pass that holds a few numbers and builds nothing.
-fn measure(m: usize, s: &[u8], from: Spot, count: usize) -> Tally
-    requires { ⌜ SpotStanding (now s) from count × (9 ≤ m) × (m < 65536) ⌝ }
-    ensures { λ r. ⌜ SpannedMeasures m (now (s .entry)) from count r ⌝ }
+fn measure(m: usize, reel: &[u8], from: Spot, count: usize) -> Tally
+    requires { ⌜ SpotStanding (now reel) from count × (9 ≤ m) × (m < 65536) ⌝ }
+    ensures { λ r. ⌜ SpannedMeasures m (now (reel .entry)) from count r ⌝ }
 {
     let mut at = from;
     let mut tally = cuts::full(m);
     let mut number = 0;
     while number < count {
-        let next = segments::ahead(s, at);
+        let next = segments::ahead(reel, at);
         tally = cuts::behind(m, tally, next.size);
         at = next.behind;
         number += 1;
@@ -49,7 +49,7 @@ fn code(first: bool, last: bool) -> u8
 
 // A segment in its place: where it opens a block, the block's offset; then the word of its block, which says the block's size so far; then its own word, and its data.
 fn put_next(
-    s: &[u8],
+    reel: &[u8],
     at: Spot,
     first: bool,
     last: bool,
@@ -58,9 +58,9 @@ fn put_next(
     part: CutTaken,
     out: &mut [u8],
 ) -> Spot
-    requires { ⌜ Streaming (now s) at (part .size) ⌝ }
+    requires { ⌜ Streaming (now reel) at (part .size) ⌝ }
     requires { ⌜ SegmentFits base tally part (length (now out)) ⌝ }
-    ensures { λ r. ⌜ SegmentPut (now (s .entry)) at first last base tally part (now (out .entry)) (now (out .exit)) r ⌝ }
+    ensures { λ r. ⌜ SegmentPut (now (reel .entry)) at first last base tally part (now (out .entry)) (now (out .exit)) r ⌝ }
 {
     let more = part.tally;
     let size = more.size;
@@ -69,22 +69,22 @@ fn put_next(
     pieces::put_length_word(out, end - size, size);
     let from = end - part.size;
     pieces::put_coded_word(out, from - 4, code(first, last), part.size + 4);
-    segments::copy(s, at, part.size, &mut out[from..])
+    segments::copy(reel, at, part.size, &mut out[from..])
 }
 
 // A record of so many bytes, segment by segment, and the tally behind it.
 fn put_record(
     m: usize,
     base: usize,
-    s: &[u8],
+    reel: &[u8],
     from: Spot,
     size: usize,
     tally: Tally,
     out: &mut [u8],
 ) -> Tally
-    requires { ⌜ Streaming (now s) from size ⌝ }
+    requires { ⌜ Streaming (now reel) from size ⌝ }
     requires { ⌜ RecordFits m base tally size (length (now out)) ⌝ }
-    ensures { λ r. ⌜ RecordPut m base (now (s .entry)) from size tally (now (out .entry)) (now (out .exit)) r ⌝ }
+    ensures { λ r. ⌜ RecordPut m base (now (reel .entry)) from size tally (now (out .entry)) (now (out .exit)) r ⌝ }
 {
     let mut at = from;
     let mut now = tally;
@@ -92,7 +92,7 @@ fn put_record(
     let mut rest = size;
     while rest > 0 {
         let part = cuts::cut(m, now, rest);
-        at = put_next(s, at, first, part.size == rest, base, now, part, out);
+        at = put_next(reel, at, first, part.size == rest, base, now, part, out);
         now = part.tally;
         first = false;
         rest -= part.size;
@@ -101,9 +101,9 @@ fn put_record(
 }
 
 // Writes the reel of so many records from a spot on, in blocks of m bytes, at the front of out. All refusals come before it.
-fn write(m: usize, s: &[u8], from: Spot, count: usize, blocks: usize, out: &mut [u8])
-    requires { ⌜ SpannedLent m (now s) from count blocks (length (now out)) ⌝ }
-    ensures { λ _. ⌜ SpannedPut m (now (s .entry)) from count blocks (now (out .entry)) (now (out .exit)) ⌝ }
+fn write(m: usize, reel: &[u8], from: Spot, count: usize, blocks: usize, out: &mut [u8])
+    requires { ⌜ SpannedLent m (now reel) from count blocks (length (now out)) ⌝ }
+    ensures { λ _. ⌜ SpannedPut m (now (reel .entry)) from count blocks (now (out .entry)) (now (out .exit)) ⌝ }
 {
     let base = 4 * blocks + 8;
     let mut at = from;
@@ -111,8 +111,8 @@ fn write(m: usize, s: &[u8], from: Spot, count: usize, blocks: usize, out: &mut 
     let mut number = 0;
     pieces::put_word(out, 0, blocks);
     while number < count {
-        let next = segments::ahead(s, at);
-        tally = put_record(m, base, s, at, next.size, tally, out);
+        let next = segments::ahead(reel, at);
+        tally = put_record(m, base, reel, at, next.size, tally, out);
         at = next.behind;
         number += 1;
     }
@@ -120,26 +120,26 @@ fn write(m: usize, s: &[u8], from: Spot, count: usize, blocks: usize, out: &mut 
 }
 
 // TC leaves the blocks: its output is its input.
-fn copied(s: &[u8], records: usize, blocks: usize, out: &mut [u8]) -> Ran
-    requires { ⌜ length (now s) ≤ 65536 ⌝ }
-    ensures { λ r. ⌜ RanAs (ranIn (now (s .entry)) records blocks) (now (out .entry)) r (now (out .exit)) ⌝ }
+fn copied(reel: &[u8], records: usize, blocks: usize, out: &mut [u8]) -> Ran
+    requires { ⌜ length (now reel) ≤ 65536 ⌝ }
+    ensures { λ r. ⌜ RanAs (ranIn (now (reel .entry)) records blocks) (now (out .entry)) r (now (out .exit)) ⌝ }
 {
-    let answer = outcomes::housed(out.len(), s.len(), records, blocks);
+    let answer = outcomes::housed(out.len(), reel.len(), records, blocks);
     let refusal = answer.refusal;
     if refusal > 0 {
         return answer;
     }
-    copies::copy(s, out);
+    copies::copy(reel, out);
     answer
 }
 
 // TR fills blocks of m bytes with the records behind those that are passed over.
-fn filled(m: usize, s: &[u8], passed: usize, records: usize, out: &mut [u8]) -> Ran
-    requires { ⌜ Taking (now s) passed records × (9 ≤ m) × (m < 65536) ⌝ }
-    ensures { λ r. ⌜ FilledRun m (now (s .entry)) passed records (now (out .entry)) r (now (out .exit)) ⌝ }
+fn filled(m: usize, reel: &[u8], passed: usize, records: usize, out: &mut [u8]) -> Ran
+    requires { ⌜ Taking (now reel) passed records × (9 ≤ m) × (m < 65536) ⌝ }
+    ensures { λ r. ⌜ FilledRun m (now (reel .entry)) passed records (now (out .entry)) r (now (out .exit)) ⌝ }
 {
-    let from = segments::taken(s, passed);
-    let tally = measure(m, s, from, records);
+    let from = segments::taken(reel, passed);
+    let tally = measure(m, reel, from, records);
     let blocks = tally.blocks;
     let length = 4 * blocks + 8 + tally.bytes;
     let answer = outcomes::housed(out.len(), length, records, blocks);
@@ -147,27 +147,34 @@ fn filled(m: usize, s: &[u8], passed: usize, records: usize, out: &mut [u8]) -> 
     if refusal > 0 {
         return answer;
     }
-    write(m, s, from, records, blocks, out);
+    write(m, reel, from, records, blocks, out);
     answer
 }
 
 // The run of TC (`copies`) or TR over a reel in FS, whose blocks have at most g bytes: refusals 11, 12 and 15, or the output reel at the front of what is lent. Each
 // record is cut to fit, so that refusal 14 does not occur, and no field is selected, so that 13 does not.
-pub fn run_spanned(copies: bool, g: usize, m: usize, first: usize, s: &[u8], out: &mut [u8]) -> Ran
+pub fn run_spanned(
+    copies: bool,
+    g: usize,
+    m: usize,
+    first: usize,
+    reel: &[u8],
+    out: &mut [u8],
+) -> Ran
     requires { ⌜ (9 ≤ m) × (m < 65536) × (g < 65536) × (1 ≤ first) × (first ≤ 65536) ⌝ }
-    ensures answer { λ r. ⌜ r ≡ ranStruct (runAnswer (spannedRun copies g m first (length (now (out .entry))) (now (s .entry)))) ⌝ }
-    ensures output { λ _. ⌜ now (out .exit) ≡ outputAfter (now (out .entry)) (spannedRun copies g m first (length (now (out .entry))) (now (s .entry))) ⌝ }
+    ensures answer { λ r. ⌜ r ≡ ranStruct (runAnswer (spannedRun copies g m first (length (now (out .entry))) (now (reel .entry)))) ⌝ }
+    ensures output { λ _. ⌜ now (out .exit) ≡ outputAfter (now (out .entry)) (spannedRun copies g m first (length (now (out .entry))) (now (reel .entry))) ⌝ }
 {
-    let read = turns::read_spanned(g, s);
+    let read = turns::read_spanned(g, reel);
     match read {
         ReelRead::NotReel => outcomes::refused(11, 0, 0),
         ReelRead::BadBlock { block } => outcomes::refused(12, block, 0),
         ReelRead::Read { blocks, records } => {
             let passed = segments::smaller(first - 1, records);
             if copies {
-                return copied(s, records - passed, blocks, out);
+                return copied(reel, records - passed, blocks, out);
             }
-            filled(m, s, passed, records - passed, out)
+            filled(m, reel, passed, records - passed, out)
         }
     }
 }

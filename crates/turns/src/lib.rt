@@ -100,9 +100,9 @@ fn rule(g: usize, b: &[u8], before: Counts) -> TurnsRead
 }
 
 // The blocks of a reel, one after the other, up to the first that breaks its rule. A record that is unfinished at the end breaks that of the last block.
-fn read_blocks(g: usize, s: &[u8], blocks: usize) -> ReelRead
-    requires { ⌜ headerOf (now s) ≡ HeaderRead.Reel blocks ⌝ }
-    ensures { λ r. ⌜ SpannedAs g (now (s .entry)) r ⌝ }
+fn read_blocks(g: usize, reel: &[u8], blocks: usize) -> ReelRead
+    requires { ⌜ headerOf (now reel) ≡ HeaderRead.Reel blocks ⌝ }
+    ensures { λ r. ⌜ SpannedAs g (now (reel .entry)) r ⌝ }
 {
     let mut counts = Counts {
         records: 0,
@@ -110,7 +110,7 @@ fn read_blocks(g: usize, s: &[u8], blocks: usize) -> ReelRead
     };
     let mut i = 0;
     while i < blocks {
-        let b = reels::block(s, i);
+        let b = reels::block(reel, i);
         let read = rule(g, b, counts);
         match read {
             TurnsRead::InTurn { counts: behind } => {
@@ -133,12 +133,12 @@ fn read_blocks(g: usize, s: &[u8], blocks: usize) -> ReelRead
 }
 
 // What a reel is read as in FS, with blocks of at most g bytes.
-pub fn read_spanned(g: usize, s: &[u8]) -> ReelRead
-    ensures { λ r. ⌜ SpannedAs g (now (s .entry)) r ⌝ }
+pub fn read_spanned(g: usize, reel: &[u8]) -> ReelRead
+    ensures { λ r. ⌜ SpannedAs g (now (reel .entry)) r ⌝ }
 {
-    let read = reels::header(s);
+    let read = reels::header(reel);
     match read {
-        HeaderRead::Reel { blocks } => read_blocks(g, s, blocks),
+        HeaderRead::Reel { blocks } => read_blocks(g, reel, blocks),
         HeaderRead::NoReel => ReelRead::NotReel,
     }
 }

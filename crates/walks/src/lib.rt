@@ -32,12 +32,12 @@ pub enum RecordRead {
 }
 
 // Before the first record of the block that starts at a place, or behind the last block.
-fn block_start(form: Form, s: &[u8], word: usize, from: usize) -> Walk
-    requires { ⌜ Starting form (now s) word from ⌝ }
-    ensures { λ r. ⌜ r ≡ blockStart form (now (s .entry)) word from ⌝ }
+fn block_start(form: Form, reel: &[u8], word: usize, from: usize) -> Walk
+    requires { ⌜ Starting form (now reel) word from ⌝ }
+    ensures { λ r. ⌜ r ≡ blockStart form (now (reel .entry)) word from ⌝ }
 {
     let begins = true;
-    if from >= s.len() {
+    if from >= reel.len() {
         return Walk {
             word,
             at: from,
@@ -50,25 +50,25 @@ fn block_start(form: Form, s: &[u8], word: usize, from: usize) -> Walk
     Walk {
         word,
         at,
-        end: pieces::word(s, word),
+        end: pieces::word(reel, word),
         begins,
     }
 }
 
 // Before the first record of a reel.
-fn begin(form: Form, s: &[u8]) -> Walk
-    requires { ⌜ Sound form (now s) ⌝ }
-    ensures { λ r. ⌜ Begun form (now (s .entry)) r ⌝ }
+fn begin(form: Form, reel: &[u8]) -> Walk
+    requires { ⌜ Sound form (now reel) ⌝ }
+    ensures { λ r. ⌜ Begun form (now (reel .entry)) r ⌝ }
 {
-    let from = pieces::word(s, 4);
-    block_start(form, s, 8, from)
+    let from = pieces::word(reel, 4);
+    block_start(form, reel, 8, from)
 }
 
 // Behind a record that ends at a place: a block's end moves on to the next block, so that one call finds the next record.
-fn behind(form: Form, s: &[u8], w: Walk, at: usize) -> Walk
-    requires { ⌜ w .word ≤ length (now s) ⌝ }
-    requires { ⌜ (w .end ≤ at → Starting form (now s) (w .word + 4) at) ⌝ }
-    ensures { λ r. ⌜ r ≡ behindAt form (now (s .entry)) w at ⌝ }
+fn behind(form: Form, reel: &[u8], w: Walk, at: usize) -> Walk
+    requires { ⌜ w .word ≤ length (now reel) ⌝ }
+    requires { ⌜ (w .end ≤ at → Starting form (now reel) (w .word + 4) at) ⌝ }
+    ensures { λ r. ⌜ r ≡ behindAt form (now (reel .entry)) w at ⌝ }
 {
     let word = w.word;
     let end = w.end;
@@ -80,42 +80,42 @@ fn behind(form: Form, s: &[u8], w: Walk, at: usize) -> Walk
             begins: false,
         };
     }
-    block_start(form, s, word + 4, at)
+    block_start(form, reel, word + 4, at)
 }
 
 // Where the record at a place ends, in a block that ends at a place: in FV its word says so, which counts its own 4 bytes.
-fn record_end(form: Form, s: &[u8], at: usize, end: usize) -> usize
-    requires { ⌜ at + cost (formatOf (form .format)) ≤ length (now s) ⌝ }
-    requires { ⌜ endIn (formatOf (form .format)) (form .n) (now s) at end ≤ length (now s) ⌝ }
-    ensures { λ r. ⌜ r ≡ endIn (formatOf (form .format)) (form .n) (now (s .entry)) at end ⌝ }
+fn record_end(form: Form, reel: &[u8], at: usize, end: usize) -> usize
+    requires { ⌜ at + cost (formatOf (form .format)) ≤ length (now reel) ⌝ }
+    requires { ⌜ endIn (formatOf (form .format)) (form .n) (now reel) at end ≤ length (now reel) ⌝ }
+    ensures { λ r. ⌜ r ≡ endIn (formatOf (form .format)) (form .n) (now (reel .entry)) at end ⌝ }
 {
     let format = form.format;
     match format {
         Format::FF => at + form.n,
-        Format::FV => at + (256 * terms::wide(s[at]) + terms::wide(s[at + 1])),
+        Format::FV => at + (256 * terms::wide(reel[at]) + terms::wide(reel[at + 1])),
         Format::FU => end,
         Format::FS => end,
     }
 }
 
 // The record that a walk stands before, in constant time.
-pub fn record(form: Form, s: &[u8], w: Walk) -> RecordRead
-    requires { ⌜ Standing form (now s) w ⌝ }
-    ensures { λ r. ⌜ RecordTold form (now (s .entry)) w r ⌝ }
+pub fn record(form: Form, reel: &[u8], w: Walk) -> RecordRead
+    requires { ⌜ Standing form (now reel) w ⌝ }
+    ensures { λ r. ⌜ RecordTold form (now (reel .entry)) w r ⌝ }
 {
     let at = w.at;
-    if at >= s.len() {
+    if at >= reel.len() {
         return RecordRead::End;
     }
     let format = form.format;
     let start = at + terms::cost(format);
-    let end = record_end(form, s, at, w.end);
+    let end = record_end(form, reel, at, w.end);
     let length = end - start;
     RecordRead::Record {
         start,
         length,
         begins: w.begins,
-        next: behind(form, s, w, end),
+        next: behind(form, reel, w, end),
     }
 }
 
@@ -129,14 +129,14 @@ fn opened(w: Walk) -> Walk
 }
 
 // Before record R, or behind the last record: R is the first that is taken of its block, so that it counts as the block's first.
-pub fn taken(form: Form, s: &[u8], first: usize) -> Walk
-    requires { ⌜ Sound form (now s) ⌝ }
-    ensures { λ r. ⌜ WalkTaken form (now (s .entry)) first r ⌝ }
+pub fn taken(form: Form, reel: &[u8], first: usize) -> Walk
+    requires { ⌜ Sound form (now reel) ⌝ }
+    ensures { λ r. ⌜ WalkTaken form (now (reel .entry)) first r ⌝ }
 {
-    let mut w = begin(form, s);
+    let mut w = begin(form, reel);
     let mut number = 1;
     while number < first {
-        let read = record(form, s, w);
+        let read = record(form, reel, w);
         match read {
             RecordRead::Record {
                 start: _,
@@ -156,21 +156,21 @@ pub fn taken(form: Form, s: &[u8], first: usize) -> Walk
 }
 
 // In FF the records stand one behind the other through all blocks: where record R starts, which may be past the reel's end.
-pub fn fixed_start(form: Form, s: &[u8], first: usize) -> usize
-    requires { ⌜ Sound form (now s) ⌝ }
+pub fn fixed_start(form: Form, reel: &[u8], first: usize) -> usize
+    requires { ⌜ Sound form (now reel) ⌝ }
     requires { ⌜ (1 ≤ first) × (first ≤ 65536) ⌝ }
-    ensures { λ r. ⌜ r ≡ fixedStart form (now (s .entry)) first ⌝ }
+    ensures { λ r. ⌜ r ≡ fixedStart form (now (reel .entry)) first ⌝ }
 {
-    let from = pieces::word(s, 4);
+    let from = pieces::word(reel, 4);
     from + (first - 1) * form.n
 }
 
 // What stands from a place on; nothing stands past the end.
-pub fn rest(s: &[u8], from: usize) -> &[u8]
-    ensures { λ r. ⌜ now r ≡ drop from (now (s .entry)) ⌝ }
+pub fn rest(reel: &[u8], from: usize) -> &[u8]
+    ensures { λ r. ⌜ now r ≡ drop from (now (reel .entry)) ⌝ }
 {
-    if from < s.len() {
-        return &s[from..];
+    if from < reel.len() {
+        return &reel[from..];
     }
-    &s[..0]
+    &reel[..0]
 }

@@ -85,22 +85,22 @@ fn put_next(
 
 // In FV: one pass along the records from R on. The offsets go from place 4 on, and the blocks behind them. Whether the fields cover an output record is the
 // same for every record, and so asked once.
-fn write_walked(task: Task, fields: &[u16], s: &[u8], blocks: usize, out: &mut [u8])
-    requires { ⌜ Lent task (now fields) (now s) blocks (length (now out)) ⌝ }
+fn write_walked(task: Task, fields: &[u16], reel: &[u8], blocks: usize, out: &mut [u8])
+    requires { ⌜ Lent task (now fields) (now reel) blocks (length (now out)) ⌝ }
     requires { ⌜ task .format ≡ Format.FV ⌝ }
-    ensures { λ _. ⌜ BodyPut task (now (fields .entry)) (now (s .entry)) blocks (now (out .entry)) (now (out .exit)) ⌝ }
+    ensures { λ _. ⌜ BodyPut task (now (fields .entry)) (now (reel .entry)) blocks (now (out .entry)) (now (out .exit)) ⌝ }
 {
     let covered = records::covers(fields, task.width);
     let form = tasks::form_of(task);
     let base = 4 * blocks + 8;
-    let mut walk = walks::taken(form, s, task.first);
+    let mut walk = walks::taken(form, reel, task.first);
     let mut tally = Tally {
         blocks: 0,
         size: 0,
         bytes: 0,
     };
     loop {
-        let read = walks::record(form, s, walk);
+        let read = walks::record(form, reel, walk);
         match read {
             RecordRead::Record {
                 start,
@@ -111,7 +111,7 @@ fn write_walked(task: Task, fields: &[u16], s: &[u8], blocks: usize, out: &mut [
                 let n = tasks::output_length(task, length);
                 let more = fillings::tallied(task, tally, begins, n);
                 let end = start + length;
-                let record = &s[start..end];
+                let record = &reel[start..end];
                 put_next(task, fields, covered, record, n, base, tally, more, out);
                 tally = more;
                 walk = next;
@@ -125,24 +125,24 @@ fn write_walked(task: Task, fields: &[u16], s: &[u8], blocks: usize, out: &mut [
 }
 
 // The offsets from place 4 on, and behind them the blocks. FU has TC alone, whose output is its input; FS has writers of its own.
-fn put_body(task: Task, fields: &[u16], s: &[u8], blocks: usize, out: &mut [u8])
-    requires { ⌜ Lent task (now fields) (now s) blocks (length (now out)) ⌝ }
-    ensures { λ _. ⌜ BodyPut task (now (fields .entry)) (now (s .entry)) blocks (now (out .entry)) (now (out .exit)) ⌝ }
+fn put_body(task: Task, fields: &[u16], reel: &[u8], blocks: usize, out: &mut [u8])
+    requires { ⌜ Lent task (now fields) (now reel) blocks (length (now out)) ⌝ }
+    ensures { λ _. ⌜ BodyPut task (now (fields .entry)) (now (reel .entry)) blocks (now (out .entry)) (now (out .exit)) ⌝ }
 {
     let format = task.format;
     match format {
-        Format::FF => fixed::write(task, fields, s, blocks, out),
-        Format::FV => write_walked(task, fields, s, blocks, out),
+        Format::FF => fixed::write(task, fields, reel, blocks, out),
+        Format::FV => write_walked(task, fields, reel, blocks, out),
         Format::FU => {}
         Format::FS => {}
     }
 }
 
 // Writes the reel of a plan's output blocks at the front of out, in TF, TR and TRF: the block count, then the offsets and the blocks. All refusals come before it.
-pub fn write_reel(task: Task, fields: &[u16], s: &[u8], blocks: usize, out: &mut [u8])
-    requires { ⌜ Lent task (now fields) (now s) blocks (length (now out)) ⌝ }
-    ensures { λ _. ⌜ ReelPut task (now (fields .entry)) (now (s .entry)) blocks (now (out .entry)) (now (out .exit)) ⌝ }
+pub fn write_reel(task: Task, fields: &[u16], reel: &[u8], blocks: usize, out: &mut [u8])
+    requires { ⌜ Lent task (now fields) (now reel) blocks (length (now out)) ⌝ }
+    ensures { λ _. ⌜ ReelPut task (now (fields .entry)) (now (reel .entry)) blocks (now (out .entry)) (now (out .exit)) ⌝ }
 {
     pieces::put_word(out, 0, blocks);
-    put_body(task, fields, s, blocks, out);
+    put_body(task, fields, reel, blocks, out);
 }

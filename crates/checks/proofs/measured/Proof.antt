@@ -32,7 +32,7 @@ measure-requires-3 : tie.Need-measure-requires-3
 measure-requires-3 c κs = measurable (ap (λ (m : Mode). isTC (modeOf m)) (c .enum-told4 .given .1)) (c .before .before .before .before .pre)
 
 returns : tie.Need-returns
-returns c = copy-measured (ap modeOf (c .enum-told .given .1)) (all-bytes (c .before .before .before .before .args .s .now) (λ i. omega (arith, c .before .before .shared-slice-known2 .given i)))
+returns c = copy-measured (ap modeOf (c .enum-told .given .1)) (all-bytes (c .before .before .before .before .args .reel .now) (λ i. omega (arith, c .before .before .shared-slice-known2 .given i)))
 
 returns-2 : tie.Need-returns-2
 returns-2 c = measures (ap (λ (m : Mode). isTC (modeOf m)) (c .before .enum-told2 .given .1)) _ (c .measure .ensures)

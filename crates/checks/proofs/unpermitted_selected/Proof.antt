@@ -15,7 +15,7 @@ asks-requires c κs = search needs
 returns : tie.Need-returns
 returns c =
     let s = c .before .before .before .before in
-    none-asked (s .args .task) (s .args .fields .now) (s .args .s .now) (all-bytes (s .args .s .now) (λ i. omega (arith, c .before .before .shared-slice-known2 .given i)))
+    none-asked (s .args .task) (s .args .fields .now) (s .args .reel .now) (all-bytes (s .args .reel .now) (λ i. omega (arith, c .before .before .shared-slice-known2 .given i)))
     (subst (FieldsAsk (s .args .fields .now)) (not-true (c .before .asks .result) (c .if1 .taken)) (c .before .asks .ensures))
 
 first-unpermitted-requires : tie.Need-first-unpermitted-requires

@@ -25,7 +25,7 @@ loop-holds c = output-start _ _ _ _ _
 whole : (c : tie.In-loop Inv-loop μ-loop) → c .before .loop .at + c .before .before .before .before .before .before .args .n ≤ length (c .before .before .before .before .before .before .args .«data» .now)
 whole c = let y = c .before .before .before .before .before .before .pre in whole-left (c .before .loop .inv) (omega arith) (y .fielded .fair) (y .even) (y .roomy)
 
-room : (c : tie.In-loop Inv-loop μ-loop) → c .before .loop .to + c .before .before .before .before .before .before .args .m ≤ length (c .before .loop .out)
+room : (c : tie.In-loop Inv-loop μ-loop) → c .before .loop .to + c .before .before .before .before .before .before .args .width ≤ length (c .before .loop .out)
 room c = let y = c .before .before .before .before .before .before .pre in room-left (c .before .loop .inv) (omega arith) (y .fielded .fair) (y .even) (y .roomy)
 
 size : (c : tie.In-loop Inv-loop μ-loop) → length (take (c .before .loop .at + c .before .before .before .before .before .before .args .n - c .before .loop .at) (drop (c .before .loop .at) (c .before .before .before .before .before .before .args .«data» .now))) ≡ c .before .before .before .before .before .before .args .n

@@ -36,8 +36,8 @@ add-base : tie.Need-add-base
 add-base c = omega (arith, few-blocks (the-start c .pre .0 .ready))
 
 -- R starts where the plan's numbers say
-start : (c : tie.After-rest) → c .before .fixed-start .result ≡ fixedStart (formOf (c .before .before .before .before .before .before .args .task)) (c .before .before .before .before .before .before .args .s .now) (c .before .before .before .before .before .before .args .task .first)
-start c = c .before .fixed-start .ensures ∙ ap (λ (f : Form). fixedStart f (the-start c .args .s .now) (the-start c .args .task .first)) (c .before .before .form-of .ensures)
+start : (c : tie.After-rest) → c .before .fixed-start .result ≡ fixedStart (formOf (c .before .before .before .before .before .before .args .task)) (c .before .before .before .before .before .before .args .reel .now) (c .before .before .before .before .before .before .args .task .first)
+start c = c .before .fixed-start .ensures ∙ ap (λ (f : Form). fixedStart f (the-start c .args .reel .now) (the-start c .args .task .first)) (c .before .before .form-of .ensures)
 
 div-put-ends : tie.Need-div-put-ends
 div-put-ends c = let x = the-start (c .before) .pre .0 .ready in record-some (x .is) (x .good) (the-start (c .before) .pre .1)

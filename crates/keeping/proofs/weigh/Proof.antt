@@ -27,15 +27,15 @@ barren c =
 -- and so is the lost half
 lost : (c : tie.After-lost-half)
     → let a = c .before .before .before .before .before .before .before .before .before .before .before .args in
-    c .lost-half .result ≡ lostOf zoneF (fieldsIn (now (a .fields))) (a .n) (a .m)
+    c .lost-half .result ≡ lostOf zoneF (fieldsIn (now (a .fields))) (a .n) (a .width)
 lost c =
     let start = c .before .before .before .before .before .before .before .before .before .before .before in
     let a = start .args in
     let fs = fieldsIn (now (a .fields)) in
-    c .lost-half .ensures (sources zoneF (a .m) fs (2 * a .n))
-    (length-sources zoneF (a .n) (a .m) fs (fits-all (now (a .fields)) (a .n) (a .m) (start .pre)))
-    (c .before .before .before .sources .ensures .1 (a .n) (a .m) (start .pre))
-    ∙ lost-of _ fs (a .n) (start .pre .n-high) (c .before .before .before .before .before .before .before .before .permitted .ensures .1) (a .m)
+    c .lost-half .ensures (sources zoneF (a .width) fs (2 * a .n))
+    (length-sources zoneF (a .n) (a .width) fs (fits-all (now (a .fields)) (a .n) (a .width) (start .pre)))
+    (c .before .before .before .sources .ensures .1 (a .n) (a .width) (start .pre))
+    ∙ lost-of _ fs (a .n) (start .pre .n-high) (c .before .before .before .before .before .before .before .before .permitted .ensures .1) (a .width)
 
 permitted-requires : tie.Need-permitted-requires
 permitted-requires c κs = (fair-longest _ _ _ (c .before .before .pre), (length-replicate {A = ℕ} 8192 0, zeros 8192))
@@ -65,8 +65,8 @@ lost-half-requires c κs =
       λ g l. omega (
         arith,
         start .pre .n-high,
-        numbers-low _ fs (a .n) (a .m) (c .before .before .sources .ensures .1 (a .n) (a .m) (start .pre)) g
-            (omega (arith, length-sources zoneF (a .n) (a .m) fs (fits-all (now (a .fields)) (a .n) (a .m) (start .pre)))),
+        numbers-low _ fs (a .n) (a .width) (c .before .before .sources .ensures .1 (a .n) (a .width) (start .pre)) g
+            (omega (arith, length-sources zoneF (a .n) (a .width) fs (fits-all (now (a .fields)) (a .n) (a .width) (start .pre)))),
       ),
     )
 

@@ -39,12 +39,12 @@ loop-holds c = ask-start _ _ _ _ (first-low (asks (past-form-of c .form-of .ensu
 few : (c : tie.In-loop Inv-loop μ-loop) → length (c .before .before .rest .result .now) ≤ 65536
 few c =
     let r = c .before .before in
-    omega (arith, ap length (r .rest .ensures), length-drop (r .before .fixed-start .result) (start r .args .s .now), seek-few (start r .args .task) (start r .args .fields .now) (start r .args .s .now) (start r .pre .1) (past-form-of r .form-of .ensures) (r .before .fixed-start .ensures) (r .rest .ensures) (start r .pre .0))
+    omega (arith, ap length (r .rest .ensures), length-drop (r .before .fixed-start .result) (start r .args .reel .now), seek-few (start r .args .task) (start r .args .fields .now) (start r .args .reel .now) (start r .pre .1) (past-form-of r .form-of .ensures) (r .before .fixed-start .ensures) (r .rest .ensures) (start r .pre .0))
 
 add-end : tie.Need-add-end Inv-loop μ-loop
 add-end c =
     let r = c .before .before in
-    let l = seek-inside (start r .args .task) (start r .args .fields .now) (start r .args .s .now) (start r .pre .1) (past-form-of r .form-of .ensures) (r .before .fixed-start .ensures) (r .rest .ensures) (c .before .loop .inv) (start r .pre .0) (omega arith) in omega (arith, few c)
+    let l = seek-inside (start r .args .task) (start r .args .fields .now) (start r .args .reel .now) (start r .pre .1) (past-form-of r .form-of .ensures) (r .before .fixed-start .ensures) (r .rest .ensures) (c .before .loop .inv) (start r .pre .0) (omega arith) in omega (arith, few c)
 
 sub-permitted : tie.Need-sub-permitted Inv-loop μ-loop
 sub-permitted c = search needs
@@ -55,37 +55,37 @@ part-permitted-start c = search needs
 part-permitted-end : tie.Need-part-permitted-end Inv-loop μ-loop
 part-permitted-end c =
     let r = c .before .before in
-    seek-inside (start r .args .task) (start r .args .fields .now) (start r .args .s .now) (start r .pre .1) (past-form-of r .form-of .ensures) (r .before .fixed-start .ensures) (r .rest .ensures) (c .before .loop .inv) (start r .pre .0) (omega arith)
+    seek-inside (start r .args .task) (start r .args .fields .now) (start r .args .reel .now) (start r .pre .1) (past-form-of r .form-of .ensures) (r .before .fixed-start .ensures) (r .rest .ensures) (c .before .loop .inv) (start r .pre .0) (omega arith)
 
 permitted-requires : tie.Need-permitted-requires Inv-loop μ-loop
 permitted-requires c κs =
     let r = c .before .before .before in
-    seek-readable (start r .args .task) (start r .args .fields .now) (start r .args .s .now) (start r .pre .1) (past-form-of r .form-of .ensures) (r .before .fixed-start .ensures) (r .rest .ensures) (c .before .before .loop .inv) (start r .pre .0) (omega arith)
+    seek-readable (start r .args .task) (start r .args .fields .now) (start r .args .reel .now) (start r .pre .1) (past-form-of r .form-of .ensures) (r .before .fixed-start .ensures) (r .rest .ensures) (c .before .before .loop .inv) (start r .pre .0) (omega arith)
 
 returns : tie.Need-returns Inv-loop μ-loop
 returns c =
     let r = c .before .before .before .before .before in
-    seek-stop (start r .args .task) (start r .args .fields .now) (start r .args .s .now) (start r .pre .1) (past-form-of r .form-of .ensures) (r .before .fixed-start .ensures) (r .rest .ensures) (c .before .before .before .before .loop .inv) (omega arith) _ (c .before .permitted .ensures) (not-true _ (c .if1 .taken))
+    seek-stop (start r .args .task) (start r .args .fields .now) (start r .args .reel .now) (start r .pre .1) (past-form-of r .form-of .ensures) (r .before .fixed-start .ensures) (r .rest .ensures) (c .before .before .before .before .loop .inv) (omega arith) _ (c .before .permitted .ensures) (not-true _ (c .if1 .taken))
 
 add-number : tie.Need-add-number Inv-loop μ-loop
 add-number c =
     let r = c .before .before .before .before .before in
-    omega (arith, c .before .before .before .before .loop .inv .few, few (c .before .before .before), seek-high (start r .args .task) (start r .args .fields .now) (start r .args .s .now) (start r .pre .1) (past-form-of r .form-of .ensures) (r .before .fixed-start .ensures) (r .rest .ensures) (start r .pre .0))
+    omega (arith, c .before .before .before .before .loop .inv .few, few (c .before .before .before), seek-high (start r .args .task) (start r .args .fields .now) (start r .args .reel .now) (start r .pre .1) (past-form-of r .form-of .ensures) (r .before .fixed-start .ensures) (r .rest .ensures) (start r .pre .0))
 
 loop-less : tie.Need-loop-less Inv-loop μ-loop
 loop-less c =
     let r = c .before .before .before .before .before in
-    omega (arith, seek-some (start r .args .task) (start r .args .fields .now) (start r .args .s .now) (start r .pre .1) (past-form-of r .form-of .ensures) (r .before .fixed-start .ensures) (r .rest .ensures) (start r .pre .0))
+    omega (arith, seek-some (start r .args .task) (start r .args .fields .now) (start r .args .reel .now) (start r .pre .1) (past-form-of r .form-of .ensures) (r .before .fixed-start .ensures) (r .rest .ensures) (start r .pre .0))
 
 loop-again : tie.Need-loop-again Inv-loop μ-loop
 loop-again c =
     let r = c .before .before .before .before .before in
-    ask-more (seek-some (start r .args .task) (start r .args .fields .now) (start r .args .s .now) (start r .pre .1) (past-form-of r .form-of .ensures) (r .before .fixed-start .ensures) (r .rest .ensures) (start r .pre .0)) (c .before .before .before .before .loop .inv) (omega arith) _ (c .before .permitted .ensures) (not-false _ (c .if1 .left))
+    ask-more (seek-some (start r .args .task) (start r .args .fields .now) (start r .args .reel .now) (start r .pre .1) (past-form-of r .form-of .ensures) (r .before .fixed-start .ensures) (r .rest .ensures) (start r .pre .0)) (c .before .before .before .before .loop .inv) (omega arith) _ (c .before .permitted .ensures) (not-false _ (c .if1 .left))
 
 returns-2 : tie.Need-returns-2 Inv-loop μ-loop
 returns-2 c =
     let r = c .before .before in
-    seek-end (start r .args .task) (start r .args .fields .now) (start r .args .s .now) (start r .pre .1) (past-form-of r .form-of .ensures) (r .before .fixed-start .ensures) (r .rest .ensures) (c .before .loop .inv) (omega arith)
+    seek-end (start r .args .task) (start r .args .fields .now) (start r .args .reel .now) (start r .pre .1) (past-form-of r .form-of .ensures) (r .before .fixed-start .ensures) (r .rest .ensures) (c .before .loop .inv) (omega arith)
 
 pub first-fixed-spec : {M : Type 1} → statement M
 first-fixed-spec =

@@ -24,9 +24,9 @@ rest-requires : tie.Need-rest-requires
 rest-requires c κs = search needs
 
 -- R starts where the plan's numbers say
-start : (c : tie.After-struct-known) → c .before .before .fixed-start .result ≡ fixedStart (formOf (c .before .before .before .before .before .args .task)) (c .before .before .before .before .before .args .s .now) (c .before .before .before .before .before .args .task .first)
+start : (c : tie.After-struct-known) → c .before .before .fixed-start .result ≡ fixedStart (formOf (c .before .before .before .before .before .args .task)) (c .before .before .before .before .before .args .reel .now) (c .before .before .before .before .before .args .task .first)
 start c =
-    c .before .before .fixed-start .ensures ∙ ap (λ (f : Form). fixedStart f (c .before .before .before .before .before .args .s .now) (c .before .before .before .before .before .args .task .first)) (c .before .before .before .form-of .ensures)
+    c .before .before .fixed-start .ensures ∙ ap (λ (f : Form). fixedStart f (c .before .before .before .before .before .args .reel .now) (c .before .before .before .before .before .args .task .first)) (c .before .before .before .form-of .ensures)
 
 div-records : tie.Need-div-records
 div-records c =

@@ -8,10 +8,10 @@ use Rattle.records.proofs.covers.Statement.{statement}
 use Rattle.records.proofs.covers.Tie as tie
 
 abbrev Inv-loop : tie.InvT-loop
-Inv-loop fields m count covered₀ i₀ covered i = Reaching fields covered i
+Inv-loop fields width count covered₀ i₀ covered i = Reaching fields covered i
 
 abbrev μ-loop : tie.MeasureT-loop
-μ-loop fields m count covered₀ i₀ covered i = count - i
+μ-loop fields width count covered₀ i₀ covered i = count - i
 
 loop-holds : tie.Need-loop-holds Inv-loop μ-loop
 loop-holds c = reach-start _
@@ -39,7 +39,7 @@ loop-again c =
 returns : tie.Need-returns Inv-loop μ-loop
 returns c =
     let t = c .before in
-    reach-end (t .before .before .args .fields .now) (t .loop .covered) (t .loop .i) (t .loop .inv) (omega arith) (t .before .before .args .m)
+    reach-end (t .before .before .args .fields .now) (t .loop .covered) (t .loop .i) (t .loop .inv) (omega arith) (t .before .before .args .width)
 
 pub covers-spec : {M : Type 1} → statement M
 covers-spec =

@@ -1,4 +1,4 @@
--- `records::put_ground` meets its contract: the first m bytes are blanks, unless they are covered.
+-- `records::put_ground` meets its contract: the first width bytes are blanks, unless they are covered.
 use mathlib.Core.Path.{sym, ap, _∙_}
 use Prim.Native.Nat.{ℕ}
 use native.Mathlib.Omega.{arith}
@@ -27,7 +27,7 @@ returns c =
     let b = c .before .before in
     let s = b .before .before .before .before in
     rw (not-true (s .args .covered) (b .before .before .if1 .taken))
-    (ground-blank (s .args .m) (s .args .out .now) _ (b .put-blanks .ensures ∙ ap (λ (k : ℕ). replicate k 0x40) (length-take-le (s .args .m) (s .args .out .now) (omega arith))))
+    (ground-blank (s .args .width) (s .args .out .now) _ (b .put-blanks .ensures ∙ ap (λ (k : ℕ). replicate k 0x40) (length-take-le (s .args .width) (s .args .out .now) (omega arith))))
 
 returns-2 : tie.Need-returns-2
 returns-2 c = rw (not-false (c .before .before .args .covered) (c .if1 .left)) (ground-stays _ _)

@@ -17,7 +17,7 @@ kept : (t : tie.After-put-fields) → length (t .put-fields .last .1 .1 .0) ≡ 
 kept t = t .put-fields .kept .1 .1 .0 ∙ t .before .before .before .before .put-ground .kept .1 .1 .0
 
 -- the tail has room
-room : (t : tie.Then1) → start (t .before .before .before) .args .m + (length (start (t .before .before .before) .args .«record» .now) - start (t .before .before .before) .args .n) ≤ length (start (t .before .before .before) .args .out .now)
+room : (t : tie.Then1) → start (t .before .before .before) .args .width + (length (start (t .before .before .before) .args .«record» .now) - start (t .before .before .before) .args .n) ≤ length (start (t .before .before .before) .args .out .now)
 room t = tail-room _ _ _ _ (t .if1 .taken) (start (t .before .before .before) .pre .1 .1 .0)
 
 put-ground-requires : tie.Need-put-ground-requires
@@ -66,9 +66,9 @@ returns c =
     let p = i .before .before .before in
     let s = start p in
     rw (i .if1 .taken)
-    (put-tail (s .args .fields .now) (s .args .n) (s .args .m) (s .args .covered) (s .args .«record» .now) (s .args .out .now) _ _ (s .pre .1 .0) (omega arith) (s .pre .1 .1 .1 .0)
+    (put-tail (s .args .fields .now) (s .args .n) (s .args .width) (s .args .covered) (s .args .«record» .now) (s .args .out .now) _ _ (s .pre .1 .0) (omega arith) (s .pre .1 .1 .1 .0)
     (p .before .before .before .before .put-ground .ensures) (p .put-fields .ensures)
-    _ _ (g .copy .last .1 .0) (part-to-end (s .args .«record» .now) (s .args .n)) (part-length (s .args .m) _ (p .put-fields .last .1 .1 .0) (omega (arith, room i, kept p))) (g .copy .ensures) (room i))
+    _ _ (g .copy .last .1 .0) (part-to-end (s .args .«record» .now) (s .args .n)) (part-length (s .args .width) _ (p .put-fields .last .1 .1 .0) (omega (arith, room i, kept p))) (g .copy .ensures) (room i))
 
 same-length-2 : tie.Need-same-length-2
 same-length-2 c = search needs
@@ -78,7 +78,7 @@ returns-2 c =
     let p = c .before .before .before in
     let s = start p in
     rw (c .if1 .left)
-    (put-alone (s .args .fields .now) (s .args .n) (s .args .m) (s .args .covered) (s .args .«record» .now) (s .args .out .now) _ _ (s .pre .1 .0) (omega arith) (s .pre .1 .1 .1 .0)
+    (put-alone (s .args .fields .now) (s .args .n) (s .args .width) (s .args .covered) (s .args .«record» .now) (s .args .out .now) _ _ (s .pre .1 .0) (omega arith) (s .pre .1 .1 .1 .0)
     (p .before .before .before .before .put-ground .ensures) (p .put-fields .ensures))
 
 pub put-record-spec : {M : Type 1} → statement M

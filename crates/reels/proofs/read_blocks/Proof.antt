@@ -21,7 +21,7 @@ abbrev μ-loop : tie.MeasureT-loop
 -- what the rule says of block i
 judged-some : (c : tie.After-read Inv-loop μ-loop)
     → BlockSays (c .before .before .before .before .before .before .before .args .form)
-    (blockPart (now (c .before .before .before .before .before .before .before .args .s)) (c .before .before .before .before .before .loop .i)) (Records (c .read .given .0 .0))
+    (blockPart (now (c .before .before .before .before .before .before .before .args .reel)) (c .before .before .before .before .before .loop .i)) (Records (c .read .given .0 .0))
 judged-some c =
     let form = c .before .before .before .before .before .before .before .args .form in
     subst (λ b. BlockSays form b (Records (c .read .given .0 .0))) (c .before .before .before .block .ensures)
@@ -29,7 +29,7 @@ judged-some c =
 
 judged-none : (c : tie.After-enum-told Inv-loop μ-loop)
     → BlockSays (c .before .before .before .before .before .before .before .args .form)
-    (blockPart (now (c .before .before .before .before .before .before .before .args .s)) (c .before .before .before .before .before .loop .i)) Breaks
+    (blockPart (now (c .before .before .before .before .before .before .before .args .reel)) (c .before .before .before .before .before .loop .i)) Breaks
 judged-none c =
     let form = c .before .before .before .before .before .before .before .args .form in
     subst (λ b. BlockSays form b Breaks) (c .before .before .before .block .ensures)

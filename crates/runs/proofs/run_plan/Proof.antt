@@ -41,7 +41,7 @@ returns c =
     let e = sym (c .before .before .before .before .before .before .before .before .is-fs .ensures) ∙ c .before .before .before .before .before .before .before .if1 .taken in
     let q
     = by-spans (st .args .asked) (now (st .args .fields)) e _ _ _ (c .before .before .before .before .before .before .is-tc .ensures)
-    (c .before .before .before .before .before .block-length .ensures) (c .before .before .before .before .block-length2 .ensures) (length (now (st .args .out))) (now (st .args .s)) in
+    (c .before .before .before .before .before .block-length .ensures) (c .before .before .before .before .block-length2 .ensures) (length (now (st .args .out))) (now (st .args .reel)) in
     (c .before .before .run-spanned .ensures .0 ∙ ap (λ (x : Answer RunOutput). ranStruct (runAnswer x)) q, c .before .before .run-spanned .ensures .1 ∙ ap (outputAfter (now (st .args .out))) q)
 
 task-of-requires : tie.Need-task-of-requires
@@ -62,7 +62,7 @@ returns-2 c =
     let e = sym (c .before .before .before .before .before .before .is-fs .ensures) ∙ c .before .before .before .before .before .if1 .left in
     let p = planIn zoneF (st .args .asked) (fieldsIn (now (st .args .fields))) in
     let g = given-plan (st .pre) e _ (c .before .before .before .before .task-of .ensures) in
-    let q = by-blocks (st .args .asked) (now (st .args .fields)) e (length (now (st .args .out))) (now (st .args .s)) in
+    let q = by-blocks (st .args .asked) (now (st .args .fields)) e (length (now (st .args .out))) (now (st .args .reel)) in
     (c .before .before .run .ensures .answer p g ∙ ap (λ (x : Answer RunOutput). ranStruct (runAnswer x)) q, c .before .before .run .ensures .output p g ∙ ap (outputAfter (now (st .args .out))) q)
 
 pub run-plan-spec : {M : Type 1} → statement M

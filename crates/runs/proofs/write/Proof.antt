@@ -14,7 +14,7 @@ enum-told : tie.Need-enum-told
 enum-told c = search needs
 
 copy-requires : tie.Need-copy-requires
-copy-requires c κs = copy-room (c .before .before .before .before .before .before .pre) (ap modeOf (c .before .enum-told .given .1)) (all-bytes (c .before .before .before .before .before .before .args .s .now) (λ i. omega (arith, c .before .before .before .before .shared-slice-known2 .given i)))
+copy-requires c κs = copy-room (c .before .before .before .before .before .before .pre) (ap modeOf (c .before .enum-told .given .1)) (all-bytes (c .before .before .before .before .before .before .args .reel .now) (λ i. omega (arith, c .before .before .before .before .shared-slice-known2 .given i)))
 
 enum-told-2 : tie.Need-enum-told-2
 enum-told-2 c = search needs
@@ -38,7 +38,7 @@ same-length : tie.Need-same-length
 same-length c = search needs
 
 returns : tie.Need-returns
-returns c = copied (ap modeOf (c .before .before .before .before .enum-told .given .1)) (all-bytes (c .before .before .before .before .before .before .before .before .before .args .s .now) (λ i. omega (arith, c .before .before .before .before .before .before .before .shared-slice-known2 .given i))) (c .before .before .copy .ensures)
+returns c = copied (ap modeOf (c .before .before .before .before .enum-told .given .1)) (all-bytes (c .before .before .before .before .before .before .before .before .before .args .reel .now) (λ i. omega (arith, c .before .before .before .before .before .before .before .shared-slice-known2 .given i))) (c .before .before .copy .ensures)
 
 same-length-2 : tie.Need-same-length-2
 same-length-2 c = search needs

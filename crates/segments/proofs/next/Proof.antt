@@ -16,7 +16,7 @@ returns : tie.Need-returns
 returns c =
     let t = c .before .before in
     let a = t .before .before .args in
-    c .read-at .ensures ∙ next-here (now (a .s)) (a .v) _ (t .block .ensures) (c .before .if1 .taken)
+    c .read-at .ensures ∙ next-here (now (a .reel)) (a .v) _ (t .block .ensures) (c .before .if1 .taken)
 
 add-read-at : tie.Need-add-read-at
 add-read-at c = search needs
@@ -28,7 +28,7 @@ returns-2 : tie.Need-returns-2
 returns-2 c =
     let t = c .before .before in
     let a = t .before .before .args in
-    c .read-at2 .ensures ∙ next-later (now (a .s)) (a .v) _ (t .block .ensures) (c .before .if1 .left)
+    c .read-at2 .ensures ∙ next-later (now (a .reel)) (a .v) _ (t .block .ensures) (c .before .if1 .left)
 
 pub next-spec : {M : Type 1} → statement M
 next-spec = tie.close (tie.spec block-requires read-at-requires returns add-read-at read-at-requires-2 returns-2)

@@ -34,7 +34,7 @@ returns c =
     let t = c .before .before in
     let b = t .before .before .before in
     let a = b .before .before .before .args in
-    lent-put (now (a .s)) (a .v) (a .n) _ _ _ (b .block .ensures) (t .copy .ensures)
+    lent-put (now (a .reel)) (a .v) (a .n) _ _ _ (b .block .ensures) (t .copy .ensures)
 
 pub put-spec : {M : Type 1} → statement M
 put-spec = tie.close (tie.spec block-requires add-end sub-copy part-copy-start part-copy-end copy-requires same-length returns)

@@ -31,19 +31,19 @@ returns : tie.Need-returns
 returns c =
     let t = c .before .before .before in
     let a = t .before .before .before .args in
-    sym (read-is (now (a .s)) (a .block) (a .at) _ _ (t .before .block .ensures) (sym (c .before .read .given .1) ∙ t .segment .ensures))
+    sym (read-is (now (a .reel)) (a .block) (a .at) _ _ (t .before .block .ensures) (sym (c .before .read .given .1) ∙ t .segment .ensures))
 
 returns-2 : tie.Need-returns-2
 returns-2 c =
     let t = c .before .before .before in
     let a = t .before .before .before .args in
-    c .nothing .ensures ∙ sym (read-is (now (a .s)) (a .block) (a .at) _ _ (t .before .block .ensures) (sym (c .before .enum-told .given .1) ∙ t .segment .ensures))
+    c .nothing .ensures ∙ sym (read-is (now (a .reel)) (a .block) (a .at) _ _ (t .before .block .ensures) (sym (c .before .enum-told .given .1) ∙ t .segment .ensures))
 
 returns-3 : tie.Need-returns-3
 returns-3 c =
     let t = c .before .before .before in
     let a = t .before .before .before .args in
-    c .nothing2 .ensures ∙ sym (read-is (now (a .s)) (a .block) (a .at) _ _ (t .before .block .ensures) (sym (c .before .enum-told2 .given .1) ∙ t .segment .ensures))
+    c .nothing2 .ensures ∙ sym (read-is (now (a .reel)) (a .block) (a .at) _ _ (t .before .block .ensures) (sym (c .before .enum-told2 .given .1) ∙ t .segment .ensures))
 
 pub read-at-spec : {M : Type 1} → statement M
 read-at-spec =

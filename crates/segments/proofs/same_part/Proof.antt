@@ -46,7 +46,7 @@ returns c =
     let d = c .before .before .before in
     let b = d .before in
     let a = b .before .before .before .args in
-    lent-same (now (a .s)) (a .v) (now (a .t)) (a .u) (a .n) _ _ (b .block .ensures) (d .block2 .ensures) _ (c .same .ensures)
+    lent-same (now (a .reel)) (a .v) (now (a .t)) (a .u) (a .n) _ _ (b .block .ensures) (d .block2 .ensures) _ (c .same .ensures)
 
 pub same-part-spec : {M : Type 1} → statement M
 same-part-spec =

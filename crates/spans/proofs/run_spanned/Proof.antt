@@ -36,7 +36,7 @@ sub-copied c = search needs
 copied-requires : tie.Need-copied-requires
 copied-requires c κs =
     let s = c .before .before .before .before .before .before .before .before .before in
-    input-most (s .args .copies) (s .args .g) (s .args .m) (s .args .first) (s .args .s .now) (s .args .out .now) (c .before .before .before .before .before .before .read-spanned .ensures) _ _ (c .before .before .before .before .read2 .given .1)
+    input-most (s .args .copies) (s .args .g) (s .args .m) (s .args .first) (s .args .reel .now) (s .args .out .now) (c .before .before .before .before .before .before .read-spanned .ensures) _ _ (c .before .before .before .before .read2 .given .1)
 
 same-length : tie.Need-same-length
 same-length c = search needs
@@ -44,8 +44,8 @@ same-length c = search needs
 returns : tie.Need-returns
 returns c =
     let s = c .before .before .before .before .before .before .before .before .before .before .before .before in
-    ends-copied (s .args .copies) (s .args .g) (s .args .m) (s .args .first) (s .args .s .now) (s .args .out .now) (c .before .before .before .before .before .before .before .before .before .read-spanned .ensures) _ _ (c .before .before .before .before .before .before .before .read2 .given .1) (c .before .before .before .before .before .smaller .ensures) (c .before .before .before .before .if1 .taken)
-    (all-bytes (s .args .s .now) (λ i. omega (arith, c .before .before .before .before .before .before .before .before .before .before .before .shared-slice-known .given i))) (c .before .before .copied .ensures)
+    ends-copied (s .args .copies) (s .args .g) (s .args .m) (s .args .first) (s .args .reel .now) (s .args .out .now) (c .before .before .before .before .before .before .before .before .before .read-spanned .ensures) _ _ (c .before .before .before .before .before .before .before .read2 .given .1) (c .before .before .before .before .before .smaller .ensures) (c .before .before .before .before .if1 .taken)
+    (all-bytes (s .args .reel .now) (λ i. omega (arith, c .before .before .before .before .before .before .before .before .before .before .before .shared-slice-known .given i))) (c .before .before .copied .ensures)
 
 sub-filled : tie.Need-sub-filled
 sub-filled c = search needs
@@ -53,17 +53,17 @@ sub-filled c = search needs
 filled-requires : tie.Need-filled-requires
 filled-requires c κs =
     let s = c .before .before .before .before .before .before .before .before .before in
-    (taking (s .args .copies) (s .args .g) (s .args .m) (s .args .first) (s .args .s .now) (s .args .out .now) (c .before .before .before .before .before .before .read-spanned .ensures) _ _ (c .before .before .before .before .read2 .given .1) (c .before .before .smaller .ensures) (s .pre .2), s .pre .0, s .pre .1)
+    (taking (s .args .copies) (s .args .g) (s .args .m) (s .args .first) (s .args .reel .now) (s .args .out .now) (c .before .before .before .before .before .before .read-spanned .ensures) _ _ (c .before .before .before .before .read2 .given .1) (c .before .before .smaller .ensures) (s .pre .2), s .pre .0, s .pre .1)
 
 returns-2 : tie.Need-returns-2
 returns-2 c =
     let s = c .before .before .before .before .before .before in
-    ends-no-reel (s .args .copies) (s .args .g) (s .args .m) (s .args .first) (s .args .s .now) (s .args .out .now) (c .before .before .before .read-spanned .ensures) (c .before .enum-told .given .1) (c .refused .ensures)
+    ends-no-reel (s .args .copies) (s .args .g) (s .args .m) (s .args .first) (s .args .reel .now) (s .args .out .now) (c .before .before .before .read-spanned .ensures) (c .before .enum-told .given .1) (c .refused .ensures)
 
 returns-3 : tie.Need-returns-3
 returns-3 c =
     let s = c .before .before .before .before .before .before .before in
-    ends-bad (s .args .copies) (s .args .g) (s .args .m) (s .args .first) (s .args .s .now) (s .args .out .now) (c .before .before .before .before .read-spanned .ensures) _ (c .before .before .read .given .1) (c .refused2 .ensures)
+    ends-bad (s .args .copies) (s .args .g) (s .args .m) (s .args .first) (s .args .reel .now) (s .args .out .now) (c .before .before .before .before .read-spanned .ensures) _ (c .before .before .read .given .1) (c .refused2 .ensures)
 
 same-length-2 : tie.Need-same-length-2
 same-length-2 c = search needs
@@ -71,7 +71,7 @@ same-length-2 c = search needs
 returns-4 : tie.Need-returns-4
 returns-4 c =
     let s = c .before .before .before .before .before .before .before .before .before .before .before .before in
-    ends-filled (s .args .copies) (s .args .g) (s .args .m) (s .args .first) (s .args .s .now) (s .args .out .now) (c .before .before .before .before .before .before .before .before .before .read-spanned .ensures) _ _ (c .before .before .before .before .before .before .before .read2 .given .1) (c .before .before .before .before .before .smaller .ensures) (c .before .before .before .before .if1 .left) (s .pre .2) _ _ (c .before .before .filled .ensures)
+    ends-filled (s .args .copies) (s .args .g) (s .args .m) (s .args .first) (s .args .reel .now) (s .args .out .now) (c .before .before .before .before .before .before .before .before .before .read-spanned .ensures) _ _ (c .before .before .before .before .before .before .before .read2 .given .1) (c .before .before .before .before .before .smaller .ensures) (c .before .before .before .before .if1 .left) (s .pre .2) _ _ (c .before .before .filled .ensures)
 
 pub run-spanned-spec : {M : Type 1} → statement M
 run-spanned-spec =

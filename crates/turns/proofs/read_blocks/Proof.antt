@@ -21,7 +21,7 @@ abbrev μ-loop : tie.MeasureT-loop
 -- what block i is read as
 ruled-some : (c : tie.After-read Inv-loop μ-loop)
     → Ruled (c .before .before .before .before .before .before .before .args .g) (c .before .before .before .before .before .loop .counts)
-    (blockPart (now (c .before .before .before .before .before .before .before .args .s)) (c .before .before .before .before .before .loop .i)) (InTurn (c .read .given .0 .0))
+    (blockPart (now (c .before .before .before .before .before .before .before .args .reel)) (c .before .before .before .before .before .loop .i)) (InTurn (c .read .given .0 .0))
 ruled-some c =
     let g = c .before .before .before .before .before .before .before .args .g in
     let counts = c .before .before .before .before .before .loop .counts in
@@ -30,7 +30,7 @@ ruled-some c =
 
 ruled-none : (c : tie.After-enum-told Inv-loop μ-loop)
     → Ruled (c .before .before .before .before .before .before .before .args .g) (c .before .before .before .before .before .loop .counts)
-    (blockPart (now (c .before .before .before .before .before .before .before .args .s)) (c .before .before .before .before .before .loop .i)) Breaks
+    (blockPart (now (c .before .before .before .before .before .before .before .args .reel)) (c .before .before .before .before .before .loop .i)) Breaks
 ruled-none c =
     let g = c .before .before .before .before .before .before .before .args .g in
     let counts = c .before .before .before .before .before .loop .counts in

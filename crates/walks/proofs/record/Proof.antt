@@ -11,13 +11,13 @@ use Rattle.walks.proofs.record.Statement.{statement}
 use Rattle.walks.proofs.record.Tie as tie
 
 -- a record is there
-here : (c : tie.Else1) → Reads (c .before .before .args .form) (now (c .before .before .args .s)) (c .before .before .args .w)
+here : (c : tie.Else1) → Reads (c .before .before .args .form) (now (c .before .before .args .reel)) (c .before .before .args .w)
 here c = reads (c .before .before .pre) (c .if1 .left)
 
 returns : tie.Need-returns
 returns c =
     let st = c .before .before in
-    told (st .args .form) (now (st .args .s)) (st .args .w) _ (st .pre) (record-none (st .args .form) (now (st .args .s)) (st .args .w) (c .if1 .taken))
+    told (st .args .form) (now (st .args .reel)) (st .args .w) _ (st .pre) (record-none (st .args .form) (now (st .args .reel)) (st .args .w) (c .if1 .taken))
 
 cost-requires : tie.Need-cost-requires
 cost-requires c κs = search needs
@@ -35,13 +35,13 @@ behind-requires : tie.Need-behind-requires
 behind-requires c κs =
     let a = c .before .before .before .before .args in
     let h = here (c .before .before) in
-    (h .word, subst (λ (e : ℕ). a .w .end ≤ e → Starting (a .form) (now (a .s)) (a .w .word + 4) e) (sym (c .record-end .ensures)) (h .next))
+    (h .word, subst (λ (e : ℕ). a .w .end ≤ e → Starting (a .form) (now (a .reel)) (a .w .word + 4) e) (sym (c .record-end .ensures)) (h .next))
 
 returns-2 : tie.Need-returns-2
 returns-2 c =
     let st = c .before .before .before .before .before in
-    told (st .args .form) (now (st .args .s)) (st .args .w) _ (st .pre)
-    (record-found (st .args .form) (now (st .args .s)) (st .args .w) _ _ _ (c .before .before .before .if1 .left) (c .before .before .cost .ensures) (c .before .record-end .ensures)
+    told (st .args .form) (now (st .args .reel)) (st .args .w) _ (st .pre)
+    (record-found (st .args .form) (now (st .args .reel)) (st .args .w) _ _ _ (c .before .before .before .if1 .left) (c .before .before .cost .ensures) (c .before .record-end .ensures)
     (c .behind .ensures))
 
 pub record-spec : {M : Type 1} → statement M

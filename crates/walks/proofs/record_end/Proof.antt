@@ -16,7 +16,7 @@ add-result : tie.Need-add-result
 add-result c =
     let st = c .before .before .before .before in
     let a = st .args in
-    omega (arith, st .pre .1, ap (λ f. endIn (formatOf f) (a .form .n) (now (a .s)) (a .at) (a .end)) (c .before .enum-told .given .1))
+    omega (arith, st .pre .1, ap (λ f. endIn (formatOf f) (a .form .n) (now (a .reel)) (a .at) (a .end)) (c .before .enum-told .given .1))
 
 enum-told-2 : tie.Need-enum-told-2
 enum-told-2 c = search needs
@@ -58,7 +58,7 @@ enum-told-4 c = search needs
 returns : tie.Need-returns
 returns c =
     let a = c .before .before .before .before .args in
-    ap (λ f. endIn (formatOf f) (a .form .n) (now (a .s)) (a .at) (a .end)) (sym (c .before .enum-told .given .1))
+    ap (λ f. endIn (formatOf f) (a .form .n) (now (a .reel)) (a .at) (a .end)) (sym (c .before .enum-told .given .1))
 
 returns-2 : tie.Need-returns-2
 returns-2 c =
@@ -67,7 +67,7 @@ returns-2 c =
       arith,
       c .before .before .wide .ensures .0,
       c .wide2 .ensures .0,
-      ap (λ f. endIn (formatOf f) (a .form .n) (now (a .s)) (a .at) (a .end)) (c .before .before .before .before .enum-told2 .given .1),
+      ap (λ f. endIn (formatOf f) (a .form .n) (now (a .reel)) (a .at) (a .end)) (c .before .before .before .before .enum-told2 .given .1),
     )
 
 returns-3 : tie.Need-returns-3

@@ -14,7 +14,7 @@ part-result-end : tie.Need-part-result-end
 part-result-end c = search needs
 
 returns : tie.Need-returns
-returns c = rest-there (c .before .before .args .s .now) (c .before .before .args .from)
+returns c = rest-there (c .before .before .args .reel .now) (c .before .before .args .from)
 
 slice-aggregate-result : tie.Need-slice-aggregate-result
 slice-aggregate-result c = search needs
