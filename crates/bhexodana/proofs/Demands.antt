@@ -26,17 +26,17 @@ use Rattle.rules.specs.Judge.{isFilling, underB, judge, judgeAnswer}
 use Rattle.rules.specs.JudgeWords.{Written, carried, Stands, AgreeAt, True, JudgeSays, Judging}
 use Rattle.rules.specs.ShortBlocks.{NeverRefused, Under, RunsAgain}
 use Rattle.rules.specs.Grammar.{tc, tr}
-use Rattle.rules.proofs.AnswerLaws.{fine-same}
-use Rattle.rules.proofs.SaidLaws.{plan-says, table-says, run-says}
-use Rattle.rules.proofs.PlanTable.{asks-once}
-use Rattle.rules.proofs.TwinSaid.{twins-says}
-use Rattle.rules.proofs.OneRecord.{ownRan}
-use Rattle.rules.proofs.Confused.{alone-runs}
-use Rattle.rules.proofs.Apart.{run-never-0, took, same-taken}
-use Rattle.rules.proofs.ShortBlockLaws.{run-gives}
-use Rattle.rules.proofs.SpannedLaws.{spanned-deck}
-use Rattle.rules.proofs.Demand3.{not-lost}
-use Rattle.rules.proofs.JudgeLaws.{judge-says, judging}
+use Rattle.rules.proofs.Refusals.AnswerLaws.{fine-same}
+use Rattle.rules.proofs.Refusals.SaidLaws.{plan-says, table-says, run-says}
+use Rattle.rules.proofs.Refusals.PlanTable.{asks-once}
+use Rattle.rules.proofs.Twins.TwinSaid.{twins-says}
+use Rattle.rules.proofs.Runs.OneRecord.{ownRan}
+use Rattle.rules.proofs.Keeping.Confused.{alone-runs}
+use Rattle.rules.proofs.Keeping.Apart.{run-never-0, took, same-taken}
+use Rattle.rules.proofs.Runs.ShortBlockLaws.{run-gives}
+use Rattle.rules.proofs.Spanned.SpannedLaws.{spanned-deck}
+use Rattle.rules.proofs.Keeping.Demand3.{not-lost}
+use Rattle.rules.proofs.Judge.JudgeLaws.{judge-says, judging}
 use Rattle.terms.specs.Meaning.{entryMeans}
 use Rattle.terms.specs.declared.Entry.{Entry}
 use Rattle.terms.proofs.Entries.{entries-hold}

@@ -16,10 +16,10 @@ use Rattle.rules.specs.Grammar.{Part, inData, inKey, Item, field, cv}
 use Rattle.rules.specs.Texts.{ItemText, FsText}
 use Rattle.rules.specs.Words.{Worded, fsWords, valuesOf, againColumn, numberColumns, outsideColumn, firstColumn, outsideIn, outsideAmong}
 use Rattle.rules.specs.Asked.{cvs, sameCV, cvColumn, itemNumbers, fieldColumn}
-use Rattle.rules.proofs.AcceptedLaws.{cvs-append}
-use Rattle.rules.proofs.WordedLaws.{fs-worded}
-use Rattle.rules.proofs.NumberColumns.{item-count}
-use Rattle.rules.proofs.WordColumns.{first-some, outside-free, outside-parts}
+use Rattle.rules.proofs.Deck.AcceptedLaws.{cvs-append}
+use Rattle.rules.proofs.Columns.WordedLaws.{fs-worded}
+use Rattle.rules.proofs.Columns.NumberColumns.{item-count}
+use Rattle.rules.proofs.Columns.WordColumns.{first-some, outside-free, outside-parts}
 use Rattle.cards.specs.declared.Noted.{Noted}
 use Rattle.cards.specs.Selected.{fieldCounted, keyNoted, fieldNoted, cvNoted, NotedRow, withItem, withWords, noSelection, withCard, withCards}
 

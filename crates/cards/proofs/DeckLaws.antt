@@ -15,12 +15,12 @@ use Rattle.rules.specs.Order.{Operands, operandsOf}
 use Rattle.rules.specs.Grammar.{Item, item, fsOperand}
 use Rattle.rules.specs.Words.{Worded, worded, partsOf, fsWords, valuesOf}
 use Rattle.rules.specs.Asked.{itemsFrom}
-use Rattle.rules.proofs.Lists.{slice-from, slice-part}
-use Rattle.rules.proofs.AllLaws.{all-head}
-use Rattle.rules.proofs.AnswerLaws.{bind-fine}
-use Rattle.rules.proofs.OrderOutcome.{order-fine}
-use Rattle.rules.proofs.ScanLaws.{cards-each}
-use Rattle.rules.proofs.WordColumns.{plainRead, list-plain}
+use Rattle.rules.proofs.Base.Lists.{slice-from, slice-part}
+use Rattle.rules.proofs.Base.AllLaws.{all-head}
+use Rattle.rules.proofs.Refusals.AnswerLaws.{bind-fine}
+use Rattle.rules.proofs.Refusals.OrderOutcome.{order-fine}
+use Rattle.rules.proofs.Deck.ScanLaws.{cards-each}
+use Rattle.rules.proofs.Columns.WordColumns.{plainRead, list-plain}
 use Rattle.lines.specs.declared.LineRead.the-variants.{Line, NoLine}
 use Rattle.lines.specs.Meaning.{IsCard, LineSays}
 use Rattle.cards.specs.declared.ListRead.{ListRead}

@@ -17,10 +17,10 @@ use Rattle.rules.specs.Deck.{Card, uCard, fsCard, beforeFS}
 use Rattle.rules.specs.Grammar.{Item, item, fsOperand}
 use Rattle.rules.specs.Words.{Worded, worded, valuesOf}
 use Rattle.rules.specs.Asked.{fieldsOf, itemsFrom, Asked as RuleAsked, askedOf}
-use Rattle.rules.proofs.AnswerLaws.{fine-same, bind-fine}
-use Rattle.rules.proofs.AcceptedLaws.{fields-append}
-use Rattle.rules.proofs.CardsOutcome.{grammatical-fine}
-use Rattle.rules.proofs.WordColumns.{plainRead, list-plain}
+use Rattle.rules.proofs.Refusals.AnswerLaws.{fine-same, bind-fine}
+use Rattle.rules.proofs.Deck.AcceptedLaws.{fields-append}
+use Rattle.rules.proofs.Refusals.CardsOutcome.{grammatical-fine}
+use Rattle.rules.proofs.Columns.WordColumns.{plainRead, list-plain}
 use Rattle.terms.specs.Meaning.{fieldCards}
 use Rattle.lines.specs.Meaning.{IsCard}
 use Rattle.cards.specs.declared.ListRead.{ListRead}

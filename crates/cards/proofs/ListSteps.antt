@@ -12,7 +12,7 @@ use borrow.Author.Tests.{ne-eqb}
 use Rattle.rules.specs.Grammar.{CardField, Item, cv}
 use Rattle.rules.specs.Asked.{fieldsOf}
 use Rattle.rules.specs.Plan.{keyFields}
-use Rattle.rules.proofs.AcceptedLaws.{fields-append}
+use Rattle.rules.proofs.Deck.AcceptedLaws.{fields-append}
 use Rattle.terms.specs.Meaning.{firstCard}
 
 -- CV on the last card is no field

@@ -15,14 +15,14 @@ use Rattle.rules.specs.Texts.{ListText, RestText, ItemText, FsText}
 use Rattle.rules.specs.Words.{Worded, worded, fsWords, numberColumns, outsideColumn, outsideIn}
 use Rattle.rules.specs.Asked.{itemNumbers}
 use Rattle.rules.specs.ColumnRows.{WordIs}
-use Rattle.rules.proofs.ReaderLaws.{Within}
-use Rattle.rules.proofs.ItemLaws.{within-item}
-use Rattle.rules.proofs.ListLaws.{list-item, list-stop, rest-end, rest-mark, rest-other}
-use Rattle.rules.proofs.LimitLaws.{field-within}
-use Rattle.rules.proofs.WordedLaws.{within-worded, fs-worded}
-use Rattle.rules.proofs.WordColumns.{word-taken, worded-stops, columns-shift, columns-low, outside-none}
-use Rattle.rules.proofs.NumberColumns.{item-count}
-use Rattle.rules.proofs.NumberLimits.{item-exactly}
+use Rattle.rules.proofs.Grammar.ReaderLaws.{Within}
+use Rattle.rules.proofs.Grammar.ItemLaws.{within-item}
+use Rattle.rules.proofs.Grammar.ListLaws.{list-item, list-stop, rest-end, rest-mark, rest-other}
+use Rattle.rules.proofs.Deck.LimitLaws.{field-within}
+use Rattle.rules.proofs.Columns.WordedLaws.{within-worded, fs-worded}
+use Rattle.rules.proofs.Columns.WordColumns.{word-taken, worded-stops, columns-shift, columns-low, outside-none}
+use Rattle.rules.proofs.Columns.NumberColumns.{item-count}
+use Rattle.rules.proofs.Columns.NumberLimits.{item-exactly}
 use Rattle.terms.specs.declared.Kind.{Kind}
 use Rattle.terms.specs.declared.Kind.the-variants.{Copy, Pack, Unpack}
 use Rattle.terms.specs.declared.Part.{Part}

@@ -14,9 +14,9 @@ use Rattle.rules.specs.Grammar.{Part, inData, inKey, CardField, Item, field, cv
 use Rattle.rules.specs.Asked.{fieldsOf, cvs, upTo, fieldLimits}
 use Rattle.rules.specs.Plan.{isKey, keyFields}
 use Rattle.rules.specs.Rows.{onAllCards}
-use Rattle.rules.proofs.Lists.{every-append, joined-last}
-use Rattle.rules.proofs.AcceptedLaws.{fields-append, cvs-append}
-use Rattle.rules.proofs.CardSteps.{noted, total-last, total-fields, total-cvs, upTo-empty, noted-equal, noted-within, noted-over, each-empty, noted-same, noted-fails}
+use Rattle.rules.proofs.Base.Lists.{every-append, joined-last}
+use Rattle.rules.proofs.Deck.AcceptedLaws.{fields-append, cvs-append}
+use Rattle.rules.proofs.Deck.CardSteps.{noted, total-last, total-fields, total-cvs, upTo-empty, noted-equal, noted-within, noted-over, each-empty, noted-same, noted-fails}
 use Rattle.terms.specs.Meaning.{cvCard, keyCard}
 use Rattle.terms.proofs.PlanOf.{cv-said}
 use Rattle.cards.specs.declared.Noted.{Noted}

@@ -18,14 +18,14 @@ use Rattle.rules.specs.Grammar.{Parameter, Item, parameter, uOperand, fsOperand
 use Rattle.rules.specs.Texts.{UText, FsText}
 use Rattle.rules.specs.Words.{Worded, worded, partsOf, uWords, fsWords, valuesOf}
 use Rattle.rules.specs.Asked.{grammatical, itemsFrom, Cards, cardsOf, Asked as RuleAsked, askedOf}
-use Rattle.rules.proofs.AnswerLaws.{not-fine, fine-same, refuse-same, bind-fine, fine-bind, then-fine}
-use Rattle.rules.proofs.Given.{Outcome, found-low}
-use Rattle.rules.proofs.GrammarLaws.{u-exactly, u-left, fs-exactly, fs-left}
-use Rattle.rules.proofs.CardsOutcome.{Stops, items-outcome, items-fine, read-text}
-use Rattle.rules.proofs.AllLaws.{both-map, both-first, both-length, both-maps, all-map}
-use Rattle.rules.proofs.ColumnSteps.{grammatical-at}
-use Rattle.rules.proofs.WordedLaws.{fs-worded}
-use Rattle.rules.proofs.WordColumns.{plainRead, list-plain}
+use Rattle.rules.proofs.Refusals.AnswerLaws.{not-fine, fine-same, refuse-same, bind-fine, fine-bind, then-fine}
+use Rattle.rules.proofs.Refusals.Given.{Outcome, found-low}
+use Rattle.rules.proofs.Grammar.GrammarLaws.{u-exactly, u-left, fs-exactly, fs-left}
+use Rattle.rules.proofs.Refusals.CardsOutcome.{Stops, items-outcome, items-fine, read-text}
+use Rattle.rules.proofs.Base.AllLaws.{both-map, both-first, both-length, both-maps, all-map}
+use Rattle.rules.proofs.Columns.ColumnSteps.{grammatical-at}
+use Rattle.rules.proofs.Columns.WordedLaws.{fs-worded}
+use Rattle.rules.proofs.Columns.WordColumns.{plainRead, list-plain}
 use Rattle.lines.specs.Meaning.{IsCard}
 use Rattle.lines.specs.Ordering.{cardCount}
 use Rattle.keys.specs.Keys.{keyOf}

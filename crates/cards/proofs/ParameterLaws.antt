@@ -15,12 +15,12 @@ use Rattle.rules.specs.Reader.{Read, read, stopped, listOf}
 use Rattle.rules.specs.Grammar.{Format as RuleFormat, ff, fv, Parameter, modeIs, formatIs, inputIs, outputIs, rewindIn, rewindOut, firstIs, parameter}
 use Rattle.rules.specs.Words.{Worded, worded, valuesOf, againColumn, numberColumns, outsideColumn, firstColumn, outsideAmong}
 use Rattle.rules.specs.Asked.{letter, among, distinct, sameLetter, parameterNumbers, GivenParameters, note, given}
-use Rattle.rules.proofs.ReaderLaws.{Within}
-use Rattle.rules.proofs.ParameterLaws.{within-parameter}
-use Rattle.rules.proofs.ParameterSteps.{among-last, distinct-last, given-new, given-again}
-use Rattle.rules.proofs.ListLaws.{ahead, ahead-none, ahead-more, ahead-last, ahead-other, ahead-stop}
-use Rattle.rules.proofs.WordedLaws.{within-worded}
-use Rattle.rules.proofs.WordColumns.{word-taken, worded-stops, columns-shift, first-zero, width, width-last, values-last, outside-last, again-last}
+use Rattle.rules.proofs.Grammar.ReaderLaws.{Within}
+use Rattle.rules.proofs.Grammar.ParameterLaws.{within-parameter}
+use Rattle.rules.proofs.Deck.ParameterSteps.{among-last, distinct-last, given-new, given-again}
+use Rattle.rules.proofs.Grammar.ListLaws.{ahead, ahead-none, ahead-more, ahead-last, ahead-other, ahead-stop}
+use Rattle.rules.proofs.Columns.WordedLaws.{within-worded}
+use Rattle.rules.proofs.Columns.WordColumns.{word-taken, worded-stops, columns-shift, first-zero, width, width-last, values-last, outside-last, again-last}
 use Rattle.terms.specs.Meaning.{modeOf, formatOf, sizeOf, inputOf}
 use Rattle.readers.specs.declared.UParameter.{UParameter}
 use Rattle.readers.specs.declared.UParameter.the-variants.{ModeIs, FormatIs, InputIs, OutputIs, RewindIn, RewindOut, FirstIs}

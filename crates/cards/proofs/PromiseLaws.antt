@@ -9,8 +9,8 @@ use Rattle.rules.specs.Grammar.{modeIs, formatIs, outputIs}
 use Rattle.rules.specs.Asked.{Asked as RuleAsked, askedOf}
 use Rattle.rules.specs.Plan.{joinedSize}
 use Rattle.rules.specs.Rows.{Done, CardRows}
-use Rattle.rules.proofs.Given.{Upto}
-use Rattle.rules.proofs.AskedTable.{upto-asked}
+use Rattle.rules.proofs.Refusals.Given.{Upto}
+use Rattle.rules.proofs.Refusals.AskedTable.{upto-asked}
 use Rattle.terms.specs.declared.Mode.{Mode}
 use Rattle.terms.specs.declared.Format.{Format}
 use Rattle.terms.specs.declared.Size.{Size}

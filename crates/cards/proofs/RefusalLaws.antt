@@ -20,16 +20,16 @@ use Rattle.rules.specs.Plan.{joinedSize, keyLength}
 use Rattle.rules.specs.Keys.{throughUtility}
 use Rattle.rules.specs.Rows.{UtilityWithin, Twice}
 use Rattle.rules.specs.ColumnRows.{UParts}
-use Rattle.rules.proofs.Tests.{all-every}
-use Rattle.rules.proofs.AnswerLaws.{fine-same, bind-fine, then-fine, unless-fine, each-fine, located-fine}
-use Rattle.rules.proofs.LimitLaws.{utility-within}
-use Rattle.rules.proofs.AcceptedLaws.{all-fields}
-use Rattle.rules.proofs.CardSteps.{noted, total-fields, upTo-fine}
-use Rattle.rules.proofs.ParameterOutcome.{of-twice, complete-fine}
-use Rattle.rules.proofs.WordedLaws.{u-worded}
-use Rattle.rules.proofs.NumberColumns.{parameter-count, u-count}
-use Rattle.rules.proofs.NumberLimits.{utility-exactly, numbers-least}
-use Rattle.rules.proofs.WordColumns.{columns-low, outside-none, outside-parts}
+use Rattle.rules.proofs.Base.Tests.{all-every}
+use Rattle.rules.proofs.Refusals.AnswerLaws.{fine-same, bind-fine, then-fine, unless-fine, each-fine, located-fine}
+use Rattle.rules.proofs.Deck.LimitLaws.{utility-within}
+use Rattle.rules.proofs.Deck.AcceptedLaws.{all-fields}
+use Rattle.rules.proofs.Deck.CardSteps.{noted, total-fields, upTo-fine}
+use Rattle.rules.proofs.Refusals.ParameterOutcome.{of-twice, complete-fine}
+use Rattle.rules.proofs.Columns.WordedLaws.{u-worded}
+use Rattle.rules.proofs.Columns.NumberColumns.{parameter-count, u-count}
+use Rattle.rules.proofs.Columns.NumberLimits.{utility-exactly, numbers-least}
+use Rattle.rules.proofs.Columns.WordColumns.{columns-low, outside-none, outside-parts}
 use Rattle.terms.specs.Meaning.{modeOf, formatOf, sizeOf, inputOf, laid, laidFields, utilityOf, Means}
 use Rattle.rows.specs.Kept.{rowOf}
 use Rattle.keys.specs.Keys.{joinedOf, keyOf}

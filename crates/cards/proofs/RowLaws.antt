@@ -15,10 +15,10 @@ use Rattle.rules.specs.Grammar.{Part, inData, inKey, CardField, Item, field, cv
 use Rattle.rules.specs.Halves.{over}
 use Rattle.rules.specs.Words.{Worded, valuesOf, outsideIn}
 use Rattle.rules.specs.Asked.{fieldsOf, fieldLimits, itemNumbers}
-use Rattle.rules.proofs.Lists.{every-append}
-use Rattle.rules.proofs.Tests.{and-left, and-right}
-use Rattle.rules.proofs.AcceptedLaws.{fields-append}
-use Rattle.rules.proofs.NumberLimits.{itemLimits}
+use Rattle.rules.proofs.Base.Lists.{every-append}
+use Rattle.rules.proofs.Base.Tests.{and-left, and-right}
+use Rattle.rules.proofs.Deck.AcceptedLaws.{fields-append}
+use Rattle.rules.proofs.Columns.NumberLimits.{itemLimits}
 use Rattle.terms.specs.Meaning.{laid}
 use Rattle.rows.specs.Flat.{flatOf}
 use Rattle.rows.specs.Kept.{rowOf}

@@ -8,7 +8,7 @@ use native.Mathlib.Omega.{arith}
 use Rattle.rules.specs.Halves.{Field as RuleField}
 use Rattle.rules.specs.Plan.{Plan, isFS, blockLength}
 use Rattle.rules.specs.Lent.{zoneF}
-use Rattle.rules.proofs.SpannedOut.{low-B, most-A, most-B}
+use Rattle.rules.proofs.Spanned.SpannedOut.{low-B, most-A, most-B}
 use Rattle.terms.specs.declared.Asked.{Asked}
 use Rattle.terms.specs.declared.Task.{Task}
 use Rattle.terms.specs.Meaning.{formatOf, sizeOf, planIn, TaskIs}

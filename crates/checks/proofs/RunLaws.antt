@@ -16,14 +16,14 @@ use Rattle.rules.specs.Blocks.{takenFrom}
 use Rattle.rules.specs.Output.{permits}
 use Rattle.rules.specs.Run.{RunOutput, outBlocks, ranOf, housed, convert, outputBlocks}
 use Rattle.rules.specs.Lent.{runAnswer}
-use Rattle.rules.proofs.AnswerLaws.{fine-each}
-use Rattle.rules.proofs.AllLaws.{all-imply, all-joined, all-of}
-use Rattle.rules.proofs.ReelLaws.{all-blocks}
-use Rattle.rules.proofs.BlocksOutcome.{holds-of, reads-give}
-use Rattle.rules.proofs.RunParts.{bad-block, taken-all-of}
-use Rattle.rules.proofs.OutBlockWords.{holds-whole}
-use Rattle.rules.proofs.Never.{permits-other, holds-taken, all-fit}
-use Rattle.rules.proofs.CopyLaws.{copy-blocks, copy-reel}
+use Rattle.rules.proofs.Refusals.AnswerLaws.{fine-each}
+use Rattle.rules.proofs.Base.AllLaws.{all-imply, all-joined, all-of}
+use Rattle.rules.proofs.Reel.ReelLaws.{all-blocks}
+use Rattle.rules.proofs.Refusals.BlocksOutcome.{holds-of, reads-give}
+use Rattle.rules.proofs.Runs.RunParts.{bad-block, taken-all-of}
+use Rattle.rules.proofs.Output.OutBlockWords.{holds-whole}
+use Rattle.rules.proofs.Runs.Never.{permits-other, holds-taken, all-fit}
+use Rattle.rules.proofs.Runs.CopyLaws.{copy-blocks, copy-reel}
 use Rattle.reels.specs.declared.ReelRead.{ReelRead}
 use Rattle.reels.specs.declared.ReelRead.the-variants.{Read, NotReel, BadBlock}
 use Rattle.rows.specs.Flat.{FlatFair}

@@ -17,14 +17,14 @@ use Rattle.rules.specs.Halves.{Field as RuleField}
 use Rattle.rules.specs.Asked.{Utility, Asked as RuleAsked, fieldsOf, cvs}
 use Rattle.rules.specs.Keys.{throughUtility}
 use Rattle.rules.specs.Plan.{isTC, isTF, isTR, isFF, isFV, isFU, isFS, selects, numbers, wanted, recordLength, blockLength, whole, equal, roomy, combinations, sound, joinedSize, keyLength, through, isKeyed, keyFits, keyFields, cardFits, inside, insidePart, inputHalves, barrenHalf, combined, assembled, Plan}
-use Rattle.rules.proofs.AllLaws.{all-at, all-imply, all-map}
-use Rattle.rules.proofs.BlockSizes.{size-least, record-most}
-use Rattle.rules.proofs.KeyLaws.{joined-within, Named}
-use Rattle.rules.proofs.AcceptedLaws.{key-fits}
-use Rattle.rules.proofs.AnswerLaws.{fine-then, then-fine, fine-unless, each-fine, then-assoc}
+use Rattle.rules.proofs.Base.AllLaws.{all-at, all-imply, all-map}
+use Rattle.rules.proofs.Blocks.BlockSizes.{size-least, record-most}
+use Rattle.rules.proofs.Keys.KeyLaws.{joined-within, Named}
+use Rattle.rules.proofs.Deck.AcceptedLaws.{key-fits}
+use Rattle.rules.proofs.Refusals.AnswerLaws.{fine-then, then-fine, fine-unless, each-fine, then-assoc}
 use Rattle.rules.specs.Rows.{InputWithin, UtilityWithin, FieldWithin}
-use Rattle.rules.proofs.RecordLaws.{sizes-within}
-use Rattle.rules.proofs.LimitLaws.{two-of}
+use Rattle.rules.proofs.Halves.RecordLaws.{sizes-within}
+use Rattle.rules.proofs.Deck.LimitLaws.{two-of}
 use Rattle.terms.specs.Meaning.{modeOf, formatOf, sizeOf, fieldOf, laid, laidFields, noField, utilityOf, firstCard, keyCard, Means}
 use Rattle.terms.proofs.Laid.{inside-laid, laid-through, laid-within}
 use Rattle.terms.specs.declared.Asked.{Asked}

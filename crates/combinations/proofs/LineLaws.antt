@@ -6,7 +6,7 @@ use lib.Dec.{eqb}
 use borrow.Author.Tests.{eqb-true}
 use Rattle.rules.specs.Grammar.{Mode, Format, ff, Size}
 use Rattle.rules.specs.Plan.{numbers, wanted, recordLength}
-use Rattle.rules.proofs.Tests.{and-left, and-right}
+use Rattle.rules.proofs.Base.Tests.{and-left, and-right}
 use Rattle.combinations.specs.Lines.{countLine, FormatFair}
 
 -- as many numbers as are wanted

@@ -10,7 +10,7 @@ use native.Mathlib.Nat.{not-suc-le-zero}
 use lib.ListN.{length, getD, set, replicate, length-set, length-replicate}
 use lib.Seq.{paste, paste-zero, paste-suc, getD-set-same, getD-set-other}
 use Rattle.rules.specs.Halves.{over}
-use Rattle.rules.proofs.PlaceLaws.{over-paste}
+use Rattle.rules.proofs.Halves.PlaceLaws.{over-paste}
 
 -- the first i of s stand in the array w
 pub record Taken (s w : List ℕ) (i : ℕ) : Type 0 where

@@ -8,9 +8,9 @@ use lib.ListN.{length, length-append}
 use Rattle.rules.specs.Base.{joined}
 use Rattle.rules.specs.Grammar.{Mode, Format, tc, tf, tr, trf}
 use Rattle.rules.specs.Output.{blockOf, cost, total}
-use Rattle.rules.proofs.Lists.{mapped-append, mapped-last}
-use Rattle.rules.proofs.BlockLaws.{length-block}
-use Rattle.rules.proofs.FillLaws.{total-snoc}
+use Rattle.rules.proofs.Base.Lists.{mapped-append, mapped-last}
+use Rattle.rules.proofs.Blocks.BlockLaws.{length-block}
+use Rattle.rules.proofs.Output.FillLaws.{total-snoc}
 use Rattle.terms.specs.Meaning.{modeOf}
 use Rattle.terms.specs.declared.Task.{Task}
 use Rattle.walks.specs.Marks.{markedAll}

@@ -11,10 +11,10 @@ use Rattle.rules.specs.Plan.{Plan, recordLength}
 use Rattle.rules.specs.Reel.{blockCount}
 use Rattle.rules.specs.Blocks.{takenFrom}
 use Rattle.rules.specs.EvenRecords.{Even}
-use Rattle.rules.proofs.BlockSizes.{size-least}
-use Rattle.rules.proofs.Bounds.{reel-most}
-use Rattle.rules.proofs.Never.{output-fits}
-use Rattle.rules.proofs.EvenLaws.{even-size, even-count}
+use Rattle.rules.proofs.Blocks.BlockSizes.{size-least}
+use Rattle.rules.proofs.Reel.Bounds.{reel-most}
+use Rattle.rules.proofs.Runs.Never.{output-fits}
+use Rattle.rules.proofs.Blocks.EvenLaws.{even-size, even-count}
 use Rattle.terms.specs.declared.Task.{Task}
 use Rattle.terms.specs.declared.Format.the-variants.{FF}
 use Rattle.terms.specs.Meaning.{formatOf, TaskIs}

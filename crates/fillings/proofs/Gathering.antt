@@ -8,7 +8,7 @@ use lib.ListN.{length}
 use borrow.Author.Tests.{ltb-true, ltb-false}
 use Rattle.rules.specs.Grammar.{Format}
 use Rattle.rules.specs.Output.{cost, total, fill, filled}
-use Rattle.rules.proofs.FillSteps.{fill-behind, fill-opens}
+use Rattle.rules.proofs.Output.FillSteps.{fill-behind, fill-opens}
 use Rattle.walks.specs.Marks.{openedFrom, blocksMarked, bytesOf}
 
 module _ (f : Format) (opens : ℕ → Bool → ℕ → Bool) where

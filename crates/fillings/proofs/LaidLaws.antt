@@ -9,12 +9,12 @@ use lib.ListN.{length, length-append, length-map}
 use Rattle.rules.specs.Base.{joined}
 use Rattle.rules.specs.Halves.{over}
 use Rattle.rules.specs.Reel.{word, offsetWords, reelOf}
-use Rattle.rules.proofs.Lists.{mapped-last}
-use Rattle.rules.proofs.SizeLaws.{length-over}
-use Rattle.rules.proofs.PlaceLaws.{over-nothing, over-behind, over-apart, over-part}
-use Rattle.rules.proofs.WordLaws.{length-word}
-use Rattle.rules.proofs.ReelLaws.{length-ends, length-reel}
-use Rattle.rules.proofs.BlockPlaces.{heads, length-heads, heads-snoc, heads-ends}
+use Rattle.rules.proofs.Base.Lists.{mapped-last}
+use Rattle.rules.proofs.Halves.SizeLaws.{length-over}
+use Rattle.rules.proofs.Halves.PlaceLaws.{over-nothing, over-behind, over-apart, over-part}
+use Rattle.rules.proofs.Reel.WordLaws.{length-word}
+use Rattle.rules.proofs.Reel.ReelLaws.{length-ends, length-reel}
+use Rattle.rules.proofs.Reel.BlockPlaces.{heads, length-heads, heads-snoc, heads-ends}
 
 -- ---- blocks of pieces
 

@@ -9,8 +9,8 @@ use Rattle.rules.specs.Grammar.{Mode, tc, tf, tr, trf}
 use Rattle.rules.specs.Plan.{Plan, blockLength}
 use Rattle.rules.specs.Output.{cost}
 use Rattle.rules.specs.Accepted.{Accepted}
-use Rattle.rules.proofs.FillSteps.{Measure, opening, behind, measure}
-use Rattle.rules.proofs.MeasureLaws.{cost-high, record-high, block-high}
+use Rattle.rules.proofs.Output.FillSteps.{Measure, opening, behind, measure}
+use Rattle.rules.proofs.Output.MeasureLaws.{cost-high, record-high, block-high}
 use Rattle.terms.specs.Meaning.{modeOf, TaskIs}
 use Rattle.terms.specs.declared.Task.{Task}
 use Rattle.fillings.specs.declared.Tally.{Tally}

@@ -13,11 +13,11 @@ use Rattle.rules.specs.Plan.{Plan, isTC, blockLength}
 use Rattle.rules.specs.Blocks.{takenFrom}
 use Rattle.rules.specs.Output.{outRecord, cost}
 use Rattle.rules.specs.Run.{fitting, outputs, outputBlocks}
-use Rattle.rules.proofs.Lists.{map-joined}
-use Rattle.rules.proofs.FillSteps.{Measure, unmeasured, opening, behind, measure}
-use Rattle.rules.proofs.FitSteps.{fitsAlone, together-fits, alone-fits}
-use Rattle.rules.proofs.MeasureLaws.{alone-step}
-use Rattle.rules.proofs.RunParts.{blocked-records}
+use Rattle.rules.proofs.Base.Lists.{map-joined}
+use Rattle.rules.proofs.Output.FillSteps.{Measure, unmeasured, opening, behind, measure}
+use Rattle.rules.proofs.Output.FitSteps.{fitsAlone, together-fits, alone-fits}
+use Rattle.rules.proofs.Output.MeasureLaws.{alone-step}
+use Rattle.rules.proofs.Runs.RunParts.{blocked-records}
 use Rattle.walks.specs.Marks.{markedAll, bytesOf, onMarked}
 use Rattle.walks.proofs.MarksLaws.{all-records, all-length, all-map}
 use Rattle.walks.proofs.SizesLaws.{measureMarked, fitsMarked, fits-marked}

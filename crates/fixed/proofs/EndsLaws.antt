@@ -13,10 +13,10 @@ use Rattle.rules.specs.Plan.{isTF, recordLength, blockLength}
 use Rattle.rules.specs.Reel.{word, offsets, offsetWords}
 use Rattle.rules.specs.Blocks.{takenFrom}
 use Rattle.rules.specs.EvenRecords.{stepped, endsBehind}
-use Rattle.rules.proofs.ReelLaws.{length-ends}
-use Rattle.rules.proofs.MeasureLaws.{record-high, block-high}
-use Rattle.rules.proofs.EvenFilling.{per-one}
-use Rattle.rules.proofs.EvenOutput.{each-ends, filled-ends}
+use Rattle.rules.proofs.Reel.ReelLaws.{length-ends}
+use Rattle.rules.proofs.Output.MeasureLaws.{record-high, block-high}
+use Rattle.rules.proofs.Output.EvenFilling.{per-one}
+use Rattle.rules.proofs.Output.EvenOutput.{each-ends, filled-ends}
 use Rattle.terms.specs.declared.Task.{Task}
 use Rattle.terms.specs.declared.Mode.{Mode}
 use Rattle.terms.specs.declared.Format.the-variants.{FF}

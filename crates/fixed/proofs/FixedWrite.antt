@@ -14,13 +14,13 @@ use Rattle.rules.specs.Reel.{offsetWords}
 use Rattle.rules.specs.Blocks.{takenFrom}
 use Rattle.rules.specs.Output.{outRecord}
 use Rattle.rules.specs.EvenRecords.{Even}
-use Rattle.rules.proofs.Lists.{map-same, map-own}
-use Rattle.rules.proofs.ReelLaws.{length-ends, length-reel}
-use Rattle.rules.proofs.LentParts.{rest-over}
-use Rattle.rules.proofs.PlaceLaws.{over-behind}
-use Rattle.rules.proofs.Never.{output-other}
-use Rattle.rules.proofs.EvenOutput.{output-bytes, output-length}
-use Rattle.rules.proofs.Tests.{never-true}
+use Rattle.rules.proofs.Base.Lists.{map-same, map-own}
+use Rattle.rules.proofs.Reel.ReelLaws.{length-ends, length-reel}
+use Rattle.rules.proofs.Base.LentParts.{rest-over}
+use Rattle.rules.proofs.Halves.PlaceLaws.{over-behind}
+use Rattle.rules.proofs.Runs.Never.{output-other}
+use Rattle.rules.proofs.Output.EvenOutput.{output-bytes, output-length}
+use Rattle.rules.proofs.Base.Tests.{never-true}
 use Rattle.terms.specs.declared.Task.{Task}
 use Rattle.terms.specs.declared.Format.the-variants.{FF}
 use Rattle.walks.specs.Walking.{fixedStart}

@@ -13,11 +13,11 @@ use Rattle.rules.specs.Base.{joined}
 use Rattle.rules.specs.Halves.{over, Field}
 use Rattle.rules.specs.Plan.{selects}
 use Rattle.rules.specs.EvenRecords.{Even}
-use Rattle.rules.proofs.Lists.{map-same, map-own}
-use Rattle.rules.proofs.AllLaws.{all-imply, all-map}
-use Rattle.rules.proofs.BlockLaws.{length-joined}
-use Rattle.rules.proofs.LentParts.{rest-over}
-use Rattle.rules.proofs.EvenLaws.{Next, even-size, even-count, even-next, even-end}
+use Rattle.rules.proofs.Base.Lists.{map-same, map-own}
+use Rattle.rules.proofs.Base.AllLaws.{all-imply, all-map}
+use Rattle.rules.proofs.Blocks.BlockLaws.{length-joined}
+use Rattle.rules.proofs.Base.LentParts.{rest-over}
+use Rattle.rules.proofs.Blocks.EvenLaws.{Next, even-size, even-count, even-next, even-end}
 use Rattle.terms.specs.declared.Task.{Task}
 use Rattle.terms.specs.declared.Mode.{Mode}
 use Rattle.terms.specs.Meaning.{modeOf}

@@ -16,10 +16,10 @@ use Rattle.rules.specs.Output.{outRecord, selected, blockOf}
 use Rattle.rules.specs.Lent.{zoneF}
 use Rattle.rules.specs.Run.{outputBlocks}
 use Rattle.rules.specs.RecordParts.{Fits}
-use Rattle.rules.proofs.AllLaws.{all-imply}
-use Rattle.rules.proofs.Bounds.{reel-most}
-use Rattle.rules.proofs.ReelLaws.{length-reel}
-use Rattle.rules.proofs.RecordLaws.{fits-of}
+use Rattle.rules.proofs.Base.AllLaws.{all-imply}
+use Rattle.rules.proofs.Reel.Bounds.{reel-most}
+use Rattle.rules.proofs.Reel.ReelLaws.{length-reel}
+use Rattle.rules.proofs.Halves.RecordLaws.{fits-of}
 use Rattle.terms.specs.Meaning.{modeOf}
 use Rattle.terms.specs.declared.Mode.{Mode}
 use Rattle.terms.specs.declared.Task.{Task}

@@ -7,9 +7,9 @@ use native.Mathlib.Omega.{arith}
 use lib.ListN.{length, drop, getD, getD-replicate}
 use lib.Seq.{getD-drop, getD-take}
 use Rattle.rules.specs.Halves.{halves, packed, value, packBytes}
-use Rattle.rules.proofs.SizeLaws.{length-halves, length-packed}
-use Rattle.rules.proofs.BytePlaces.{pairs-at}
-use Rattle.rules.proofs.HalfBytes.{packed-end, packed-zeros, packed-low, packed-high}
+use Rattle.rules.proofs.Halves.SizeLaws.{length-halves, length-packed}
+use Rattle.rules.proofs.Halves.BytePlaces.{pairs-at}
+use Rattle.rules.proofs.Halves.HalfBytes.{packed-end, packed-zeros, packed-low, packed-high}
 
 module _ (m : ℕ) (s : List ℕ) (some : 1 ≤ length s) where
   -- the field of as many bytes more as the input has, which has room for every digit, and so many places more

@@ -8,7 +8,7 @@ use lib.ListN.{length}
 use Rattle.rules.specs.Base.{within}
 use Rattle.rules.specs.Halves.{packBytes, unpackBytes}
 use Rattle.rules.specs.Lent.{zoneF}
-use Rattle.rules.proofs.Tests.{and-left, and-right, and-both, within-low, within-high, within-of}
+use Rattle.rules.proofs.Base.Tests.{and-left, and-right, and-both, within-low, within-high, within-of}
 use Rattle.halves.specs.Promise.{bothAllowed, packedInto, unpackedInto}
 
 -- ---- the sizes

@@ -8,8 +8,8 @@ use lib.ListN.{length, take, drop, getD, set, length-append, length-drop}
 use lib.Seq.{length-take-le}
 use Rattle.rules.specs.Halves.{unpackBytes}
 use Rattle.rules.specs.Lent.{zoneF}
-use Rattle.rules.proofs.BytePlaces.{halves-high, halves-low, length-unpackBytes, unpack-last}
-use Rattle.rules.proofs.HalfBytes.{unpack-half}
+use Rattle.rules.proofs.Halves.BytePlaces.{halves-high, halves-low, length-unpackBytes, unpack-last}
+use Rattle.rules.proofs.Halves.HalfBytes.{unpack-half}
 use Rattle.halves.specs.Promise.{unpackedFrom}
 use Rattle.halves.proofs.Filling.{Filling, left-start, left-more, left-two, left-on, left-both}
 

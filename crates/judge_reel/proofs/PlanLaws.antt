@@ -3,10 +3,10 @@ use mathlib.Core.List.{List}
 use Prim.Native.Nat.{ℕ, _≤_}
 use native.Mathlib.Omega.{arith}
 use Rattle.rules.specs.Halves.{Field}
-use Rattle.rules.proofs.AllLaws.{all-imply}
+use Rattle.rules.proofs.Base.AllLaws.{all-imply}
 use Rattle.rules.specs.Lent.{zoneF}
-use Rattle.rules.proofs.BlockSizes.{record-most}
-use Rattle.rules.proofs.RecordLaws.{fits-wider}
+use Rattle.rules.proofs.Blocks.BlockSizes.{record-most}
+use Rattle.rules.proofs.Halves.RecordLaws.{fits-wider}
 use Rattle.terms.specs.Meaning.{planIn, TaskIs}
 use Rattle.terms.specs.declared.Asked.{Asked}
 use Rattle.terms.specs.declared.Task.{Task}

@@ -13,9 +13,9 @@ use Rattle.rules.specs.Halves.{Field as RuleField, outputSize, readsFrom, reads
 use Rattle.rules.specs.Permitted.{allows, permitted}
 use Rattle.rules.specs.Lent.{zoneF}
 use Rattle.rules.specs.RecordParts.{Fits}
-use Rattle.rules.proofs.AllLaws.{all-take, at-all}
-use Rattle.rules.proofs.PermittedLaws.{permitted-step}
-use Rattle.rules.proofs.SourceSteps.{no-sources, length-sources, source-inside, source-before, source-after, reads-room}
+use Rattle.rules.proofs.Base.AllLaws.{all-take, at-all}
+use Rattle.rules.proofs.Halves.PermittedLaws.{permitted-step}
+use Rattle.rules.proofs.Halves.SourceSteps.{no-sources, length-sources, source-inside, source-before, source-after, reads-room}
 use Rattle.terms.specs.Meaning.{fieldOf, noField}
 use Rattle.terms.specs.declared.Field.{Field}
 use Rattle.rows.specs.Flat.{fieldAt}

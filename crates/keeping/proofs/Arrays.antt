@@ -7,7 +7,7 @@ use lib.Bits.{bitOr, or-comm}
 use Rattle.rules.specs.Halves.{readsFrom}
 use Rattle.rules.specs.Permitted.{any, kindAllows, reads, allows}
 use Rattle.rules.specs.Lent.{zoneF}
-use Rattle.rules.proofs.PermittedLaws.{any-of, allows-before, allows-inside, allows-after}
+use Rattle.rules.proofs.Halves.PermittedLaws.{any-of, allows-before, allows-inside, allows-after}
 use Rattle.terms.specs.Meaning.{fieldOf}
 use Rattle.terms.specs.declared.Field.{Field}
 use Rattle.terms.specs.declared.Kind.{Kind}

@@ -5,7 +5,7 @@ use Prim.Native.Nat.{ℕ, suc, _+_, _-_, _*_, _/_, _%_, _≤_, _<_}
 use native.Mathlib.Omega.{arith}
 use Rattle.rules.specs.Halves.{Source, from}
 use Rattle.rules.specs.Lent.{zoneF}
-use Rattle.rules.proofs.SourceSteps.{copy-source, pack-last-high-source, pack-last-low-source, pack-digit-source, pack-fill-source, unpack-last-high-source, unpack-last-low-source, unpack-zone-source, unpack-digit-source, unpack-fill-source}
+use Rattle.rules.proofs.Halves.SourceSteps.{copy-source, pack-last-high-source, pack-last-low-source, pack-digit-source, pack-fill-source, unpack-last-high-source, unpack-last-low-source, unpack-zone-source, unpack-digit-source, unpack-fill-source}
 use Rattle.terms.specs.Meaning.{fieldOf}
 use Rattle.terms.specs.declared.Field.{Field}
 use Rattle.terms.proofs.FieldLaws.{copy-size}

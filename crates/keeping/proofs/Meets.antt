@@ -11,8 +11,8 @@ use borrow.Author.Tests.{lt-ltb, le-ltb, le-leb, lt-leb, eq-eqb, ne-eqb, eqb-tru
 use Rattle.rules.specs.Permitted.{digit, sign, any, count, firstOf}
 use Rattle.rules.specs.Twins.{lowest}
 use Rattle.rules.specs.Lent.{zoneF}
-use Rattle.rules.proofs.PermittedLaws.{any-of, digit-of, sign-of}
-use Rattle.rules.proofs.MarkLaws.{first-alike}
+use Rattle.rules.proofs.Halves.PermittedLaws.{any-of, digit-of, sign-of}
+use Rattle.rules.proofs.Keeping.MarkLaws.{first-alike}
 use Rattle.keeping.specs.Marks.{markAllows, choicesOf, MarkSays, lowestOf}
 
 -- ---- a value by its bit

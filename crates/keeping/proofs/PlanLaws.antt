@@ -7,7 +7,7 @@ use lib.Dec.{eqb}
 use Rattle.rules.specs.Answer.{fine, _>>_, unless}
 use Rattle.rules.specs.Plan.{Plan, recordLength, inputHalves, allowed, barrenHalf, sourcesOf, lostAt}
 use Rattle.rules.specs.Rows.{FieldWithin, Inside}
-use Rattle.rules.proofs.RecordLaws.{sizes-low}
+use Rattle.rules.proofs.Halves.RecordLaws.{sizes-low}
 use Rattle.terms.specs.Meaning.{fieldOf, OneSize}
 use Rattle.terms.proofs.FieldLaws.{input-of, output-of}
 use Rattle.terms.specs.declared.Field.{Field}

@@ -14,9 +14,9 @@ use Rattle.rules.specs.Base.{every}
 use Rattle.rules.specs.Halves.{Source, from, constant}
 use Rattle.rules.specs.Permitted.{choices}
 use Rattle.rules.specs.Keeping.{occurs, missing, lostHalf}
-use Rattle.rules.proofs.Tests.{every-all}
-use Rattle.rules.proofs.AllLaws.{all-at}
-use Rattle.rules.proofs.KeepingSteps.{first-here, first-nowhere, occurs-at, occurs-nowhere, missing-seen, missing-few, missing-unseen, lost-here, lost-nowhere}
+use Rattle.rules.proofs.Base.Tests.{every-all}
+use Rattle.rules.proofs.Base.AllLaws.{all-at}
+use Rattle.rules.proofs.Keeping.KeepingSteps.{first-here, first-nowhere, occurs-at, occurs-nowhere, missing-seen, missing-few, missing-unseen, lost-here, lost-nowhere}
 use Rattle.keeping.specs.Marks.{choicesOf, permitsIn, numbered, nowhere, Stand}
 use Rattle.keeping.specs.Promise.{barrenOf}
 use Rattle.keeping.proofs.Seen.{Seen}

@@ -14,11 +14,11 @@ use Rattle.rules.specs.Permitted.{permitted, choices}
 use Rattle.rules.specs.Keeping.{missing, lostHalf}
 use Rattle.rules.specs.Twins.{listed, lowest}
 use Rattle.rules.specs.Lent.{zoneF}
-use Rattle.rules.proofs.AllLaws.{all-at}
-use Rattle.rules.proofs.SizeLaws.{all-outHalves}
-use Rattle.rules.proofs.AnswerLaws.{fine-same}
-use Rattle.rules.proofs.Search.{first-most}
-use Rattle.rules.proofs.MarkLaws.{choices-alike, first-alike, lost-alike}
+use Rattle.rules.proofs.Base.AllLaws.{all-at}
+use Rattle.rules.proofs.Halves.SizeLaws.{all-outHalves}
+use Rattle.rules.proofs.Refusals.AnswerLaws.{fine-same}
+use Rattle.rules.proofs.Base.Search.{first-most}
+use Rattle.rules.proofs.Keeping.MarkLaws.{choices-alike, first-alike, lost-alike}
 use Rattle.rows.specs.Flat.{fieldAt}
 use Rattle.rows.specs.Kept.{fieldsIn}
 use Rattle.keeping.specs.Marks.{MarkSays, permitsIn, numbered, nowhere, Stand}

@@ -8,7 +8,7 @@ use Rattle.rules.specs.Base.{within}
 use Rattle.rules.specs.Grammar.{Part as RulePart, field}
 use Rattle.rules.specs.Words.{outsideColumn, firstColumn}
 use Rattle.rules.specs.Asked.{itemNumbers}
-use Rattle.rules.proofs.WordColumns.{first-some}
+use Rattle.rules.proofs.Columns.WordColumns.{first-some}
 use Rattle.terms.specs.declared.Kind.{Kind}
 use Rattle.terms.specs.declared.Kind.the-variants.{Copy, Pack, Unpack}
 use Rattle.terms.specs.declared.Size.{Size}

@@ -18,11 +18,11 @@ use Rattle.rules.specs.Reader.{read, after, text}
 use Rattle.rules.specs.Deck.{tidy, Card, uCard, fsCard, endCard, operand, cardOf}
 use Rattle.rules.specs.Texts.{ShapeText}
 use Rattle.rules.specs.TextParts.{stops, Inner}
-use Rattle.rules.proofs.Lists.{slice-slice}
-use Rattle.rules.proofs.AllLaws.{all-append}
-use Rattle.rules.proofs.CardLaws.{operand-of, card-exactly}
-use Rattle.rules.proofs.LineLaws.{next-line, last-line, no-line}
-use Rattle.rules.proofs.CardPlaces.{after-other, after-short, after-end, operand-slice, operand-blank, operand-end, card-untidy, card-U, card-UTT, card-FS, card-END, card-END-blank, card-END-other, card-none}
+use Rattle.rules.proofs.Base.Lists.{slice-slice}
+use Rattle.rules.proofs.Base.AllLaws.{all-append}
+use Rattle.rules.proofs.Deck.CardLaws.{operand-of, card-exactly}
+use Rattle.rules.proofs.Deck.LineLaws.{next-line, last-line, no-line}
+use Rattle.rules.proofs.Deck.CardPlaces.{after-other, after-short, after-end, operand-slice, operand-blank, operand-end, card-untidy, card-U, card-UTT, card-FS, card-END, card-END-blank, card-END-other, card-none}
 use Rattle.lines.specs.Meaning.{BeginsSays, OperandEnds, CardSays, IsCard, inner, PassedSays, LineSays}
 use Rattle.lines.specs.Ordering.{cardKindOf, isOther}
 use Rattle.lines.specs.declared.CardRead.the-variants.{UCard, FsCard, EndCard}

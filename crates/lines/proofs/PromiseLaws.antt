@@ -11,7 +11,7 @@ use Rattle.rules.specs.Base.{ascii}
 use Rattle.rules.specs.Answer.{refusalOf, placeOf}
 use Rattle.rules.specs.Deck.{uCard, fsCard, cardOf}
 use Rattle.rules.specs.Order.{operandsOf}
-use Rattle.rules.proofs.AnswerLaws.{not-fine, fine-same}
+use Rattle.rules.proofs.Refusals.AnswerLaws.{not-fine, fine-same}
 use Rattle.lines.specs.Meaning.{CardSays, LineSays}
 use Rattle.lines.specs.Ordering.{cardKindOf, withLine, orderOf, cardCount, answerOf}
 use Rattle.lines.specs.declared.CardRead.{CardRead}

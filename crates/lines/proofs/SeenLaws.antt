@@ -13,9 +13,9 @@ use borrow.Author.Tests.{lt-ltb, le-ltb, leb-true, leb-false}
 use Rattle.rules.specs.Answer.{Answer, fine, refuse, refused, Refusal, _>>=_}
 use Rattle.rules.specs.Deck.{lines, Card, uCard, fsCard, endCard, cardOf}
 use Rattle.rules.specs.Order.{cardsFrom, nothingFrom, fsFrom, ordered, operandsOf}
-use Rattle.rules.proofs.AnswerLaws.{not-fine}
-use Rattle.rules.proofs.LineLaws.{lines-most}
-use Rattle.rules.proofs.ScanLaws.{cards-each, made-refused}
+use Rattle.rules.proofs.Refusals.AnswerLaws.{not-fine}
+use Rattle.rules.proofs.Deck.LineLaws.{lines-most}
+use Rattle.rules.proofs.Deck.ScanLaws.{cards-each, made-refused}
 use Rattle.lines.specs.Meaning.{LineSays}
 use Rattle.lines.specs.Ordering.{most, oneMore, cardKindOf, isOther, closed, misplaced, withLine, orderOf, cardCount}
 use Rattle.lines.specs.declared.CardKind.{CardKind}

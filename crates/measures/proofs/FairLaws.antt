@@ -8,7 +8,7 @@ use lib.ListN.{length}
 use Rattle.rules.specs.Answer.{refused}
 use Rattle.rules.specs.Plan.{Plan}
 use Rattle.rules.specs.Blocks.{takenFrom}
-use Rattle.rules.proofs.Bounds.{reel-most}
+use Rattle.rules.proofs.Reel.Bounds.{reel-most}
 use Rattle.terms.specs.declared.Task.{Task}
 use Rattle.pieces.specs.declared.Form.{Form}
 use Rattle.pieces.specs.Form.{FormIs}

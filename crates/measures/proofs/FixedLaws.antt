@@ -9,8 +9,8 @@ use borrow.Author.Tests.{lt-ltb, le-ltb}
 use Rattle.rules.specs.Reel.{blockCount, offsets, isReel}
 use Rattle.rules.specs.ReelPlaces.{wordAt}
 use Rattle.rules.specs.EvenRecords.{countBehind}
-use Rattle.rules.proofs.ReelLaws.{header-is}
-use Rattle.rules.proofs.HeaderSteps.{count-at, offsets-next, offsets-end}
+use Rattle.rules.proofs.Reel.ReelLaws.{header-is}
+use Rattle.rules.proofs.Reel.HeaderSteps.{count-at, offsets-next, offsets-end}
 
 -- ---- the offsets of the input behind a place
 

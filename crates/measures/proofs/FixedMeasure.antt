@@ -14,11 +14,11 @@ use Rattle.rules.specs.Blocks.{takenFrom}
 use Rattle.rules.specs.Output.{blockOf}
 use Rattle.rules.specs.Run.{outputBlocks}
 use Rattle.rules.specs.EvenRecords.{countBehind}
-use Rattle.rules.proofs.AnswerLaws.{fine-each}
-use Rattle.rules.proofs.ReelLaws.{length-reel, header-is, length-offsets}
-use Rattle.rules.proofs.EvenLaws.{outputs-fit}
-use Rattle.rules.proofs.EvenBlocks.{count-behind-most}
-use Rattle.rules.proofs.EvenOutput.{output-bytes, output-count, output-length, each-count, filled-count}
+use Rattle.rules.proofs.Refusals.AnswerLaws.{fine-each}
+use Rattle.rules.proofs.Reel.ReelLaws.{length-reel, header-is, length-offsets}
+use Rattle.rules.proofs.Blocks.EvenLaws.{outputs-fit}
+use Rattle.rules.proofs.Output.EvenBlocks.{count-behind-most}
+use Rattle.rules.proofs.Output.EvenOutput.{output-bytes, output-count, output-length, each-count, filled-count}
 use Rattle.terms.specs.declared.Task.{Task}
 use Rattle.terms.specs.declared.Format.the-variants.{FF}
 use Rattle.terms.specs.Meaning.{modeOf}

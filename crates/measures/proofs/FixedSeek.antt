@@ -14,9 +14,9 @@ use Rattle.rules.specs.Blocks.{leastData, takenFrom}
 use Rattle.rules.specs.Output.{permits}
 use Rattle.rules.specs.Accepted.{Accepted}
 use Rattle.rules.specs.EvenRecords.{Even}
-use Rattle.rules.proofs.BlockSizes.{least-selects}
-use Rattle.rules.proofs.FitSteps.{each-pass, each-stop}
-use Rattle.rules.proofs.EvenLaws.{Next, even-size, even-next, even-end}
+use Rattle.rules.proofs.Blocks.BlockSizes.{least-selects}
+use Rattle.rules.proofs.Output.FitSteps.{each-pass, each-stop}
+use Rattle.rules.proofs.Blocks.EvenLaws.{Next, even-size, even-next, even-end}
 use Rattle.terms.specs.declared.Task.{Task}
 use Rattle.terms.specs.declared.Format.the-variants.{FF}
 use Rattle.pieces.specs.declared.Form.{Form}

@@ -14,9 +14,9 @@ use Rattle.rules.specs.Blocks.{leastData}
 use Rattle.rules.specs.Base.{joined}
 use Rattle.rules.specs.Output.{outRecord, blockOf, cost}
 use Rattle.rules.specs.Run.{outputBlocks}
-use Rattle.rules.proofs.FillSteps.{Measure, unmeasured}
-use Rattle.rules.proofs.ReelLaws.{length-reel}
-use Rattle.rules.proofs.FitSteps.{each-pass, each-stop}
+use Rattle.rules.proofs.Output.FillSteps.{Measure, unmeasured}
+use Rattle.rules.proofs.Reel.ReelLaws.{length-reel}
+use Rattle.rules.proofs.Output.FitSteps.{each-pass, each-stop}
 use Rattle.terms.specs.declared.Task.{Task}
 use Rattle.pieces.specs.declared.Form.{Form}
 use Rattle.walks.specs.declared.Walk.{Walk}

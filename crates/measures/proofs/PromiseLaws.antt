@@ -10,7 +10,7 @@ use Rattle.rules.specs.Reel.{reelOf}
 use Rattle.rules.specs.Blocks.{takenFrom}
 use Rattle.rules.specs.Output.{permits, blockOf}
 use Rattle.rules.specs.Run.{fitting, outputs, outputBlocks}
-use Rattle.rules.proofs.AnswerLaws.{not-fine, refuse-same}
+use Rattle.rules.proofs.Refusals.AnswerLaws.{not-fine, refuse-same}
 use Rattle.terms.specs.declared.Task.{Task}
 use Rattle.measures.specs.declared.Measured.{Measured}
 use Rattle.measures.specs.declared.Measured.the-variants.{TooLong, Fits}

@@ -13,10 +13,10 @@ use Rattle.rules.specs.Blocks.{leastData, takenFrom}
 use Rattle.rules.specs.Output.{permits}
 use Rattle.rules.specs.Lent.{zoneF}
 use Rattle.rules.specs.Accepted.{Accepted}
-use Rattle.rules.proofs.BlockSizes.{least-selects}
-use Rattle.rules.proofs.RecordLaws.{fits-of}
-use Rattle.rules.proofs.FitSteps.{each-pass, each-stop}
-use Rattle.rules.proofs.MeasureLaws.{kinds-within, permits-halves}
+use Rattle.rules.proofs.Blocks.BlockSizes.{least-selects}
+use Rattle.rules.proofs.Halves.RecordLaws.{fits-of}
+use Rattle.rules.proofs.Output.FitSteps.{each-pass, each-stop}
+use Rattle.rules.proofs.Output.MeasureLaws.{kinds-within, permits-halves}
 use Rattle.terms.specs.declared.Task.{Task}
 use Rattle.pieces.specs.declared.Form.{Form}
 use Rattle.rows.specs.Flat.{flatOf, FlatFair, Readable}

@@ -12,11 +12,11 @@ use Rattle.rules.specs.Halves.{over}
 use Rattle.rules.specs.Reel.{word, blockCount, offsets, isReel}
 use Rattle.rules.specs.ReelPlaces.{wordAt}
 use Rattle.rules.specs.EvenRecords.{endsBehind}
-use Rattle.rules.proofs.PlaceLaws.{over-nothing, over-behind}
-use Rattle.rules.proofs.WordLaws.{length-word}
-use Rattle.rules.proofs.ReelLaws.{header-is}
-use Rattle.rules.proofs.ReelSteps.{offset-most}
-use Rattle.rules.proofs.HeaderSteps.{next-at, count-at, offsets-next, offsets-end}
+use Rattle.rules.proofs.Halves.PlaceLaws.{over-nothing, over-behind}
+use Rattle.rules.proofs.Reel.WordLaws.{length-word}
+use Rattle.rules.proofs.Reel.ReelLaws.{header-is}
+use Rattle.rules.proofs.Reel.ReelSteps.{offset-most}
+use Rattle.rules.proofs.Reel.HeaderSteps.{next-at, count-at, offsets-next, offsets-end}
 use Rattle.offsets.specs.Small.{EndSmall, EachSmall}
 use Rattle.offsets.proofs.Sending.{Sent, sent-start, sent-size, sent-length, sent-more, sent-end}
 

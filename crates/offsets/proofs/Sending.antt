@@ -5,8 +5,8 @@ use Prim.Native.Nat.{ℕ, _+_, _≤_}
 use native.Mathlib.Omega.{arith}
 use lib.ListN.{length, length-append}
 use Rattle.rules.specs.Halves.{over}
-use Rattle.rules.proofs.SizeLaws.{length-over}
-use Rattle.rules.proofs.PlaceLaws.{over-nothing, over-behind}
+use Rattle.rules.proofs.Halves.SizeLaws.{length-over}
+use Rattle.rules.proofs.Halves.PlaceLaws.{over-nothing, over-behind}
 
 -- of all bytes, which go from a place on, those up to another place stand in the output
 pub record Sent (from : ℕ) (all old out : List ℕ) (at : ℕ) (left : List ℕ) : Type 0 where

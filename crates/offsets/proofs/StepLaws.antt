@@ -8,8 +8,8 @@ use borrow.Author.Tests.{lt-ltb}
 use Rattle.rules.specs.Halves.{over}
 use Rattle.rules.specs.Reel.{word}
 use Rattle.rules.specs.EvenRecords.{stepped}
-use Rattle.rules.proofs.WordLaws.{length-word}
-use Rattle.rules.proofs.EvenFilling.{stepped-end}
+use Rattle.rules.proofs.Reel.WordLaws.{length-word}
+use Rattle.rules.proofs.Output.EvenFilling.{stepped-end}
 use Rattle.offsets.proofs.Sending.{Sent, sent-start, sent-size, sent-length, sent-more, sent-end}
 
 -- the offsets before one stand in the output, and so many steps are left at most

@@ -11,7 +11,7 @@ use Rattle.rules.specs.Answer.{Answer, fine, refuse, _>>_, unless}
 use Rattle.rules.specs.Run.{RunOutput, housed}
 use Rattle.rules.specs.Halves.{over}
 use Rattle.rules.specs.Lent.{RunAnswer, runAnswer, outputAfter}
-use Rattle.rules.proofs.LentParts.{front-over}
+use Rattle.rules.proofs.Base.LentParts.{front-over}
 use Rattle.outcomes.specs.declared.Ran.{Ran}
 use Rattle.outcomes.specs.Promise.{ranStruct, runNumbers, refusedRun, finishedRun, housedRun}
 

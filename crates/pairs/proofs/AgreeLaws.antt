@@ -16,10 +16,10 @@ use Rattle.rules.specs.RecordParts.{writtenBytes}
 use Rattle.rules.specs.Rows.{SizeWithin}
 use Rattle.rules.specs.Lent.{zoneF}
 use Rattle.rules.specs.Judge.{agrees}
-use Rattle.rules.proofs.AllLaws.{all-imply}
-use Rattle.rules.proofs.PermittedLaws.{same-test}
-use Rattle.rules.proofs.RecordLaws.{Shape, fixed, variable, shape-of, fits-wider}
-use Rattle.rules.proofs.AgreeBytes.{tailOut, agrees-selected, agrees-carried}
+use Rattle.rules.proofs.Base.AllLaws.{all-imply}
+use Rattle.rules.proofs.Halves.PermittedLaws.{same-test}
+use Rattle.rules.proofs.Halves.RecordLaws.{Shape, fixed, variable, shape-of, fits-wider}
+use Rattle.rules.proofs.Judge.AgreeBytes.{tailOut, agrees-selected, agrees-carried}
 use Rattle.terms.specs.Meaning.{modeOf}
 use Rattle.terms.specs.declared.Mode.{Mode}
 use Rattle.terms.specs.declared.Task.{Task}

@@ -12,9 +12,9 @@ use Rattle.rules.specs.Plan.{Plan, selects, recordLength}
 use Rattle.rules.specs.Blocks.{takenFrom}
 use Rattle.rules.specs.Output.{outRecord}
 use Rattle.rules.specs.Judge.{underB, agrees, firstApart}
-use Rattle.rules.proofs.Bounds.{reel-most}
-use Rattle.rules.proofs.BlockSizes.{least-selects}
-use Rattle.rules.proofs.TakenLaws.{taken-first}
+use Rattle.rules.proofs.Reel.Bounds.{reel-most}
+use Rattle.rules.proofs.Blocks.BlockSizes.{least-selects}
+use Rattle.rules.proofs.Blocks.TakenLaws.{taken-first}
 use Rattle.terms.specs.declared.Task.{Task}
 use Rattle.pieces.specs.declared.Form.{Form}
 use Rattle.walks.specs.declared.Walk.{Walk}

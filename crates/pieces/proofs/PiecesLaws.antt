@@ -13,12 +13,12 @@ use Rattle.rules.specs.Grammar.{Format, ff, fv, fu, fsp}
 use Rattle.rules.specs.Blocks.{Piece, wordLength, headedTo, withPiece, piecesIn}
 use Rattle.rules.specs.Output.{cost}
 use Rattle.rules.specs.ReelPlaces.{pieceAt, piecesAt, pieceFrom, goodFrom, behind, goodStart}
-use Rattle.rules.proofs.BlockWords.{wordLength-at}
-use Rattle.rules.proofs.CodedWords.{HeadedTo, headedTo-exactly, headedTo-short}
-use Rattle.rules.proofs.SpannedSteps.{walkAt, walkAt-end, walkAt-good, walkAt-bad}
-use Rattle.rules.proofs.BlockSteps.{pieces-start, pieces-end, good-inside, pieces-good, pieces-bad}
-use Rattle.rules.proofs.PieceLaws.{takes-some, pieces-none}
-use Rattle.rules.proofs.Tests.{never-true, failing}
+use Rattle.rules.proofs.Blocks.BlockWords.{wordLength-at}
+use Rattle.rules.proofs.Blocks.CodedWords.{HeadedTo, headedTo-exactly, headedTo-short}
+use Rattle.rules.proofs.Spanned.SpannedSteps.{walkAt, walkAt-end, walkAt-good, walkAt-bad}
+use Rattle.rules.proofs.Blocks.BlockSteps.{pieces-start, pieces-end, good-inside, pieces-good, pieces-bad}
+use Rattle.rules.proofs.Blocks.PieceLaws.{takes-some, pieces-none}
+use Rattle.rules.proofs.Base.Tests.{never-true, failing}
 use Rattle.pieces.specs.Pieces.{lengthWordOf, startIn, variableStart, found, pieceIn, wordedIn, fixedPiece}
 use Rattle.pieces.specs.declared.Cursor.{Cursor}
 use Rattle.pieces.specs.declared.LengthRead.the-variants.{Length, NoLength}

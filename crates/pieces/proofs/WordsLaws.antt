@@ -9,7 +9,7 @@ use Rattle.rules.specs.Halves.{over}
 use Rattle.rules.specs.Reel.{word}
 use Rattle.rules.specs.Output.{lengthWord}
 use Rattle.rules.specs.Spanned.{codedWord}
-use Rattle.rules.proofs.BlockWords.{word-FV}
+use Rattle.rules.proofs.Blocks.BlockWords.{word-FV}
 
 pub four-over : (out : List ℕ) (at a b c d : ℕ) → at + 4 ≤ length out
     → set (set (set (set out at a) (at + 1) b) (at + 2) c) (at + 3) d ≡ over at (a ∷ (b ∷ (c ∷ (d ∷ [])))) out

@@ -8,9 +8,9 @@ use Rattle.rules.specs.Answer.{Refusal, Answer, fine, refuse, _>>=_}
 use Rattle.rules.specs.Asked.{Asked as RuleAsked, askedOf}
 use Rattle.rules.specs.Plan.{Plan, planAnswer}
 use Rattle.rules.specs.Lent.{zoneF, plan}
-use Rattle.rules.proofs.AnswerLaws.{fine-same}
-use Rattle.rules.proofs.AcceptedLaws.{limited-of, limits-utility, limits-fields}
-use Rattle.rules.proofs.PlanSteps.{never-0, deck-refused, deck-asks}
+use Rattle.rules.proofs.Refusals.AnswerLaws.{fine-same}
+use Rattle.rules.proofs.Deck.AcceptedLaws.{limited-of, limits-utility, limits-fields}
+use Rattle.rules.proofs.Refusals.PlanSteps.{never-0, deck-refused, deck-asks}
 use Rattle.terms.specs.Meaning.{laidFields, Means}
 use Rattle.terms.proofs.Laid.{many-laid}
 use Rattle.terms.specs.declared.Asked.{Asked}

@@ -7,7 +7,7 @@ use Rattle.rules.specs.Answer.{fine}
 use Rattle.rules.specs.Demand.{Marked}
 use Rattle.rules.specs.Plan.{Plan}
 use Rattle.rules.specs.Lent.{zoneF, plan}
-use Rattle.rules.proofs.Demand3.{demand3 as rules-demand3}
+use Rattle.rules.proofs.Keeping.Demand3.{demand3 as rules-demand3}
 use Rattle.plans.specs.Promise.{Plans}
 use Rattle.plans.specs.declared.DeckPlan.{DeckPlan}
 use Rattle.plans.specs.declared.Planned.{Planned}

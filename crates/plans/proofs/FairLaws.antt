@@ -15,9 +15,9 @@ use Rattle.rules.specs.Grammar.{Item}
 use Rattle.rules.specs.Asked.{fieldsOf, Asked as RuleAsked}
 use Rattle.rules.specs.Plan.{selects, recordLength}
 use Rattle.rules.specs.Rows.{Inside}
-use Rattle.rules.proofs.AnswerLaws.{then-fine, unless-fine, each-fine}
-use Rattle.rules.proofs.AllLaws.{all-at, all-imply}
-use Rattle.rules.proofs.LimitLaws.{inside-exactly}
+use Rattle.rules.proofs.Refusals.AnswerLaws.{then-fine, unless-fine, each-fine}
+use Rattle.rules.proofs.Base.AllLaws.{all-at, all-imply}
+use Rattle.rules.proofs.Deck.LimitLaws.{inside-exactly}
 use Rattle.terms.specs.Meaning.{modeOf, sizeOf, fieldOf, noField, laidFields, Means}
 use Rattle.terms.specs.declared.Field.{Field}
 use Rattle.terms.specs.declared.Asked.{Asked}

@@ -18,14 +18,14 @@ use Rattle.rules.specs.Rows.{FieldWithin, Inside}
 use Rattle.rules.specs.Accepted.{Accepted}
 use Rattle.rules.specs.Plan.{Plan, PlanAnswer, planAnswer, planOf, assembled, recordLength, keyLength, partLength, bytesBefore, through, insidePart}
 use Rattle.rules.specs.Lent.{zoneF, plan, planInto, entryOf, cardFields, tableAfter}
-use Rattle.rules.proofs.Lists.{map-drop}
-use Rattle.rules.proofs.AnswerLaws.{fine-same, bind-fine, then-fine, unless-fine}
-use Rattle.rules.proofs.AcceptedLaws.{accepted, limited-of, limits-utility, limits-fields, combines, key-fits}
-use Rattle.rules.proofs.LimitLaws.{inside-exactly}
-use Rattle.rules.proofs.RecordLaws.{sizes-low}
-use Rattle.rules.proofs.KeyLaws.{Named}
-use Rattle.rules.proofs.SaidLaws.{card-fields}
-use Rattle.rules.proofs.PlanSteps.{never-0, into-refused, into-full, into-fits}
+use Rattle.rules.proofs.Base.Lists.{map-drop}
+use Rattle.rules.proofs.Refusals.AnswerLaws.{fine-same, bind-fine, then-fine, unless-fine}
+use Rattle.rules.proofs.Deck.AcceptedLaws.{accepted, limited-of, limits-utility, limits-fields, combines, key-fits}
+use Rattle.rules.proofs.Deck.LimitLaws.{inside-exactly}
+use Rattle.rules.proofs.Halves.RecordLaws.{sizes-low}
+use Rattle.rules.proofs.Keys.KeyLaws.{Named}
+use Rattle.rules.proofs.Refusals.SaidLaws.{card-fields}
+use Rattle.rules.proofs.Refusals.PlanSteps.{never-0, into-refused, into-full, into-fits}
 use Rattle.terms.specs.Meaning.{laidFields, planIn, entryMeans, entryFor}
 use Rattle.terms.specs.declared.Asked.{Asked}
 use Rattle.terms.specs.declared.Entry.{Entry}

@@ -6,7 +6,7 @@ use Rattle.rules.specs.Answer.{Answer, fine, refuse}
 use Rattle.rules.specs.Asked.{Asked as RuleAsked}
 use Rattle.rules.specs.Plan.{Plan, planOf}
 use Rattle.rules.specs.Lent.{plan, planInto}
-use Rattle.rules.proofs.AnswerLaws.{bind-fine}
+use Rattle.rules.proofs.Refusals.AnswerLaws.{bind-fine}
 use Rattle.terms.specs.Meaning.{laidFields}
 use Rattle.terms.specs.declared.Asked.{Asked}
 use Rattle.rows.specs.Kept.{rowOf}

@@ -12,8 +12,8 @@ use Rattle.rules.specs.Answer.{Answer, fine, refused, refusalOf, placeOf, _>>=_
 use Rattle.rules.specs.Asked.{Asked as RuleAsked}
 use Rattle.rules.specs.Plan.{Plan, assembled, selects, recordLength, blockLength, inputHalves, lostAt, tailKept, keeps, bit}
 use Rattle.rules.specs.Lent.{zoneF}
-use Rattle.rules.proofs.AnswerLaws.{fine-same, then-fine, fine-then, fine-unless, then-assoc, then-bind}
-use Rattle.rules.proofs.PlanSteps.{no-barren, keeps-carried}
+use Rattle.rules.proofs.Refusals.AnswerLaws.{fine-same, then-fine, fine-then, fine-unless, then-assoc, then-bind}
+use Rattle.rules.proofs.Refusals.PlanSteps.{no-barren, keeps-carried}
 use Rattle.terms.specs.Meaning.{modeOf, formatOf, sizeOf, laidFields, planIn}
 use Rattle.terms.proofs.PlanOf.{plan-means}
 use Rattle.terms.specs.declared.Asked.{Asked}

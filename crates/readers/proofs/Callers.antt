@@ -11,11 +11,11 @@ use Rattle.rules.specs.Halves.{Kind as RuleKind, inputSize, outputSize}
 use Rattle.rules.specs.Grammar.{Size as RuleSize, two, one, Input as RuleInput, plain, keyed, Parameter as RuleParameter, modeIs, formatIs, inputIs, outputIs, rewindIn, rewindOut, firstIs, Item, field, cv, Start, parameter, item}
 use Rattle.rules.specs.Words.{numberColumns}
 use Rattle.rules.specs.Texts.{SizeText, InputText, ParameterText, KindText, StartText, ItemText}
-use Rattle.rules.proofs.ReaderLaws.{Within, within-read, within-number}
-use Rattle.rules.proofs.NumberLaws.{number-small as value-small, text-small}
-use Rattle.rules.proofs.ParameterLaws.{within-parameter}
-use Rattle.rules.proofs.ItemLaws.{within-item}
-use Rattle.rules.proofs.GrammarLaws.{parameter-sound, item-sound}
+use Rattle.rules.proofs.Grammar.ReaderLaws.{Within, within-read, within-number}
+use Rattle.rules.proofs.Grammar.NumberLaws.{number-small as value-small, text-small}
+use Rattle.rules.proofs.Grammar.ParameterLaws.{within-parameter}
+use Rattle.rules.proofs.Grammar.ItemLaws.{within-item}
+use Rattle.rules.proofs.Grammar.GrammarLaws.{parameter-sound, item-sound}
 use Rattle.terms.specs.Meaning.{fieldOf, cardField}
 use Rattle.terms.specs.declared.Part.{Part}
 use Rattle.terms.specs.declared.Field.{Field}

@@ -8,8 +8,8 @@ use native.Mathlib.Omega.{arith}
 use lib.Dec.{lit<}
 use lib.ListN.{length, getD}
 use Rattle.rules.specs.Reader.{isDigit}
-use Rattle.rules.proofs.ChoiceLaws.{byte-inside, byte-any, no-digit}
-use Rattle.rules.proofs.NumberLaws.{Reading, reading-digit, NoDigit, digit-is}
+use Rattle.rules.proofs.Grammar.ChoiceLaws.{byte-inside, byte-any, no-digit}
+use Rattle.rules.proofs.Grammar.NumberLaws.{Reading, reading-digit, NoDigit, digit-is}
 use Rattle.readers.specs.Meaning.{digitValue}
 
 -- a value of 9 or less is a digit's

@@ -12,10 +12,10 @@ use Rattle.rules.specs.Grammar.{field, Start, start, inData, inKey, kindReader,
 use Rattle.rules.specs.Words.{numberColumns}
 use Rattle.rules.specs.Texts.{NumberText}
 use Rattle.rules.specs.TextParts.{numberThen, keyThen, sizesBehind, fieldBehind}
-use Rattle.rules.proofs.ReaderLaws.{read-left, bind-read, text-sound}
-use Rattle.rules.proofs.NumberColumns.{columns-number}
-use Rattle.rules.proofs.ChoiceLaws.{byte-inside, mark-there, mark-not, kind-copy, item-field, item-key}
-use Rattle.rules.proofs.NumberLaws.{close-ends}
+use Rattle.rules.proofs.Grammar.ReaderLaws.{read-left, bind-read, text-sound}
+use Rattle.rules.proofs.Columns.NumberColumns.{columns-number}
+use Rattle.rules.proofs.Grammar.ChoiceLaws.{byte-inside, mark-there, mark-not, kind-copy, item-field, item-key}
+use Rattle.rules.proofs.Grammar.NumberLaws.{close-ends}
 use Rattle.terms.specs.Meaning.{kindOf, OneSize, fieldOf, partOf, cardField}
 use Rattle.terms.specs.declared.Part.{Part}
 use Rattle.terms.specs.declared.Kind.{Kind}

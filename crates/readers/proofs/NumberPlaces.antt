@@ -15,9 +15,9 @@ use Rattle.rules.specs.Places.{All, noMore, also}
 use Rattle.rules.specs.Words.{numberColumns}
 use Rattle.rules.specs.Texts.{DigitByte, NumberText}
 use Rattle.rules.specs.TextParts.{numberThen}
-use Rattle.rules.proofs.Lists.{slice-rest, slice-slice}
-use Rattle.rules.proofs.NumberLaws.{digit-of, number-sound}
-use Rattle.rules.proofs.ReaderLaws.{not-read, read-left, bind-read}
+use Rattle.rules.proofs.Base.Lists.{slice-rest, slice-slice}
+use Rattle.rules.proofs.Grammar.NumberLaws.{digit-of, number-sound}
+use Rattle.rules.proofs.Grammar.ReaderLaws.{not-read, read-left, bind-read}
 use Rattle.readers.specs.Meaning.{ReadsFrom, numbersIn}
 
 -- ---- runs of digits

@@ -10,7 +10,7 @@ use Rattle.rules.specs.Reader.{Reader, number}
 use Rattle.rules.specs.Halves.{inputSize, outputSize, Field as RuleField}
 use Rattle.rules.specs.Grammar.{Size as RuleSize, two, one, Input as RuleInput, plain, keyed, Parameter as RuleParameter, modeIs, formatIs, inputIs, outputIs, rewindIn, rewindOut, firstIs, Part as RulePart, inData, inKey, CardField, field, cv, parameter, item}
 use Rattle.rules.specs.Words.{numberColumns}
-use Rattle.rules.proofs.ReaderLaws.{not-read, read-value, read-left}
+use Rattle.rules.proofs.Grammar.ReaderLaws.{not-read, read-value, read-left}
 use Rattle.terms.specs.Meaning.{sizeOf, inputOf, kindFor, OneSize, fieldOf, partOf, cardField}
 use Rattle.terms.specs.declared.Size.{Size}
 use Rattle.terms.specs.declared.Size.the-variants.{Two, One}

@@ -12,7 +12,7 @@ use Rattle.rules.specs.Reader.{isDigit, number}
 use Rattle.rules.specs.Grammar.{Size, two, one, Input, inputIs, outputIs, firstIs, sizeReader, inputReader, parameter}
 use Rattle.rules.specs.Words.{numberColumns}
 use Rattle.rules.specs.TextParts.{numberThen, sizeBehind, dataBehind, keyedBehind}
-use Rattle.rules.proofs.ChoiceLaws.{Ending, byte-inside, mark-there, mark-not, parameter-A=, parameter-B=, parameter-first, size-open, size-comma, size-close, input-keyed, input-plain}
+use Rattle.rules.proofs.Grammar.ChoiceLaws.{Ending, byte-inside, mark-there, mark-not, parameter-A=, parameter-B=, parameter-first, size-open, size-comma, size-close, input-keyed, input-plain}
 use Rattle.terms.specs.declared.Size.{Size as GivenSize}
 use Rattle.terms.specs.declared.Input.the-variants.{Plain, Keyed}
 use Rattle.readers.specs.Meaning.{Reads, Stops, ReadsFrom, StopsFrom, numbersIn, firstIn, secondIn, SizeFrom, InputFrom}

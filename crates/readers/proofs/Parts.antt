@@ -9,7 +9,7 @@ use lib.Seq.{drop-drop, drop-cons}
 use borrow.Author.Tests.{eq-eqb, ne-eqb}
 use Rattle.rules.specs.Reader.{read, stopped, Reader, after, number}
 use Rattle.rules.specs.TextParts.{numberThen}
-use Rattle.rules.proofs.ChoiceLaws.{byte-inside, byte-front, mark-there, mark-not}
+use Rattle.rules.proofs.Grammar.ChoiceLaws.{byte-inside, byte-front, mark-there, mark-not}
 use Rattle.readers.specs.Meaning.{Reads, Stops, ReadsFrom, StopsFrom}
 
 -- places of a part, as places of the whole

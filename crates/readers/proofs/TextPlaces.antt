@@ -10,9 +10,9 @@ use Rattle.rules.specs.Halves.{Kind as RuleKind}
 use Rattle.rules.specs.Grammar.{Size as RuleSize, two, one, Input as RuleInput, plain, keyed, Parameter as RuleParameter, modeIs, formatIs, inputIs, outputIs, rewindIn, rewindOut, firstIs, Item, field, cv, Start, parameter, item}
 use Rattle.rules.specs.Words.{numberColumns}
 use Rattle.rules.specs.Texts.{NumberText, SizeText, InputText, ParameterText, KindText, StartText, ItemText}
-use Rattle.rules.proofs.NumberLaws.{Ends, at-end, comma-ends, close-ends}
-use Rattle.rules.proofs.NumberColumns.{columns-number}
-use Rattle.rules.proofs.GrammarLaws.{parameter-sound, item-sound}
+use Rattle.rules.proofs.Grammar.NumberLaws.{Ends, at-end, comma-ends, close-ends}
+use Rattle.rules.proofs.Columns.NumberColumns.{columns-number}
+use Rattle.rules.proofs.Grammar.GrammarLaws.{parameter-sound, item-sound}
 use Rattle.terms.specs.Meaning.{kindFor, fieldOf, cardField}
 use Rattle.terms.specs.declared.Size.the-variants.{Two, One}
 use Rattle.terms.specs.declared.Input.the-variants.{Plain, Keyed}

@@ -16,9 +16,9 @@ use Rattle.rules.specs.Places.{All, noMore, also}
 use Rattle.rules.specs.Halves.{outputSize, Field as RuleField, over}
 use Rattle.rules.specs.Lent.{zoneF}
 use Rattle.rules.specs.RecordParts.{Fits, fieldBytes, writtenBytes}
-use Rattle.rules.proofs.SizeLaws.{length-over}
-use Rattle.rules.proofs.PlaceLaws.{over-inside, over-before, over-after}
-use Rattle.rules.proofs.FieldSteps.{length-fieldBytes, field-room, length-writtenBytes, written-rest}
+use Rattle.rules.proofs.Halves.SizeLaws.{length-over}
+use Rattle.rules.proofs.Halves.PlaceLaws.{over-inside, over-before, over-after}
+use Rattle.rules.proofs.Halves.FieldSteps.{length-fieldBytes, field-room, length-writtenBytes, written-rest}
 use Rattle.terms.specs.Meaning.{fieldOf}
 use Rattle.terms.specs.declared.Field.{Field}
 use Rattle.rows.specs.Flat.{flatOf, fieldAt, FlatFair}

@@ -11,7 +11,7 @@ use Rattle.rules.specs.Plan.{Plan, recordLength}
 use Rattle.rules.specs.Output.{selected}
 use Rattle.rules.specs.Lent.{zoneF}
 use Rattle.rules.specs.RecordParts.{writtenBytes}
-use Rattle.rules.proofs.FieldSteps.{out-bytes, length-writtenBytes}
+use Rattle.rules.proofs.Halves.FieldSteps.{out-bytes, length-writtenBytes}
 use Rattle.rows.specs.Flat.{flatOf, FlatFair, Fielded}
 use Rattle.records.specs.Promise.{FieldsWritten, reachOf, Covers, outBytes, Puts}
 use Rattle.records.proofs.CoverLaws.{covered-same}

@@ -13,11 +13,11 @@ use Rattle.rules.specs.Halves.{copy, pack, unpack, outputSize, Field as RuleFie
 use Rattle.rules.specs.Rows.{KindWithin}
 use Rattle.rules.specs.Lent.{zoneF}
 use Rattle.rules.specs.RecordParts.{Fits, convertedBytes, fieldBytes, writtenBytes}
-use Rattle.rules.proofs.AllLaws.{all-imply}
-use Rattle.rules.proofs.PlaceLaws.{over-behind, over-whole}
-use Rattle.rules.proofs.FieldSteps.{writtenBytes-step, length-fieldBytes, length-writtenBytes, out-bytes}
-use Rattle.rules.proofs.LentParts.{part-length, part-over, front-over}
-use Rattle.rules.proofs.RecordLaws.{fits-wider}
+use Rattle.rules.proofs.Base.AllLaws.{all-imply}
+use Rattle.rules.proofs.Halves.PlaceLaws.{over-behind, over-whole}
+use Rattle.rules.proofs.Halves.FieldSteps.{writtenBytes-step, length-fieldBytes, length-writtenBytes, out-bytes}
+use Rattle.rules.proofs.Base.LentParts.{part-length, part-over, front-over}
+use Rattle.rules.proofs.Halves.RecordLaws.{fits-wider}
 use Rattle.terms.specs.Meaning.{kindOf, fieldOf}
 use Rattle.terms.specs.declared.Kind.{Kind}
 use Rattle.terms.specs.declared.Field.{Field}

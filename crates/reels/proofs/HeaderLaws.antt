@@ -9,11 +9,11 @@ use lib.Seq.{slice}
 use borrow.Author.Tests.{le-leb, lt-leb}
 use Rattle.rules.specs.Reel.{blockCount, isReel, blocksOf}
 use Rattle.rules.specs.ReelPlaces.{wordAt, offsetAt}
-use Rattle.rules.proofs.Lists.{slice-part}
-use Rattle.rules.proofs.HeaderSteps.{next-at}
-use Rattle.rules.proofs.ReelLaws.{header-is}
-use Rattle.rules.proofs.ReelSteps.{offset-most, blocks-step, block-at, length-block}
-use Rattle.rules.proofs.Tests.{never-true}
+use Rattle.rules.proofs.Base.Lists.{slice-part}
+use Rattle.rules.proofs.Reel.HeaderSteps.{next-at}
+use Rattle.rules.proofs.Reel.ReelLaws.{header-is}
+use Rattle.rules.proofs.Reel.ReelSteps.{offset-most, blocks-step, block-at, length-block}
+use Rattle.rules.proofs.Base.Tests.{never-true}
 use Rattle.reels.specs.Header.{headerOf, blockPart}
 use Rattle.reels.specs.declared.HeaderRead.the-variants.{Reel, NoReel}
 

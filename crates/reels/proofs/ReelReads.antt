@@ -13,8 +13,8 @@ use Rattle.rules.specs.Reel.{blockCount, isReel, blocksOf}
 use Rattle.rules.specs.Plan.{Plan}
 use Rattle.rules.specs.Blocks.{recordsIn, recordsFrom}
 use Rattle.rules.specs.ReelPlaces.{offsetAt}
-use Rattle.rules.proofs.ReelSteps.{offset-most, offset-rises, blocks-end}
-use Rattle.rules.proofs.TakenLaws.{after, after-none, blocks-good, blocks-bad}
+use Rattle.rules.proofs.Reel.ReelSteps.{offset-most, offset-rises, blocks-end}
+use Rattle.rules.proofs.Blocks.TakenLaws.{after, after-none, blocks-good, blocks-bad}
 use Rattle.pieces.specs.Form.{planBy}
 use Rattle.reels.specs.Header.{headerOf, blockPart}
 use Rattle.reels.specs.Records.{blockRead, BlockSays, reelRead, ReadAs}

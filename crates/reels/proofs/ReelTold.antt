@@ -17,11 +17,11 @@ use Rattle.rules.specs.Blocks.{leastData, recordsIn, recordsFrom}
 use Rattle.rules.specs.Output.{cost}
 use Rattle.rules.specs.Accepted.{Accepted}
 use Rattle.rules.specs.ReelPlaces.{goodStart, recordsAt}
-use Rattle.rules.proofs.Tests.{and-left, and-right}
-use Rattle.rules.proofs.BlockSteps.{good-inside}
-use Rattle.rules.proofs.RecordSteps.{fixed-pos, records-next, records-done, sizeOf, opens, records-start}
-use Rattle.rules.proofs.ReelLaws.{length-blocks}
-use Rattle.rules.proofs.PieceLaws.{refused-block, read-at}
+use Rattle.rules.proofs.Base.Tests.{and-left, and-right}
+use Rattle.rules.proofs.Blocks.BlockSteps.{good-inside}
+use Rattle.rules.proofs.Blocks.RecordSteps.{fixed-pos, records-next, records-done, sizeOf, opens, records-start}
+use Rattle.rules.proofs.Reel.ReelLaws.{length-blocks}
+use Rattle.rules.proofs.Blocks.PieceLaws.{refused-block, read-at}
 use Rattle.pieces.specs.Form.{FormIs}
 use Rattle.reels.specs.Header.{blockPart}
 use Rattle.pieces.specs.Pieces.{startIn, startOf, pieceIn, pieceReadOf}

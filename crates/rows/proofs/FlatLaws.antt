@@ -13,7 +13,7 @@ use Rattle.rules.specs.Halves.{Kind as RuleKind, copy, pack, unpack, inputSize,
 use Rattle.rules.specs.Lent.{kindNumber}
 use Rattle.rules.specs.Rows.{KindWithin}
 use Rattle.rules.specs.RecordParts.{Fits}
-use Rattle.rules.proofs.AllLaws.{all-at}
+use Rattle.rules.proofs.Base.AllLaws.{all-at}
 use Rattle.terms.specs.Meaning.{kindFor, fieldOf, noField}
 use Rattle.terms.specs.declared.Field.{Field}
 use Rattle.terms.proofs.FieldLaws.{input-of}

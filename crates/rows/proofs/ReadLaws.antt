@@ -9,9 +9,9 @@ use Rattle.rules.specs.Halves.{inputSize}
 use Rattle.rules.specs.Plan.{Plan, recordLength}
 use Rattle.rules.specs.Accepted.{Accepted}
 use Rattle.rules.specs.RecordParts.{Fits, fieldInput}
-use Rattle.rules.proofs.AllLaws.{all-imply}
-use Rattle.rules.proofs.RecordLaws.{fits-of}
-use Rattle.rules.proofs.LentParts.{part-length}
+use Rattle.rules.proofs.Base.AllLaws.{all-imply}
+use Rattle.rules.proofs.Halves.RecordLaws.{fits-of}
+use Rattle.rules.proofs.Base.LentParts.{part-length}
 use Rattle.terms.specs.Meaning.{fieldOf}
 use Rattle.terms.specs.declared.Kind.the-variants.{Copy, Pack, Unpack}
 use Rattle.terms.specs.declared.Field.{Field}

@@ -10,8 +10,8 @@ use lib.ListN.{length, take, drop, getD, set, replicate, length-append, length-s
 use lib.Seq.{drop-at, drop-cons, drop-length, getD-at, getD-set-same, getD-set-other, take-at, take-length, take-suc, ext-getD}
 use Rattle.rules.specs.Halves.{copy, outputSize, Field as RuleField, over}
 use Rattle.rules.specs.Rows.{FieldWithin}
-use Rattle.rules.proofs.SizeLaws.{length-over}
-use Rattle.rules.proofs.RecordLaws.{sizes-within}
+use Rattle.rules.proofs.Halves.SizeLaws.{length-over}
+use Rattle.rules.proofs.Halves.RecordLaws.{sizes-within}
 use Rattle.terms.specs.Meaning.{fieldOf}
 use Rattle.terms.specs.declared.Field.{Field}
 use Rattle.rows.specs.Flat.{flatOf, fieldAt, Short}

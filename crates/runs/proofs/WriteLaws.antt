@@ -14,11 +14,11 @@ use Rattle.rules.specs.Reel.{reelOf}
 use Rattle.rules.specs.Plan.{Plan, isTC, isFS, blockLength}
 use Rattle.rules.specs.Run.{RunOutput, ranOf, convert, spannedRun, conversion, outputBlocks}
 use Rattle.rules.specs.Lent.{zoneF, runAnswer, outputAfter}
-use Rattle.rules.proofs.Bounds.{reel-most}
-use Rattle.rules.proofs.BlocksOutcome.{reads-give}
-use Rattle.rules.proofs.CopyLaws.{copy-reel}
-use Rattle.rules.proofs.RunParts.{Finished, finished}
-use Rattle.rules.proofs.RunColumns.{Refuses, refuses-convert}
+use Rattle.rules.proofs.Reel.Bounds.{reel-most}
+use Rattle.rules.proofs.Refusals.BlocksOutcome.{reads-give}
+use Rattle.rules.proofs.Runs.CopyLaws.{copy-reel}
+use Rattle.rules.proofs.Runs.RunParts.{Finished, finished}
+use Rattle.rules.proofs.Refusals.RunColumns.{Refuses, refuses-convert}
 use Rattle.terms.specs.declared.Asked.{Asked}
 use Rattle.terms.specs.declared.Task.{Task}
 use Rattle.terms.specs.Meaning.{modeOf, formatOf, sizeOf, planIn}

@@ -11,8 +11,8 @@ use lib.Seq.{take-suc-set}
 use borrow.Author.Tests.{eqb-true, eqb-false, leb-true, leb-false}
 use Rattle.rules.specs.Deck.{lines, cardOf}
 use Rattle.rules.specs.Order.{operandsOf}
-use Rattle.rules.proofs.LineLaws.{Passed, passed-none, passed-byte, passed-end, passed-all, passed-last}
-use Rattle.rules.proofs.CardPlaces.{tidy-long, card-untidy}
+use Rattle.rules.proofs.Deck.LineLaws.{Passed, passed-none, passed-byte, passed-end, passed-all, passed-last}
+use Rattle.rules.proofs.Deck.CardPlaces.{tidy-long, card-untidy}
 use Rattle.lines.specs.Ordering.{most, cardKindOf, withLine, orderOf, cardCount}
 use Rattle.lines.specs.declared.CardKind.{CardKind}
 use Rattle.lines.specs.declared.LinesSeen.{LinesSeen}

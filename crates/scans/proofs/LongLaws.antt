@@ -11,8 +11,8 @@ use lib.ListN.{length, length-append}
 use borrow.Author.Tests.{eqb-true, eqb-false, leb-true, leb-false, ltb-false}
 use Rattle.rules.specs.Answer.{refused}
 use Rattle.rules.specs.Deck.{lines, cardOf}
-use Rattle.rules.proofs.LineLaws.{ended, lines-deck}
-use Rattle.rules.proofs.CardPlaces.{tidy-long, card-untidy}
+use Rattle.rules.proofs.Deck.LineLaws.{ended, lines-deck}
+use Rattle.rules.proofs.Deck.CardPlaces.{tidy-long, card-untidy}
 use Rattle.lines.specs.Ordering.{oneMore, firstMarked, cardKindOf, isOther, faulty, misplaced, withLine, orderOf}
 use Rattle.lines.specs.declared.CardKind.{CardKind}
 use Rattle.lines.specs.declared.CardKind.the-variants.{Utility, Select, End, Other}

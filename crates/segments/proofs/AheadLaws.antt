@@ -8,7 +8,7 @@ use native.Mathlib.Omega.{arith}
 use lib.ListN.{length, length-append}
 use Rattle.rules.specs.Places.{All}
 use Rattle.rules.specs.Spanned.{Segment, segment, ends, part, Joined, ending, going}
-use Rattle.rules.proofs.AllLaws.{all-head, all-tail}
+use Rattle.rules.proofs.Base.AllLaws.{all-head, all-tail}
 use Rattle.segments.specs.declared.Spot.{Spot}
 use Rattle.segments.specs.declared.SegmentRead.{SegmentRead}
 use Rattle.segments.specs.Spots.{nextOf, passedBy, spotAfter}

@@ -8,9 +8,9 @@ use lib.ListN.{length, take, drop, length-drop}
 use lib.Seq.{take-add, length-take-le}
 use borrow.Rule.Slice.PartMut.{putMid}
 use Rattle.rules.specs.Halves.{over}
-use Rattle.rules.proofs.LentParts.{rest-over}
-use Rattle.rules.proofs.PlaceLaws.{over-behind, over-nothing}
-use Rattle.rules.proofs.SizeLaws.{length-over}
+use Rattle.rules.proofs.Base.LentParts.{rest-over}
+use Rattle.rules.proofs.Halves.PlaceLaws.{over-behind, over-nothing}
+use Rattle.rules.proofs.Halves.SizeLaws.{length-over}
 use Rattle.reels.specs.Header.{blockPart}
 use Rattle.segments.specs.declared.Spot.{Spot}
 use Rattle.segments.specs.Spots.{passedBy, onData, spotAfter}

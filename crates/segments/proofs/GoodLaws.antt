@@ -16,13 +16,13 @@ use Rattle.rules.specs.Places.{All, noMore, Both, none-left, both}
 use Rattle.rules.specs.Reel.{blockCount, isReel, blocksOf}
 use Rattle.rules.specs.ReelPlaces.{offsetAt}
 use Rattle.rules.specs.Spanned.{Segment, part, spannedFrom, Joined, no-segment, ending, going, Turns}
-use Rattle.rules.proofs.SpannedRead.{gathered, read-held, Reads}
-use Rattle.rules.proofs.Lists.{drop-less, mapped-append}
-use Rattle.rules.proofs.AllLaws.{all-append, both-map, both-same}
-use Rattle.rules.proofs.Bounds.{parts-length}
-use Rattle.rules.proofs.ReelLaws.{header-is, length-blocks}
-use Rattle.rules.proofs.ReelSteps.{offset-first, offset-last}
-use Rattle.rules.proofs.SpannedTurns.{turns-once, turns-exactly}
+use Rattle.rules.proofs.Spanned.SpannedRead.{gathered, read-held, Reads}
+use Rattle.rules.proofs.Base.Lists.{drop-less, mapped-append}
+use Rattle.rules.proofs.Base.AllLaws.{all-append, both-map, both-same}
+use Rattle.rules.proofs.Reel.Bounds.{parts-length}
+use Rattle.rules.proofs.Reel.ReelLaws.{header-is, length-blocks}
+use Rattle.rules.proofs.Reel.ReelSteps.{offset-first, offset-last}
+use Rattle.rules.proofs.Spanned.SpannedTurns.{turns-once, turns-exactly}
 use Rattle.reels.specs.Header.{blockPart}
 use Rattle.reels.proofs.HeaderLaws.{part-step, words-missing}
 use Rattle.segments.specs.declared.Spot.{Spot}

@@ -10,8 +10,8 @@ use lib.Seq.{take-at}
 use Rattle.rules.specs.Base.{joined}
 use Rattle.rules.specs.Places.{All}
 use Rattle.rules.specs.Spanned.{part}
-use Rattle.rules.proofs.PermittedLaws.{same-test}
-use Rattle.rules.proofs.SpannedFill.{joined-data}
+use Rattle.rules.proofs.Halves.PermittedLaws.{same-test}
+use Rattle.rules.proofs.Spanned.SpannedFill.{joined-data}
 use Rattle.segments.specs.declared.Spot.{Spot}
 use Rattle.segments.specs.declared.RecordAhead.{RecordAhead}
 use Rattle.segments.specs.Spots.{spotAfter}

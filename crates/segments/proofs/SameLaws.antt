@@ -8,7 +8,7 @@ use Prim.Native.Nat.{ℕ, _+_, _-_, _≤_, _<_, min}
 use native.Mathlib.Omega.{arith}
 use lib.ListN.{length, take, drop}
 use lib.Seq.{take-add, take-take}
-use Rattle.rules.proofs.Lists.{slice-from}
+use Rattle.rules.proofs.Base.Lists.{slice-from}
 use Rattle.reels.specs.Header.{blockPart}
 use Rattle.segments.specs.declared.Spot.{Spot}
 use Rattle.segments.specs.Spots.{passedBy, onData}

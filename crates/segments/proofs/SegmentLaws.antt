@@ -14,8 +14,8 @@ use Rattle.rules.specs.Places.{All, noMore, also}
 use Rattle.rules.specs.Blocks.{Piece, wordLength, headed, headedTo, withPiece, walkFrom}
 use Rattle.rules.specs.ReelPlaces.{pieceAt}
 use Rattle.rules.specs.Spanned.{Segment, ends, part, segmentOf, segmentAt, segmentsIn, segmentsOf as readOf}
-use Rattle.rules.proofs.CodedWords.{headedTo-exactly}
-use Rattle.rules.proofs.SpannedSteps.{walkAt, walkAt-end, walkAt-good, walkAt-bad}
+use Rattle.rules.proofs.Blocks.CodedWords.{headedTo-exactly}
+use Rattle.rules.proofs.Spanned.SpannedSteps.{walkAt, walkAt-end, walkAt-good, walkAt-bad}
 use Rattle.segments.specs.Promise.{allSegments, segmentsFrom}
 
 -- ---- from a place on

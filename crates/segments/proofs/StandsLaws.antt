@@ -17,9 +17,9 @@ use Rattle.rules.specs.Reel.{blockCount, isReel, blocksOf}
 use Rattle.rules.specs.Blocks.{wordLength}
 use Rattle.rules.specs.ReelPlaces.{pieceAt}
 use Rattle.rules.specs.Spanned.{Segment, ends, part, segmentAt}
-use Rattle.rules.proofs.SpannedRead.{Reads}
-use Rattle.rules.proofs.Lists.{slice-from, slice-part}
-use Rattle.rules.proofs.ReelLaws.{header-is, length-blocks}
+use Rattle.rules.proofs.Spanned.SpannedRead.{Reads}
+use Rattle.rules.proofs.Base.Lists.{slice-from, slice-part}
+use Rattle.rules.proofs.Reel.ReelLaws.{header-is, length-blocks}
 use Rattle.reels.specs.Header.{blockPart}
 use Rattle.pieces.specs.Pieces.{found}
 use Rattle.reels.proofs.HeaderLaws.{part-step}

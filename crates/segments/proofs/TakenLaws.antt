@@ -7,7 +7,7 @@ use native.Mathlib.Numerals.{add-one}
 use lib.ListN.{length, take, drop, getD, length-append}
 use lib.Seq.{take-suc, drop-cons}
 use Rattle.rules.specs.Base.{joined}
-use Rattle.rules.proofs.Lists.{joined-last}
+use Rattle.rules.proofs.Base.Lists.{joined-last}
 use Rattle.segments.specs.declared.Spot.{Spot}
 use Rattle.segments.specs.declared.RecordAhead.{RecordAhead}
 use Rattle.segments.specs.Spots.{spotAfter, firstSpot}

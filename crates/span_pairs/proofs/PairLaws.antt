@@ -10,7 +10,7 @@ use lib.ListN.{length, drop, getD, length-drop}
 use lib.Seq.{ext-getD}
 use Rattle.rules.specs.Base.{joined}
 use Rattle.rules.specs.Judge.{agreeFrom, firstApart}
-use Rattle.rules.proofs.AgreeBytes.{agree-length, agree-at, at-agree}
+use Rattle.rules.proofs.Judge.AgreeBytes.{agree-length, agree-at, at-agree}
 use Rattle.segments.specs.declared.Spot.{Spot}
 use Rattle.segments.specs.declared.RecordAhead.{RecordAhead}
 use Rattle.segments.specs.Promise.{Before, Takeable, SpotTaken, Coming, Comes, Streamed, SameData}

@@ -15,10 +15,10 @@ use Rattle.rules.specs.Places.{All, also}
 use Rattle.rules.specs.Output.{lengthWord}
 use Rattle.rules.specs.Reel.{word, offsetWords}
 use Rattle.rules.specs.Spanned.{Segment, segment, part, code, codeOf, codedWord, spelled, spanOf, segmented}
-use Rattle.rules.proofs.BlockWords.{lengthWord-four}
-use Rattle.rules.proofs.CodedWords.{codedWord-four}
-use Rattle.rules.proofs.SpannedSteps.{Written, written-start, written-new, written-all, written-part, written-end}
-use Rattle.rules.proofs.SpannedMeasure.{spelled-more}
+use Rattle.rules.proofs.Blocks.BlockWords.{lengthWord-four}
+use Rattle.rules.proofs.Blocks.CodedWords.{codedWord-four}
+use Rattle.rules.proofs.Spanned.SpannedSteps.{Written, written-start, written-new, written-all, written-part, written-end}
+use Rattle.rules.proofs.Spanned.SpannedMeasure.{spelled-more}
 use Rattle.fillings.specs.declared.Tally.{Tally}
 use Rattle.fillings.specs.Offsets.{offsetPut}
 use Rattle.fillings.proofs.OffsetLaws.{offset-opens, offset-stays}

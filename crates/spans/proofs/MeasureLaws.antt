@@ -10,7 +10,7 @@ use lib.ListN.{length, drop, length-drop}
 use Rattle.rules.specs.Base.{joined}
 use Rattle.rules.specs.Places.{All, also}
 use Rattle.rules.specs.Spanned.{spanOf, segmented}
-use Rattle.rules.proofs.SpannedMeasure.{bytesLeft, blocksLeft, left-start, left-end, left-new, left-all, left-part}
+use Rattle.rules.proofs.Spanned.SpannedMeasure.{bytesLeft, blocksLeft, left-start, left-end, left-new, left-all, left-part}
 use Rattle.fillings.specs.declared.Tally.{Tally}
 use Rattle.cuts.specs.Cutting.{fullOf, openedOf, cutOf, tallyFrom, behindRecord}
 use Rattle.cuts.proofs.CutLaws.{opened-new, opened-same, opened-is, cut-is, tally-none, tally-step}

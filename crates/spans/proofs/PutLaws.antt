@@ -12,11 +12,11 @@ use borrow.Rule.Slice.PartMut.{putMid}
 use Rattle.rules.specs.Halves.{over}
 use Rattle.rules.specs.Output.{lengthWord}
 use Rattle.rules.specs.Spanned.{codeOf, codedWord}
-use Rattle.rules.proofs.Lists.{slice-part}
-use Rattle.rules.proofs.SizeLaws.{length-over}
-use Rattle.rules.proofs.PlaceLaws.{over-behind}
-use Rattle.rules.proofs.LentParts.{rest-over}
-use Rattle.rules.proofs.CodedWords.{codedWord-four}
+use Rattle.rules.proofs.Base.Lists.{slice-part}
+use Rattle.rules.proofs.Halves.SizeLaws.{length-over}
+use Rattle.rules.proofs.Halves.PlaceLaws.{over-behind}
+use Rattle.rules.proofs.Base.LentParts.{rest-over}
+use Rattle.rules.proofs.Blocks.CodedWords.{codedWord-four}
 use Rattle.fillings.specs.declared.Tally.{Tally}
 use Rattle.fillings.specs.Offsets.{offsetPut}
 use Rattle.segments.specs.declared.Spot.{Spot}

@@ -16,9 +16,9 @@ use Rattle.rules.specs.Reel.{isReel, blocksOf}
 use Rattle.rules.specs.Run.{RunOutput, housed, spannedOut, spannedRan, spannedRun}
 use Rattle.rules.specs.Lent.{runAnswer, outputAfter}
 use Rattle.rules.specs.Spanned.{spanOf, spannedFrom, segmented}
-use Rattle.rules.proofs.Bounds.{reel-most}
-use Rattle.rules.proofs.ReelLaws.{length-reel, blocks-reel}
-use Rattle.rules.proofs.JudgeSteps.{drop-few}
+use Rattle.rules.proofs.Reel.Bounds.{reel-most}
+use Rattle.rules.proofs.Reel.ReelLaws.{length-reel, blocks-reel}
+use Rattle.rules.proofs.Judge.JudgeSteps.{drop-few}
 use Rattle.reels.specs.declared.ReelRead.{ReelRead}
 use Rattle.reels.specs.declared.ReelRead.the-variants.{Read, NotReel, BadBlock}
 use Rattle.turns.specs.Promise.{SpannedAs}

@@ -10,7 +10,7 @@ use Rattle.rules.specs.Base.{joined}
 use Rattle.rules.specs.Halves.{over}
 use Rattle.rules.specs.Reel.{word, reelOf}
 use Rattle.rules.specs.Spanned.{spanOf, segmented}
-use Rattle.rules.proofs.ReelLaws.{length-reel}
+use Rattle.rules.proofs.Reel.ReelLaws.{length-reel}
 use Rattle.fillings.specs.declared.Tally.{Tally}
 use Rattle.fillings.proofs.LaidLaws.{reel-over}
 use Rattle.segments.specs.declared.Spot.{Spot}

@@ -11,9 +11,9 @@ use Rattle.rules.specs.Blocks.{leastData}
 use Rattle.rules.specs.Output.{outRecord}
 use Rattle.rules.specs.Judge.{underB}
 use Rattle.rules.specs.Accepted.{Accepted}
-use Rattle.rules.proofs.BlockSizes.{least-selects}
-use Rattle.rules.proofs.RecordLaws.{length-outRecord}
-use Rattle.rules.proofs.Never.{output-other}
+use Rattle.rules.proofs.Blocks.BlockSizes.{least-selects}
+use Rattle.rules.proofs.Halves.RecordLaws.{length-outRecord}
+use Rattle.rules.proofs.Runs.Never.{output-other}
 use Rattle.terms.specs.Meaning.{modeOf, TaskIs}
 use Rattle.terms.specs.declared.Mode.{Mode}
 use Rattle.terms.specs.declared.Task.{Task}

@@ -13,9 +13,9 @@ use Rattle.rules.specs.Grammar.{Format, Size, Input, plain, keyed, Part, inData
 use Rattle.rules.specs.Halves.{inputSize, Field}
 use Rattle.rules.specs.Plan.{recordLength, joinedSize, keyLength, partLength, bytesBefore, through, isKeyed, isKey, inside, insidePart}
 use Rattle.rules.specs.Rows.{InputWithin, FieldWithin}
-use Rattle.rules.proofs.Tests.{and-left}
-use Rattle.rules.proofs.RecordLaws.{sizes-low}
-use Rattle.rules.proofs.KeyLaws.{Named}
+use Rattle.rules.proofs.Base.Tests.{and-left}
+use Rattle.rules.proofs.Halves.RecordLaws.{sizes-low}
+use Rattle.rules.proofs.Keys.KeyLaws.{Named}
 use Rattle.terms.specs.Meaning.{laidAt, laid, laidFields, Means}
 use Rattle.terms.specs.declared.Asked.{Asked}
 

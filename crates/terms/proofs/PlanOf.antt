@@ -11,7 +11,7 @@ use Rattle.rules.specs.Grammar.{Item}
 use Rattle.rules.specs.Asked.{cvs, Asked as RuleAsked}
 use Rattle.rules.specs.Plan.{joinedSize, assembled}
 use Rattle.rules.specs.Keys.{throughUtility}
-use Rattle.rules.proofs.AcceptedLaws.{cvs-append}
+use Rattle.rules.proofs.Deck.AcceptedLaws.{cvs-append}
 use Rattle.terms.specs.Meaning.{utilityOf, cvCard, Means, planIn}
 use Rattle.terms.specs.declared.Asked.{Asked}
 

@@ -13,10 +13,10 @@ use Rattle.rules.specs.Answer.{Answer, fine, refuse, refused, _>>=_, _>>_, unle
 use Rattle.rules.specs.Reel.{blockCount, isReel, blocksOf}
 use Rattle.rules.specs.ReelPlaces.{offsetAt}
 use Rattle.rules.specs.Spanned.{State, sofar, isClosed, segmentsIn, joinIn, finish, spannedFrom}
-use Rattle.rules.proofs.Bounds.{reel-most}
-use Rattle.rules.proofs.ReelLaws.{length-blocks}
-use Rattle.rules.proofs.ReelSteps.{offset-most, offset-rises}
-use Rattle.rules.proofs.SpannedCounts.{Alike, totalOf, plus, blocks-end, total-bad, total-good, total-alike}
+use Rattle.rules.proofs.Reel.Bounds.{reel-most}
+use Rattle.rules.proofs.Reel.ReelLaws.{length-blocks}
+use Rattle.rules.proofs.Reel.ReelSteps.{offset-most, offset-rises}
+use Rattle.rules.proofs.Spanned.SpannedCounts.{Alike, totalOf, plus, blocks-end, total-bad, total-good, total-alike}
 use Rattle.reels.specs.Header.{headerOf, blockPart}
 use Rattle.reels.specs.declared.HeaderRead.the-variants.{Reel, NoReel}
 use Rattle.reels.specs.declared.ReelRead.the-variants.{Read, NotReel, BadBlock}

@@ -13,10 +13,10 @@ use Rattle.rules.specs.Grammar.{fv}
 use Rattle.rules.specs.Blocks.{Piece, wordLength, headed, headedTo, dataOf, walkFrom}
 use Rattle.rules.specs.ReelPlaces.{pieceAt, goodStart}
 use Rattle.rules.specs.Spanned.{Segment, segmentAt, segmentsOf, segmentsIn, isClosed, sofar, same, State, withRecord, inTurn, joinIn}
-use Rattle.rules.proofs.Tests.{and-left, and-right}
-use Rattle.rules.proofs.CodedWords.{headedTo-exactly}
-use Rattle.rules.proofs.SpannedSteps.{walkAt, joinAt, inTurn-count, join-start, join-end, join-bad, join-good}
-use Rattle.rules.proofs.SpannedCounts.{counted, Alike, counted-alike}
+use Rattle.rules.proofs.Base.Tests.{and-left, and-right}
+use Rattle.rules.proofs.Blocks.CodedWords.{headedTo-exactly}
+use Rattle.rules.proofs.Spanned.SpannedSteps.{walkAt, joinAt, inTurn-count, join-start, join-end, join-bad, join-good}
+use Rattle.rules.proofs.Spanned.SpannedCounts.{counted, Alike, counted-alike}
 use Rattle.pieces.specs.Pieces.{found, variableStart, wordedIn}
 use Rattle.pieces.specs.declared.Cursor.{Cursor}
 use Rattle.pieces.specs.declared.StartRead.the-variants.{From, NoStart}

@@ -7,7 +7,7 @@ use Prim.Native.Nat.{ℕ, zero, suc, _+_, _%_, _≤_}
 use lib.Dec.{ltb, leb, eqb}
 use lib.ListN.{length, replicate}
 use Rattle.rules.specs.Spanned.{segmentsIn, isClosed, sofar, same, State, joinIn}
-use Rattle.rules.proofs.SpannedSteps.{joinAt}
+use Rattle.rules.proofs.Spanned.SpannedSteps.{joinAt}
 use Rattle.turns.specs.declared.Counts.{Counts}
 use Rattle.turns.specs.declared.TurnsRead.{TurnsRead}
 use Rattle.turns.specs.declared.TurnsRead.the-variants.{InTurn, Breaks}

@@ -13,7 +13,7 @@ use Rattle.rules.specs.Permitted.{reads}
 use Rattle.rules.specs.Lent.{zoneF}
 use Rattle.rules.specs.Twins.{shows, reasonOf, reasonBy}
 use Rattle.rules.specs.TwinWords.{Reads}
-use Rattle.rules.proofs.ShowsLaws.{reads-words, shows-longer, shows-copy, shows-pack, shows-unpack}
+use Rattle.rules.proofs.Twins.ShowsLaws.{reads-words, shows-longer, shows-copy, shows-pack, shows-unpack}
 use Rattle.terms.specs.Meaning.{fieldOf}
 use Rattle.terms.specs.declared.Field.{Field}
 use Rattle.terms.specs.declared.Kind.the-variants.{Copy, Pack, Unpack}

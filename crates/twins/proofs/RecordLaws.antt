@@ -13,7 +13,7 @@ use borrow.Author.Tests.{eq-eqb, ne-eqb}
 use borrow.Rule.Slice.PartMut.{putMid, same-len-mid, mid-len}
 use Rattle.rules.specs.Halves.{bytes}
 use Rattle.rules.specs.Twins.{listed}
-use Rattle.rules.proofs.ListedLaws.{length-bytes-listed, getD-bytes-listed}
+use Rattle.rules.proofs.Halves.ListedLaws.{length-bytes-listed, getD-bytes-listed}
 use Rattle.twins.specs.Promise.{raisedIn, Values, neededFor, twinRecords, WrittenInto}
 
 -- ---- a half

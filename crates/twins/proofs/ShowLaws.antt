@@ -16,13 +16,13 @@ use Rattle.rules.specs.Plan.{Plan, planAnswer, bit, recordLength, inputHalves, 
 use Rattle.rules.specs.Rows.{FieldWithin, Inside}
 use Rattle.rules.specs.Lent.{zoneF, plan}
 use Rattle.rules.specs.Twins.{listed, lowest, second, raised, firstTwin, secondTwin, twins, reasonBy, reason, Shown, shown, twinsInto, TwinsAnswer, twinsAnswer, twinsAfter}
-use Rattle.rules.proofs.AllLaws.{all-at}
-use Rattle.rules.proofs.ListedLaws.{getD-listed, listed-same}
-use Rattle.rules.proofs.KeepingLaws.{lowest-passes, second-passes}
-use Rattle.rules.proofs.Twins.{lost-most}
-use Rattle.rules.proofs.TwinLaws.{lost-two, length-first, length-second, length-more, length-twins}
-use Rattle.rules.proofs.NextValue.{lost-next}
-use Rattle.rules.proofs.BlockSizes.{record-most}
+use Rattle.rules.proofs.Base.AllLaws.{all-at}
+use Rattle.rules.proofs.Halves.ListedLaws.{getD-listed, listed-same}
+use Rattle.rules.proofs.Keeping.KeepingLaws.{lowest-passes, second-passes}
+use Rattle.rules.proofs.Keeping.Twins.{lost-most}
+use Rattle.rules.proofs.Twins.TwinLaws.{lost-two, length-first, length-second, length-more, length-twins}
+use Rattle.rules.proofs.Twins.NextValue.{lost-next}
+use Rattle.rules.proofs.Blocks.BlockSizes.{record-most}
 use Rattle.terms.specs.Meaning.{sizeOf, fieldOf, OneSize, noField, planIn}
 use Rattle.terms.specs.declared.Field.{Field}
 use Rattle.terms.specs.declared.Asked.{Asked}

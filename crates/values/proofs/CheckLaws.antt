@@ -15,10 +15,10 @@ use Rattle.rules.specs.Permitted.{digit, sign, kindAllows}
 use Rattle.rules.specs.Output.{mayBe}
 use Rattle.rules.specs.Lent.{zoneF}
 use Rattle.rules.specs.RecordParts.{fieldInput}
-use Rattle.rules.proofs.AllLaws.{all-take, all-drop}
-use Rattle.rules.proofs.Tests.{within-of, within-high}
-use Rattle.rules.proofs.PermittedLaws.{same-test}
-use Rattle.rules.proofs.FieldTests.{pack-byte-test, unpack-byte-test, bytes-step, bytes-end, copy-permitted, fields-tested}
+use Rattle.rules.proofs.Base.AllLaws.{all-take, all-drop}
+use Rattle.rules.proofs.Base.Tests.{within-of, within-high}
+use Rattle.rules.proofs.Halves.PermittedLaws.{same-test}
+use Rattle.rules.proofs.Halves.FieldTests.{pack-byte-test, unpack-byte-test, bytes-step, bytes-end, copy-permitted, fields-tested}
 use Rattle.terms.specs.Meaning.{kindOf, fieldOf}
 use Rattle.terms.specs.declared.Kind.{Kind}
 use Rattle.terms.specs.declared.Kind.the-variants.{Copy, Pack, Unpack}

@@ -11,8 +11,8 @@ use Rattle.rules.specs.Halves.{Field}
 use Rattle.rules.specs.Plan.{Plan, selects, recordLength, allowed}
 use Rattle.rules.specs.Output.{permits}
 use Rattle.rules.specs.Lent.{zoneF}
-use Rattle.rules.proofs.AllLaws.{all-imply}
-use Rattle.rules.proofs.Tests.{every-all, all-every}
+use Rattle.rules.proofs.Base.AllLaws.{all-imply}
+use Rattle.rules.proofs.Base.Tests.{every-all, all-every}
 use Rattle.rows.specs.Flat.{flatOf, FlatFair, Readable}
 use Rattle.values.specs.Promise.{Permits, takesAny, FieldsAsk}
 use Rattle.values.proofs.CheckLaws.{mayRead, any-read, permits-all}

@@ -8,10 +8,10 @@ use Rattle.rules.specs.Plan.{Plan}
 use Rattle.rules.specs.Run.{RunOutput, convert, conversion}
 use Rattle.rules.specs.Lent.{runAnswer}
 use Rattle.rules.specs.Judge.{underB, ourRecords, judgeAnswer}
-use Rattle.rules.proofs.AnswerLaws.{not-fine}
-use Rattle.rules.proofs.ReadBack.{underB-accepted}
-use Rattle.rules.proofs.JudgeRead.{ours-refused, ours-reach}
-use Rattle.rules.proofs.JudgeSteps.{blocks-plain, judged-ours, judged-no-reel, judged-bad, judged-told, plain-run, run-refused, run-reaches}
+use Rattle.rules.proofs.Refusals.AnswerLaws.{not-fine}
+use Rattle.rules.proofs.Runs.ReadBack.{underB-accepted}
+use Rattle.rules.proofs.Judge.JudgeRead.{ours-refused, ours-reach}
+use Rattle.rules.proofs.Judge.JudgeSteps.{blocks-plain, judged-ours, judged-no-reel, judged-bad, judged-told, plain-run, run-refused, run-reaches}
 use Rattle.terms.specs.declared.Task.{Task}
 use Rattle.pieces.specs.declared.Form.{Form}
 use Rattle.reels.specs.declared.ReelRead.{ReelRead}

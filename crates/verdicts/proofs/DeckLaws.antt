@@ -14,8 +14,8 @@ use Rattle.rules.specs.Keys.{throughUtility}
 use Rattle.rules.specs.Plan.{Plan, isFS, planOf, blockLength, combined, assembled}
 use Rattle.rules.specs.Lent.{zoneF, plan}
 use Rattle.rules.specs.Judge.{isFilling, judge, judgeOf, JudgeAnswer, judgeAnswer, judgement}
-use Rattle.rules.proofs.AnswerLaws.{fine-same, bind-fine, then-fine, fine-bind}
-use Rattle.rules.proofs.JudgeSteps.{copiesBlocks, deck-copies, deck-fills}
+use Rattle.rules.proofs.Refusals.AnswerLaws.{fine-same, bind-fine, then-fine, fine-bind}
+use Rattle.rules.proofs.Judge.JudgeSteps.{copiesBlocks, deck-copies, deck-fills}
 use Rattle.terms.specs.Meaning.{modeOf, formatOf, sizeOf, utilityOf, planIn, Means}
 use Rattle.terms.specs.declared.Asked.{Asked}
 use Rattle.rows.specs.Kept.{fieldsIn}

@@ -12,9 +12,9 @@ use Rattle.rules.specs.Reel.{blocksOf}
 use Rattle.rules.specs.Spanned.{spannedFrom}
 use Rattle.rules.specs.Plan.{Plan}
 use Rattle.rules.specs.Judge.{underB, ourRecords, agrees}
-use Rattle.rules.proofs.AgreeBytes.{agrees-same}
-use Rattle.rules.proofs.SpannedOut.{not-selects}
-use Rattle.rules.proofs.JudgeSteps.{blocks-spanned, judged-ours, judged-no-reel, judged-bad, judged-told, drop-few, spanned-no-reel, spanned-bad, spanned-good}
+use Rattle.rules.proofs.Judge.AgreeBytes.{agrees-same}
+use Rattle.rules.proofs.Spanned.SpannedOut.{not-selects}
+use Rattle.rules.proofs.Judge.JudgeSteps.{blocks-spanned, judged-ours, judged-no-reel, judged-bad, judged-told, drop-few, spanned-no-reel, spanned-bad, spanned-good}
 use Rattle.reels.specs.declared.ReelRead.{ReelRead}
 use Rattle.reels.specs.declared.ReelRead.the-variants.{Read, NotReel, BadBlock}
 use Rattle.turns.specs.Promise.{SpannedAs}

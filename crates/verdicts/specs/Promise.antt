@@ -13,7 +13,7 @@ use Rattle.rules.specs.Accepted.{Accepted}
 use Rattle.rules.specs.Blocks.{takenFrom}
 use Rattle.rules.specs.Output.{outRecord}
 use Rattle.rules.specs.Judge.{ourRecords, JudgeAnswer, judgeAnswer, judgement}
-use Rattle.rules.proofs.JudgeSteps.{copiesBlocks}
+use Rattle.rules.proofs.Judge.JudgeSteps.{copiesBlocks}
 use Rattle.terms.specs.declared.Task.{Task}
 use Rattle.walks.specs.Promise.{Good}
 use Rattle.checks.specs.Promise.{PlanGiven}

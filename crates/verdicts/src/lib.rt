@@ -6,7 +6,7 @@ ghost use Prim.Native.Nat.{_≤_, _<_};
 ghost use Rattle.rules.specs.Asked.{askedOf};
 ghost use Rattle.rules.specs.Judge.{isFilling, judge, judgeAnswer, judgement};
 ghost use Rattle.rules.specs.Lent.{zoneF};
-ghost use Rattle.rules.proofs.JudgeSteps.{copiesBlocks};
+ghost use Rattle.rules.proofs.Judge.JudgeSteps.{copiesBlocks};
 ghost use Rattle.terms.specs.Meaning.{modeOf, planIn};
 ghost use Rattle.rows.specs.Kept.{fieldsIn};
 ghost use Rattle.rows.specs.Fair.{PlanFair};

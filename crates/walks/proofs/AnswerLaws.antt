@@ -9,7 +9,7 @@ use lib.ListN.{length}
 use borrow.Author.Tests.{lt-ltb, le-ltb, lt-leb, le-leb}
 use Rattle.rules.specs.Output.{cost}
 use Rattle.rules.specs.ReelPlaces.{wordAt}
-use Rattle.rules.proofs.ReelLaws.{header-is}
+use Rattle.rules.proofs.Reel.ReelLaws.{header-is}
 use Rattle.terms.specs.Meaning.{formatOf}
 use Rattle.pieces.specs.declared.Form.{Form}
 use Rattle.walks.specs.declared.Walk.{Walk}

@@ -15,9 +15,9 @@ use Rattle.rules.specs.Reel.{blockCount}
 use Rattle.rules.specs.Blocks.{takenFrom}
 use Rattle.rules.specs.ReelPlaces.{wordAt}
 use Rattle.rules.specs.EvenRecords.{Even}
-use Rattle.rules.proofs.EvenLaws.{taken-even}
-use Rattle.rules.proofs.MeasureLaws.{record-high}
-use Rattle.rules.proofs.ReelSteps.{offset-first}
+use Rattle.rules.proofs.Blocks.EvenLaws.{taken-even}
+use Rattle.rules.proofs.Output.MeasureLaws.{record-high}
+use Rattle.rules.proofs.Reel.ReelSteps.{offset-first}
 use Rattle.pieces.specs.declared.Form.{Form}
 use Rattle.pieces.specs.Form.{FormIs}
 use Rattle.walks.specs.Walking.{fixedStart}

@@ -10,7 +10,7 @@ use lib.Seq.{drop-nil}
 use Rattle.rules.specs.Base.{joined}
 use Rattle.rules.specs.Blocks.{takenAfter, takenFrom}
 use Rattle.rules.specs.Output.{nonEmpty}
-use Rattle.rules.proofs.TakenLaws.{after-zero}
+use Rattle.rules.proofs.Blocks.TakenLaws.{after-zero}
 use Rattle.walks.specs.Marks.{marked, markedAll, opened, takenMarks, openedFrom, blocksMarked, bytesOf, onMarked}
 
 -- ---- all records

@@ -14,11 +14,11 @@ use Rattle.rules.specs.Reel.{blockCount, isReel}
 use Rattle.rules.specs.Blocks.{Piece, dataOf}
 use Rattle.rules.specs.Output.{cost}
 use Rattle.rules.specs.ReelPlaces.{offsetAt, pieceFrom, goodFrom, behind}
-use Rattle.rules.proofs.Lists.{slice-part}
-use Rattle.rules.proofs.HeaderSteps.{next-at}
-use Rattle.rules.proofs.ReelSteps.{offset-last}
-use Rattle.rules.proofs.BlockWords.{headed-exactly, wordLength-at}
-use Rattle.rules.proofs.BlockSteps.{data-slice}
+use Rattle.rules.proofs.Base.Lists.{slice-part}
+use Rattle.rules.proofs.Reel.HeaderSteps.{next-at}
+use Rattle.rules.proofs.Reel.ReelSteps.{offset-last}
+use Rattle.rules.proofs.Blocks.BlockWords.{headed-exactly, wordLength-at}
+use Rattle.rules.proofs.Blocks.BlockSteps.{data-slice}
 use Rattle.reels.specs.Header.{blockPart}
 use Rattle.reels.proofs.HeaderLaws.{part-there, words-missing, part-outside}
 use Rattle.walks.specs.Walking.{endIn}

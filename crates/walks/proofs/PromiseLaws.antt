@@ -9,7 +9,7 @@ use lib.Seq.{slice, length-slice}
 use Rattle.rules.specs.Base.{joined}
 use Rattle.rules.specs.Plan.{Plan}
 use Rattle.rules.specs.Accepted.{Accepted}
-use Rattle.rules.proofs.Lists.{slice-part}
+use Rattle.rules.proofs.Base.Lists.{slice-part}
 use Rattle.pieces.specs.declared.Form.{Form}
 use Rattle.reels.specs.declared.ReelRead.the-variants.{Read}
 use Rattle.pieces.specs.Form.{FormIs}

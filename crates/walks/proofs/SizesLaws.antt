@@ -5,8 +5,8 @@ use mathlib.Core.Bool.{Bool, true, false}
 use mathlib.Core.List.{List, [], _∷_, _++_}
 use Prim.Native.Nat.{ℕ, _+_}
 use lib.Dec.{leb}
-use Rattle.rules.proofs.FillSteps.{Measure, opening, behind}
-use Rattle.rules.proofs.FitSteps.{fitsAfter, fitsEach}
+use Rattle.rules.proofs.Output.FillSteps.{Measure, opening, behind}
+use Rattle.rules.proofs.Output.FitSteps.{fitsAfter, fitsEach}
 use Rattle.walks.specs.Marks.{marked, markedAll}
 
 -- ---- the measure

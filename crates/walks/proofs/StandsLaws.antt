@@ -17,9 +17,9 @@ use Rattle.rules.specs.Reel.{blockCount, isReel, blocksOf}
 use Rattle.rules.specs.Blocks.{recordsFrom}
 use Rattle.rules.specs.Output.{cost}
 use Rattle.rules.specs.ReelPlaces.{recordsAt}
-use Rattle.rules.proofs.ReelLaws.{length-blocks}
-use Rattle.rules.proofs.RecordSteps.{records-end, records-done}
-use Rattle.rules.proofs.MarkedLaws.{first-block, no-more-blocks}
+use Rattle.rules.proofs.Reel.ReelLaws.{length-blocks}
+use Rattle.rules.proofs.Blocks.RecordSteps.{records-end, records-done}
+use Rattle.rules.proofs.Blocks.MarkedLaws.{first-block, no-more-blocks}
 use Rattle.terms.specs.Meaning.{formatOf}
 use Rattle.pieces.specs.declared.Form.{Form}
 use Rattle.pieces.specs.Form.{FormIs}

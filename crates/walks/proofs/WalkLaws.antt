@@ -14,10 +14,10 @@ use Rattle.rules.specs.Reel.{blockCount, isReel}
 use Rattle.rules.specs.Blocks.{Piece, takenFrom}
 use Rattle.rules.specs.Output.{cost}
 use Rattle.rules.specs.ReelPlaces.{offsetAt, behind}
-use Rattle.rules.proofs.HeaderSteps.{next-at}
-use Rattle.rules.proofs.ReelSteps.{offset-rises, offset-last, offset-most}
-use Rattle.rules.proofs.BlockSteps.{good-inside}
-use Rattle.rules.proofs.RecordSteps.{pieceOf, Next, fixed-pos, records-next}
+use Rattle.rules.proofs.Reel.HeaderSteps.{next-at}
+use Rattle.rules.proofs.Reel.ReelSteps.{offset-rises, offset-last, offset-most}
+use Rattle.rules.proofs.Blocks.BlockSteps.{good-inside}
+use Rattle.rules.proofs.Blocks.RecordSteps.{pieceOf, Next, fixed-pos, records-next}
 use Rattle.terms.specs.Meaning.{formatOf}
 use Rattle.pieces.specs.declared.Form.{Form}
 use Rattle.pieces.specs.Form.{FormIs}

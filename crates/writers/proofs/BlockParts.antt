@@ -7,10 +7,10 @@ use lib.ListN.{length, length-append}
 use Rattle.rules.specs.Base.{joined}
 use Rattle.rules.specs.Grammar.{Format, ff, fv, fu, fsp}
 use Rattle.rules.specs.Output.{lengthWord, framed, blockOf, cost, total}
-use Rattle.rules.proofs.Lists.{joined-last}
-use Rattle.rules.proofs.BlockWords.{lengthWord-four}
-use Rattle.rules.proofs.BlockLaws.{length-block}
-use Rattle.rules.proofs.FitSteps.{framed-append}
+use Rattle.rules.proofs.Base.Lists.{joined-last}
+use Rattle.rules.proofs.Blocks.BlockWords.{lengthWord-four}
+use Rattle.rules.proofs.Blocks.BlockLaws.{length-block}
+use Rattle.rules.proofs.Output.FitSteps.{framed-append}
 use Rattle.fillings.proofs.LaidLaws.{Framing}
 use Rattle.writers.specs.Writing.{sizeWord, recordPiece}
 

@@ -12,9 +12,9 @@ use Rattle.rules.specs.Reel.{word, offsetWords, reelOf}
 use Rattle.rules.specs.Plan.{Plan, selects}
 use Rattle.rules.specs.Output.{outRecord, blockOf, cost}
 use Rattle.rules.specs.Run.{outputBlocks}
-use Rattle.rules.proofs.ReelLaws.{length-reel}
-use Rattle.rules.proofs.FillLaws.{total-least}
-use Rattle.rules.proofs.BlockSizes.{least-selects}
+use Rattle.rules.proofs.Reel.ReelLaws.{length-reel}
+use Rattle.rules.proofs.Output.FillLaws.{total-least}
+use Rattle.rules.proofs.Blocks.BlockSizes.{least-selects}
 use Rattle.terms.specs.Meaning.{formatOf}
 use Rattle.terms.specs.declared.Task.{Task}
 use Rattle.pieces.specs.declared.Form.{Form}

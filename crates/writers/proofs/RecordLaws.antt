@@ -9,9 +9,9 @@ use borrow.Rule.Slice.PartMut.{putMid}
 use Rattle.rules.specs.Halves.{Field, over, bytes}
 use Rattle.rules.specs.Plan.{selects}
 use Rattle.rules.specs.Output.{cost}
-use Rattle.rules.proofs.SizeLaws.{length-over}
-use Rattle.rules.proofs.PlaceLaws.{over-behind}
-use Rattle.rules.proofs.LentParts.{rest-over}
+use Rattle.rules.proofs.Halves.SizeLaws.{length-over}
+use Rattle.rules.proofs.Halves.PlaceLaws.{over-behind}
+use Rattle.rules.proofs.Base.LentParts.{rest-over}
 use Rattle.terms.specs.Meaning.{modeOf, formatOf}
 use Rattle.terms.specs.declared.Mode.{Mode}
 use Rattle.terms.specs.declared.Format.{Format}

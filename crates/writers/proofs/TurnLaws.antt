@@ -9,8 +9,8 @@ use lib.ListN.{length, take, drop}
 use Rattle.rules.specs.Plan.{isTC, isFS}
 use Rattle.rules.specs.Blocks.{leastData, takenFrom}
 use Rattle.rules.specs.Output.{outRecord}
-use Rattle.rules.proofs.MeasureLaws.{cost-high}
-use Rattle.rules.proofs.BlockSizes.{record-most}
+use Rattle.rules.proofs.Output.MeasureLaws.{cost-high}
+use Rattle.rules.proofs.Blocks.BlockSizes.{record-most}
 use Rattle.terms.specs.declared.Task.{Task}
 use Rattle.terms.specs.declared.Format.the-variants.{FU, FS}
 use Rattle.terms.specs.Meaning.{formatOf}

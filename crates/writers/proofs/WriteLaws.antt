@@ -12,9 +12,9 @@ use Rattle.rules.specs.Plan.{Plan, isTC, isFS}
 use Rattle.rules.specs.Output.{blockOf}
 use Rattle.rules.specs.Run.{ranOf, outputBlocks}
 use Rattle.rules.specs.Lent.{zoneF}
-use Rattle.rules.proofs.LentParts.{front-over}
-use Rattle.rules.proofs.SizeLaws.{length-over}
-use Rattle.rules.proofs.WordLaws.{length-word}
+use Rattle.rules.proofs.Base.LentParts.{front-over}
+use Rattle.rules.proofs.Halves.SizeLaws.{length-over}
+use Rattle.rules.proofs.Reel.WordLaws.{length-word}
 use Rattle.terms.specs.Meaning.{TaskIs}
 use Rattle.terms.specs.declared.Task.{Task}
 use Rattle.rows.specs.Flat.{flatOf}

@@ -8,7 +8,7 @@ use denote.Ref.{now}
 use lib.Seq.{slice}
 use borrow.Author.Needs.{needs}
 use Rattle.rules.specs.Deck.{uCard, fsCard, cardOf}
-use Rattle.rules.proofs.Lists.{slice-part}
+use Rattle.rules.proofs.Base.Lists.{slice-part}
 use Rattle.lines.specs.declared.CardRead.the-variants.{UCard, FsCard}
 use Rattle.lines.specs.Meaning.{IsCard, CardSays}
 use Rattle.cards.proofs.DeckLaws.{line-card, line-length, operand-at, end-at, none-at}

@@ -12,7 +12,7 @@ use lib.ListN.{length, drop, length-replicate}
 use borrow.Author.Needs.{needs}
 use Rattle.rules.specs.Places.{All}
 use Rattle.rules.specs.Deck.{fsCard}
-use Rattle.rules.proofs.AllLaws.{all-tail}
+use Rattle.rules.proofs.Base.AllLaws.{all-tail}
 use Rattle.lines.specs.Meaning.{IsCard}
 use Rattle.cards.specs.declared.CardAt.{CardAt}
 use Rattle.cards.specs.declared.CardAt.the-variants.{UAt, FsAt, NoOperand}

@@ -6,7 +6,7 @@ use denote.Ref.{now}
 use borrow.Author.Needs.{needs}
 use Rattle.rules.specs.Places.{All}
 use Rattle.rules.specs.Deck.{uCard}
-use Rattle.rules.proofs.AllLaws.{all-tail}
+use Rattle.rules.proofs.Base.AllLaws.{all-tail}
 use Rattle.rows.proofs.RowLaws.{row-none}
 use Rattle.lines.specs.Meaning.{IsCard}
 use Rattle.cards.specs.Deck.{OperandAt, CardAtSays}

@@ -12,7 +12,7 @@ use lib.ListN.{length, drop}
 use borrow.Author.Needs.{needs}
 use Rattle.rules.specs.Places.{All}
 use Rattle.rules.specs.Deck.{fsCard}
-use Rattle.rules.proofs.AllLaws.{all-tail}
+use Rattle.rules.proofs.Base.AllLaws.{all-tail}
 use Rattle.rows.specs.Kept.{rowOf}
 use Rattle.rows.proofs.RowLaws.{length-row}
 use Rattle.lines.specs.Meaning.{IsCard}

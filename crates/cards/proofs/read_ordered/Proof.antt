@@ -12,8 +12,8 @@ use Rattle.rules.specs.Places.{All}
 use Rattle.rules.specs.Deck.{uCard}
 use Rattle.rules.specs.Grammar.{parameter}
 use Rattle.rules.specs.Words.{worded}
-use Rattle.rules.proofs.Lists.{slice-part}
-use Rattle.rules.proofs.AllLaws.{all-tail}
+use Rattle.rules.proofs.Base.Lists.{slice-part}
+use Rattle.rules.proofs.Base.AllLaws.{all-tail}
 use Rattle.rows.proofs.RowLaws.{length-row}
 use Rattle.lines.specs.Meaning.{IsCard}
 use Rattle.keys.specs.Keys.{keyOf}

@@ -3,7 +3,7 @@ use mathlib.Core.Path.{subst}
 use native.Mathlib.Omega.{arith}
 use borrow.Author.Needs.{needs}
 use borrow.Author.Tests.{not-true}
-use Rattle.rules.proofs.HalfBytes.{all-bytes}
+use Rattle.rules.proofs.Halves.HalfBytes.{all-bytes}
 use Rattle.values.specs.Promise.{FieldsAsk}
 use Rattle.checks.proofs.RunLaws.{none-asked}
 use Rattle.checks.proofs.unpermitted_selected.Statement.{statement}

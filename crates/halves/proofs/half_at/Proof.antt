@@ -3,7 +3,7 @@ use mathlib.Core.Path.{sym}
 use Prim.Native.Nat.{_/_}
 use native.Mathlib.Omega.{arith}
 use borrow.Author.Needs.{needs}
-use Rattle.rules.proofs.BytePlaces.{halves-high, halves-low}
+use Rattle.rules.proofs.Halves.BytePlaces.{halves-high, halves-low}
 use Rattle.halves.proofs.half_at.Statement.{statement}
 use Rattle.halves.proofs.half_at.Tie as tie
 

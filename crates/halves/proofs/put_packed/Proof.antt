@@ -4,7 +4,7 @@ use native.Mathlib.Omega.{arith}
 use borrow.Author.Needs.{needs}
 use lib.ListN.{length}
 use Rattle.rules.specs.Halves.{packBytes}
-use Rattle.rules.proofs.BytePlaces.{length-packBytes}
+use Rattle.rules.proofs.Halves.BytePlaces.{length-packBytes}
 use Rattle.halves.proofs.Filling.{Filling, left-start, left-more, left-end}
 use Rattle.halves.proofs.put_packed.Statement.{statement}
 use Rattle.halves.proofs.put_packed.Tie as tie

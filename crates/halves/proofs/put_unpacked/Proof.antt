@@ -5,7 +5,7 @@ use borrow.Author.Needs.{needs}
 use lib.ListN.{length}
 use Rattle.rules.specs.Halves.{unpackBytes}
 use Rattle.rules.specs.Lent.{zoneF}
-use Rattle.rules.proofs.BytePlaces.{length-unpackBytes}
+use Rattle.rules.proofs.Halves.BytePlaces.{length-unpackBytes}
 use Rattle.halves.proofs.Filling.{Filling, left-more, left-end}
 use Rattle.halves.proofs.UnpackPairs.{pairs-on}
 use Rattle.halves.proofs.put_unpacked.Statement.{statement}

@@ -5,8 +5,8 @@ use native.Mathlib.Omega.{arith}
 use borrow.Author.Needs.{needs}
 use lib.ListN.{length}
 use Rattle.rules.specs.Lent.{zoneF}
-use Rattle.rules.proofs.BytePlaces.{unpack-last}
-use Rattle.rules.proofs.HalfBytes.{unpack-half, unpack-none}
+use Rattle.rules.proofs.Halves.BytePlaces.{unpack-last}
+use Rattle.rules.proofs.Halves.HalfBytes.{unpack-half, unpack-none}
 use Rattle.halves.proofs.unpack_at.Statement.{statement}
 use Rattle.halves.proofs.unpack_at.Tie as tie
 

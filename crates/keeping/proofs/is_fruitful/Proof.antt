@@ -7,7 +7,7 @@ use Prim.Native.Nat.{_-_}
 use lib.ListN.{length}
 use borrow.Author.Needs.{needs}
 use denote.Ref.{now}
-use Rattle.rules.proofs.EveryPlaces.{Passing, passing-fails, passing-next, passing-end}
+use Rattle.rules.proofs.Base.EveryPlaces.{Passing, passing-fails, passing-next, passing-end}
 use Rattle.keeping.proofs.Searches.{fruitful}
 use Rattle.keeping.proofs.is_fruitful.Statement.{statement}
 use Rattle.keeping.proofs.is_fruitful.Tie as tie

@@ -9,7 +9,7 @@ use denote.Ref.{now}
 use Rattle.rules.specs.Permitted.{permitted}
 use Rattle.rules.specs.Twins.{lowest}
 use Rattle.rules.specs.Lent.{zoneF}
-use Rattle.rules.proofs.ListedLaws.{listed-all}
+use Rattle.rules.proofs.Halves.ListedLaws.{listed-all}
 use Rattle.rows.specs.Kept.{fieldsIn}
 use Rattle.keeping.specs.Marks.{lowestOf}
 use Rattle.keeping.proofs.Meets.{lowest-says}

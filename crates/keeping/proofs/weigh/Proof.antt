@@ -8,7 +8,7 @@ use denote.Ref.{now}
 use Rattle.rules.specs.Lent.{zoneF}
 use Rattle.rules.specs.Permitted.{permitted}
 use Rattle.rules.specs.Halves.{sources}
-use Rattle.rules.proofs.SourceSteps.{length-sources}
+use Rattle.rules.proofs.Halves.SourceSteps.{length-sources}
 use Rattle.rows.specs.Kept.{fieldsIn}
 use Rattle.keeping.specs.Promise.{barrenOf, lostOf}
 use Rattle.keeping.proofs.Weighs.{fair-longest, zeros, numbers-low, barren-alike, lost-of, weighed-barren, weighed-lost, weighed-kept}

@@ -7,7 +7,7 @@ use borrow.Author.Needs.{needs}
 use lib.ListN.{length, drop}
 use Rattle.rules.specs.Reader.{after}
 use Rattle.lines.proofs.MeaningLaws.{begins-short, begins-other, begins-end}
-use Rattle.rules.proofs.CardPlaces.{after-next}
+use Rattle.rules.proofs.Deck.CardPlaces.{after-next}
 use Rattle.lines.proofs.begins.Statement.{statement}
 use Rattle.lines.proofs.begins.Tie as tie
 

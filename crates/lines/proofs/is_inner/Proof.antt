@@ -8,7 +8,7 @@ use borrow.Author.Needs.{needs}
 use borrow.Author.Tests.{eq-eqb, ne-eqb}
 use lib.ListN.{length}
 use Rattle.lines.specs.Meaning.{inner}
-use Rattle.rules.proofs.EveryPlaces.{Passing, passing-fails, passing-next, passing-end}
+use Rattle.rules.proofs.Base.EveryPlaces.{Passing, passing-fails, passing-next, passing-end}
 use Rattle.lines.proofs.is_inner.Statement.{statement}
 use Rattle.lines.proofs.is_inner.Tie as tie
 

@@ -2,8 +2,8 @@
 use mathlib.Core.Path.{sym, _∙_}
 use native.Mathlib.Omega.{arith}
 use borrow.Author.Needs.{needs}
-use Rattle.rules.proofs.CardPlaces.{tidy-plain, tidy-long}
-use Rattle.rules.proofs.ScanLaws.{tidy-short}
+use Rattle.rules.proofs.Deck.CardPlaces.{tidy-plain, tidy-long}
+use Rattle.rules.proofs.Deck.ScanLaws.{tidy-short}
 use Rattle.lines.proofs.is_tidy.Statement.{statement}
 use Rattle.lines.proofs.is_tidy.Tie as tie
 

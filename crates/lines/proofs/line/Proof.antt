@@ -3,7 +3,7 @@ use Prim.Native.Nat.{_-_}
 use native.Mathlib.Omega.{arith}
 use borrow.Author.Needs.{needs}
 use lib.ListN.{length}
-use Rattle.rules.proofs.LineLaws.{all-slice-byte}
+use Rattle.rules.proofs.Deck.LineLaws.{all-slice-byte}
 use Rattle.lines.specs.Meaning.{PassedSays}
 use Rattle.lines.proofs.MeaningLaws.{line-says-none, line-says-next, line-says-last}
 use Rattle.lines.proofs.line.Statement.{statement}

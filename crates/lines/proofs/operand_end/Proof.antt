@@ -7,7 +7,7 @@ use borrow.Author.Needs.{needs}
 use lib.ListN.{length}
 use lib.Seq.{slice}
 use Rattle.rules.specs.Places.{All}
-use Rattle.rules.proofs.LineLaws.{all-slice-none, all-slice-byte}
+use Rattle.rules.proofs.Deck.LineLaws.{all-slice-none, all-slice-byte}
 use Rattle.lines.proofs.MeaningLaws.{operand-ends-blank, operand-ends-line}
 use Rattle.lines.proofs.operand_end.Statement.{statement}
 use Rattle.lines.proofs.operand_end.Tie as tie

@@ -8,7 +8,7 @@ use denote.Ref.{now}
 use lib.ListN.{length}
 use borrow.Author.Needs.{needs}
 use Rattle.rules.specs.Deck.{cardOf}
-use Rattle.rules.proofs.Lists.{slice-part}
+use Rattle.rules.proofs.Base.Lists.{slice-part}
 use Rattle.lines.specs.Meaning.{LineSays}
 use Rattle.lines.specs.Ordering.{cardKindOf, withLine, orderOf}
 use Rattle.lines.specs.declared.LineRead.the-variants.{Line}

@@ -7,8 +7,8 @@ use borrow.Author.Needs.{needs}
 use borrow.Author.Tests.{not-false}
 use lib.ListN.{length}
 use Rattle.rules.specs.Base.{every}
-use Rattle.rules.proofs.LineLaws.{all-slice-none}
-use Rattle.rules.proofs.Lists.{slice-part}
+use Rattle.rules.proofs.Deck.LineLaws.{all-slice-none}
+use Rattle.rules.proofs.Base.Lists.{slice-part}
 use Rattle.lines.specs.Meaning.{inner, PassedSays}
 use Rattle.lines.proofs.MeaningLaws.{passed-block}
 use Rattle.lines.proofs.passed.Statement.{statement}

@@ -8,7 +8,7 @@ use borrow.Author.Needs.{needs}
 use borrow.Author.Tests.{not-true, not-false}
 use lib.ListN.{length}
 use Rattle.rules.specs.Base.{within}
-use Rattle.rules.proofs.EveryPlaces.{Passing, passing-fails, passing-next, passing-end}
+use Rattle.rules.proofs.Base.EveryPlaces.{Passing, passing-fails, passing-next, passing-end}
 use Rattle.lines.proofs.plain.Statement.{statement}
 use Rattle.lines.proofs.plain.Tie as tie
 

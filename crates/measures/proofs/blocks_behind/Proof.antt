@@ -3,7 +3,7 @@ use mathlib.Core.Logic.{⊎-elim}
 use Prim.Native.Nat.{_-_}
 use native.Mathlib.Omega.{arith}
 use borrow.Author.Needs.{needs}
-use Rattle.rules.proofs.ReelLaws.{header-is}
+use Rattle.rules.proofs.Reel.ReelLaws.{header-is}
 use Rattle.measures.proofs.FixedLaws.{Behind, behind-start, behind-word, behind-small, behind-more, behind-same, behind-end}
 use Rattle.measures.proofs.blocks_behind.Statement.{statement}
 use Rattle.measures.proofs.blocks_behind.Tie as tie

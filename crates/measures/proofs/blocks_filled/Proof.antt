@@ -1,7 +1,7 @@
 -- At least one record fits a block, so that the number which is divided by is not 0.
 use native.Mathlib.Nat.{div-le-self}
 use native.Mathlib.Omega.{arith}
-use Rattle.rules.proofs.EvenFilling.{per-one}
+use Rattle.rules.proofs.Output.EvenFilling.{per-one}
 use borrow.Author.Needs.{needs}
 use Rattle.measures.proofs.blocks_filled.Statement.{statement}
 use Rattle.measures.proofs.blocks_filled.Tie as tie

@@ -3,7 +3,7 @@ use mathlib.Core.Path.{_∙_}
 use Prim.Native.Nat.{_-_}
 use native.Mathlib.Omega.{arith}
 use borrow.Author.Needs.{needs}
-use Rattle.rules.proofs.ReelLaws.{header-is}
+use Rattle.rules.proofs.Reel.ReelLaws.{header-is}
 use Rattle.offsets.proofs.Sending.{sent-length}
 use Rattle.offsets.proofs.EachLaws.{Putting, each-start, each-word, each-small, each-room, each-more, each-end, first-room, rest-room, both-put}
 use Rattle.offsets.proofs.put_each.Statement.{statement}

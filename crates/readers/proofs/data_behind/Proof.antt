@@ -6,7 +6,7 @@ use denote.Ref.{now}
 use lib.ListN.{getD}
 use native.Mathlib.Omega.{arith}
 use Rattle.rules.specs.TextParts.{numberThen}
-use Rattle.rules.proofs.ChoiceLaws.{byte-inside}
+use Rattle.rules.proofs.Grammar.ChoiceLaws.{byte-inside}
 use Rattle.readers.specs.Meaning.{NumberFrom}
 use Rattle.readers.proofs.Parameters.{no-data, data-unsigned, data-read, data-stops}
 use Rattle.readers.proofs.data_behind.Statement.{statement}

@@ -1,5 +1,5 @@
 -- `readers::digit` meets its contract: by the tests that led to each answer.
-use Rattle.rules.proofs.NumberLaws.{digit-of, digit-low, digit-high}
+use Rattle.rules.proofs.Grammar.NumberLaws.{digit-of, digit-low, digit-high}
 use Rattle.readers.proofs.digit.Statement.{statement}
 use Rattle.readers.proofs.digit.Tie as tie
 

@@ -8,7 +8,7 @@ use native.Mathlib.Omega.{arith}
 use Rattle.rules.specs.Reader.{number}
 use Rattle.rules.specs.Grammar.{start, kindReader}
 use Rattle.rules.specs.TextParts.{fieldBehind}
-use Rattle.rules.proofs.ChoiceLaws.{byte-inside}
+use Rattle.rules.proofs.Grammar.ChoiceLaws.{byte-inside}
 use Rattle.terms.specs.Meaning.{partOf}
 use Rattle.readers.specs.Meaning.{NumberFrom, KindFrom, ItemFrom}
 use Rattle.terms.specs.declared.Field.{Field}

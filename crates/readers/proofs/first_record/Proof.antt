@@ -4,7 +4,7 @@ use borrow.Author.Needs.{needs}
 use denote.Ref.{now}
 use native.Mathlib.Omega.{arith}
 use Rattle.rules.specs.Reader.{number}
-use Rattle.rules.proofs.ChoiceLaws.{byte-inside}
+use Rattle.rules.proofs.Grammar.ChoiceLaws.{byte-inside}
 use Rattle.readers.specs.Meaning.{NumberFrom}
 use Rattle.readers.proofs.Parameters.{first-read, first-stop}
 use Rattle.readers.proofs.first_record.Statement.{statement}

@@ -4,7 +4,7 @@ use borrow.Author.Needs.{needs}
 use denote.Ref.{now}
 use native.Mathlib.Omega.{arith}
 use Rattle.rules.specs.Grammar.{formatIs, ff, fv, fu, fsp}
-use Rattle.rules.proofs.ChoiceLaws.{byte-inside, parameter-FF, parameter-FV, parameter-FU, parameter-FS, parameter-F-else}
+use Rattle.rules.proofs.Grammar.ChoiceLaws.{byte-inside, parameter-FF, parameter-FV, parameter-FU, parameter-FS, parameter-F-else}
 use Rattle.readers.proofs.TextPlaces.{alone}
 use Rattle.readers.proofs.format.Statement.{statement}
 use Rattle.readers.proofs.format.Tie as tie

@@ -8,7 +8,7 @@ use denote.Ref.{now}
 use lib.ListN.{getD}
 use native.Mathlib.Omega.{arith}
 use Rattle.rules.specs.Grammar.{sizeReader}
-use Rattle.rules.proofs.ChoiceLaws.{byte-inside}
+use Rattle.rules.proofs.Grammar.ChoiceLaws.{byte-inside}
 use Rattle.readers.specs.Meaning.{secondIn, SizeFrom}
 use Rattle.readers.proofs.Parameters.{input-goes, plain-read, plain-stops}
 use Rattle.readers.proofs.input.Statement.{statement}

@@ -4,7 +4,7 @@ use borrow.Author.Needs.{needs}
 use denote.Ref.{now}
 use native.Mathlib.Omega.{arith}
 use Rattle.rules.specs.Grammar.{inputReader}
-use Rattle.rules.proofs.ChoiceLaws.{byte-inside}
+use Rattle.rules.proofs.Grammar.ChoiceLaws.{byte-inside}
 use Rattle.readers.specs.Meaning.{secondIn, InputFrom}
 use Rattle.readers.proofs.Parameters.{input-read, input-stop}
 use Rattle.readers.proofs.input_size.Statement.{statement}

@@ -5,7 +5,7 @@ use denote.Ref.{now}
 use lib.ListN.{getD}
 use native.Mathlib.Omega.{arith}
 use Rattle.rules.specs.TextParts.{numberThen}
-use Rattle.rules.proofs.ChoiceLaws.{byte-inside, item-is-CV, item-C-else}
+use Rattle.rules.proofs.Grammar.ChoiceLaws.{byte-inside, item-is-CV, item-C-else}
 use Rattle.readers.specs.Meaning.{NumberFrom, ReadsFrom}
 use Rattle.readers.proofs.Items.{item-goes, item-stops}
 use Rattle.readers.proofs.item.Statement.{statement}

@@ -4,7 +4,7 @@ use borrow.Author.Needs.{needs}
 use denote.Ref.{now}
 use native.Mathlib.Omega.{arith}
 use Rattle.rules.specs.TextParts.{keyThen}
-use Rattle.rules.proofs.ChoiceLaws.{byte-inside}
+use Rattle.rules.proofs.Grammar.ChoiceLaws.{byte-inside}
 use Rattle.readers.specs.Meaning.{NumberFrom, ReadsFrom}
 use Rattle.readers.proofs.Items.{key-goes, key-item-stops}
 use Rattle.readers.proofs.key_field.Statement.{statement}

@@ -5,7 +5,7 @@ use denote.Ref.{now}
 use lib.ListN.{getD}
 use native.Mathlib.Omega.{arith}
 use Rattle.rules.specs.TextParts.{numberThen}
-use Rattle.rules.proofs.ChoiceLaws.{byte-inside}
+use Rattle.rules.proofs.Grammar.ChoiceLaws.{byte-inside}
 use Rattle.readers.specs.Meaning.{NumberFrom, ReadsFrom}
 use Rattle.readers.proofs.Items.{no-key, key-comma, key-stops, key-read, key-open}
 use Rattle.readers.proofs.key_start.Statement.{statement}

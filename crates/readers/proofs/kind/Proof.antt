@@ -7,7 +7,7 @@ use lib.ListN.{getD}
 use native.Mathlib.Omega.{arith}
 use Rattle.rules.specs.Reader.{number}
 use Rattle.rules.specs.Halves.{pack, unpack}
-use Rattle.rules.proofs.ChoiceLaws.{byte-inside, kind-pack, kind-unpack, kind-else}
+use Rattle.rules.proofs.Grammar.ChoiceLaws.{byte-inside, kind-pack, kind-unpack, kind-else}
 use Rattle.readers.specs.Meaning.{NumberFrom}
 use Rattle.readers.proofs.Items.{kind-goes, copy-read, copy-placed, copy-stops}
 use Rattle.readers.proofs.kind.Statement.{statement}

@@ -5,7 +5,7 @@ use denote.Ref.{now}
 use lib.ListN.{getD}
 use native.Mathlib.Omega.{arith}
 use Rattle.rules.specs.Grammar.{modeIs, tc, tf, tr, trf}
-use Rattle.rules.proofs.ChoiceLaws.{byte-inside, parameter-TC, parameter-TF, parameter-TR, parameter-TRF, parameter-T-else}
+use Rattle.rules.proofs.Grammar.ChoiceLaws.{byte-inside, parameter-TC, parameter-TF, parameter-TR, parameter-TRF, parameter-T-else}
 use Rattle.readers.proofs.TextPlaces.{alone}
 use Rattle.readers.proofs.mode.Statement.{statement}
 use Rattle.readers.proofs.mode.Tie as tie

@@ -5,8 +5,8 @@ use borrow.Author.Needs.{needs}
 use denote.Ref.{now}
 use lib.ListN.{getD}
 use native.Mathlib.Omega.{arith}
-use Rattle.rules.proofs.NumberLaws.{Reading, reading-start, NoDigit, number-read, number-none}
-use Rattle.rules.proofs.ChoiceLaws.{number-many}
+use Rattle.rules.proofs.Grammar.NumberLaws.{Reading, reading-start, NoDigit, number-read, number-none}
+use Rattle.rules.proofs.Grammar.ChoiceLaws.{number-many}
 use Rattle.readers.specs.Meaning.{digitValue}
 use Rattle.readers.proofs.Digits.{one-more, none-more, small}
 use Rattle.readers.proofs.number.Statement.{statement}

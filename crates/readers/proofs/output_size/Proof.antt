@@ -5,7 +5,7 @@ use borrow.Author.Needs.{needs}
 use denote.Ref.{now}
 use native.Mathlib.Omega.{arith}
 use Rattle.rules.specs.Grammar.{sizeReader}
-use Rattle.rules.proofs.ChoiceLaws.{byte-inside}
+use Rattle.rules.proofs.Grammar.ChoiceLaws.{byte-inside}
 use Rattle.readers.specs.Meaning.{secondIn, SizeFrom}
 use Rattle.readers.proofs.Parameters.{output-read, output-stop}
 use Rattle.readers.proofs.output_size.Statement.{statement}

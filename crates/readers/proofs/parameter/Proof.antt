@@ -7,7 +7,7 @@ use denote.Ref.{now}
 use native.Mathlib.Omega.{arith}
 use Rattle.rules.specs.Reader.{stopped}
 use Rattle.rules.specs.Grammar.{parameter}
-use Rattle.rules.proofs.ChoiceLaws.{parameter-else}
+use Rattle.rules.proofs.Grammar.ChoiceLaws.{parameter-else}
 use Rattle.readers.proofs.Parameters.{a-or-b}
 use Rattle.readers.proofs.parameter.Statement.{statement}
 use Rattle.readers.proofs.parameter.Tie as tie

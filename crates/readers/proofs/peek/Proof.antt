@@ -4,7 +4,7 @@ use borrow.Author.Needs.{needs}
 use native.Mathlib.Omega.{arith}
 use denote.Ref.{now}
 use lib.ListN.{List·getD-eq-default}
-use Rattle.rules.proofs.ChoiceLaws.{byte-any}
+use Rattle.rules.proofs.Grammar.ChoiceLaws.{byte-any}
 use Rattle.readers.proofs.peek.Statement.{statement}
 use Rattle.readers.proofs.peek.Tie as tie
 

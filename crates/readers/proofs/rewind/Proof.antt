@@ -7,7 +7,7 @@ use denote.Ref.{now}
 use lib.ListN.{length, getD}
 use native.Mathlib.Omega.{arith}
 use Rattle.rules.specs.Grammar.{rewindIn, rewindOut}
-use Rattle.rules.proofs.ChoiceLaws.{Ending, byte-inside, parameter-I-letter, parameter-O-letter, parameter-rewind-else}
+use Rattle.rules.proofs.Grammar.ChoiceLaws.{Ending, byte-inside, parameter-I-letter, parameter-O-letter, parameter-rewind-else}
 use Rattle.readers.proofs.Parameters.{ending-inside}
 use Rattle.readers.proofs.TextPlaces.{alone}
 use Rattle.readers.proofs.rewind.Statement.{statement}

@@ -6,7 +6,7 @@ use denote.Ref.{now}
 use lib.ListN.{getD}
 use native.Mathlib.Omega.{arith}
 use Rattle.rules.specs.Reader.{number}
-use Rattle.rules.proofs.ChoiceLaws.{byte-inside, size-none}
+use Rattle.rules.proofs.Grammar.ChoiceLaws.{byte-inside, size-none}
 use Rattle.readers.specs.Meaning.{NumberFrom, ReadsFrom}
 use Rattle.readers.proofs.Parameters.{size-goes, size-stops}
 use Rattle.readers.proofs.size.Statement.{statement}

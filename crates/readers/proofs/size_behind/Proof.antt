@@ -6,7 +6,7 @@ use denote.Ref.{now}
 use lib.ListN.{getD}
 use native.Mathlib.Omega.{arith}
 use Rattle.rules.specs.TextParts.{numberThen}
-use Rattle.rules.proofs.ChoiceLaws.{byte-inside, size-neither}
+use Rattle.rules.proofs.Grammar.ChoiceLaws.{byte-inside, size-neither}
 use Rattle.readers.specs.Meaning.{NumberFrom}
 use Rattle.readers.proofs.Parameters.{only-read, second-read, second-stop}
 use Rattle.readers.proofs.size_behind.Statement.{statement}

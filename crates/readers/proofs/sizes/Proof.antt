@@ -4,7 +4,7 @@ use mathlib.Core.Logic.{⊎-elim}
 use borrow.Author.Needs.{needs}
 use denote.Ref.{now}
 use lib.ListN.{getD}
-use Rattle.rules.proofs.ChoiceLaws.{parameter-sizes-else}
+use Rattle.rules.proofs.Grammar.ChoiceLaws.{parameter-sizes-else}
 use Rattle.readers.proofs.Parameters.{letter-inside}
 use Rattle.readers.proofs.sizes.Statement.{statement}
 use Rattle.readers.proofs.sizes.Tie as tie

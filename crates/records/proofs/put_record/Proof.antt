@@ -5,7 +5,7 @@ use native.Mathlib.Omega.{arith}
 use lib.ListN.{length}
 use borrow.Rule.Slice.PartAt.{part-to-end}
 use borrow.Author.Needs.{needs}
-use Rattle.rules.proofs.LentParts.{part-length}
+use Rattle.rules.proofs.Base.LentParts.{part-length}
 use Rattle.records.proofs.PutLaws.{fields-wider, tail-room, put-alone, put-tail}
 use Rattle.records.proofs.put_record.Statement.{statement}
 use Rattle.records.proofs.put_record.Tie as tie

@@ -4,7 +4,7 @@ use Prim.Native.Nat.{_-_}
 use native.Mathlib.Omega.{arith}
 use borrow.Author.Needs.{needs}
 use borrow.Author.Tests.{eq-eqb, ne-eqb}
-use Rattle.rules.proofs.HeaderSteps.{too-long, too-short, count-too-high, first-wrong, HeaderWalk, walk-start, walk-step, walk-not, walk-end}
+use Rattle.rules.proofs.Reel.HeaderSteps.{too-long, too-short, count-too-high, first-wrong, HeaderWalk, walk-start, walk-step, walk-not, walk-end}
 use Rattle.reels.proofs.HeaderLaws.{no-reel, a-reel}
 use Rattle.reels.proofs.header.Statement.{statement}
 use Rattle.reels.proofs.header.Tie as tie

@@ -2,7 +2,7 @@
 use mathlib.Core.Path.{ap}
 use native.Mathlib.Omega.{arith}
 use Rattle.rules.specs.Plan.{isTC}
-use Rattle.rules.proofs.HalfBytes.{all-bytes}
+use Rattle.rules.proofs.Halves.HalfBytes.{all-bytes}
 use Rattle.terms.specs.declared.Mode.{Mode}
 use Rattle.terms.specs.Meaning.{modeOf}
 use Rattle.runs.proofs.WriteLaws.{copy-room, lent-on, copied, wrote}

@@ -1,6 +1,6 @@
 -- The header, the blocks, and then the records from R on.
 use native.Mathlib.Omega.{arith}
-use Rattle.rules.proofs.HalfBytes.{all-bytes}
+use Rattle.rules.proofs.Halves.HalfBytes.{all-bytes}
 use Rattle.spans.proofs.RunLaws.{ends-no-reel, ends-bad, input-most, ends-copied, taking, ends-filled}
 use borrow.Author.Needs.{needs}
 use Rattle.spans.proofs.run_spanned.Statement.{statement}

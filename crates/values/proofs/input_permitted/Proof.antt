@@ -3,7 +3,7 @@ use mathlib.Core.Path.{sym}
 use native.Mathlib.Omega.{arith}
 use lib.ListN.{length}
 use borrow.Author.Needs.{needs}
-use Rattle.rules.proofs.HalfBytes.{all-bytes}
+use Rattle.rules.proofs.Halves.HalfBytes.{all-bytes}
 use Rattle.rows.proofs.ReadLaws.{kind-pack, kind-unpack}
 use Rattle.values.proofs.CheckLaws.{copy-any}
 use Rattle.values.proofs.input_permitted.Statement.{statement}

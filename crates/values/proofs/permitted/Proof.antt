@@ -5,7 +5,7 @@ use native.Mathlib.Omega.{arith}
 use borrow.Author.Needs.{needs}
 use borrow.Author.Tests.{not-true, not-false}
 use Rattle.rules.specs.Places.{All, Byte}
-use Rattle.rules.proofs.HalfBytes.{all-bytes}
+use Rattle.rules.proofs.Halves.HalfBytes.{all-bytes}
 use Rattle.terms.specs.Meaning.{fieldOf}
 use Rattle.rows.specs.Flat.{fieldAt}
 use Rattle.rows.proofs.ReadLaws.{Reads, reads-at, length-input}

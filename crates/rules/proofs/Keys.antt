@@ -1,0 +1,3 @@
+-- Document 02, order 5: key and data.
+pub mod KeyLaws
+pub mod Through
