@@ -1,19 +1,17 @@
 -- The run of a deck is the run of its plan, or the deck's own refusal: by cases on the plan, as the rules run it.
 use mathlib.Core.Path.{_≡_, ap, sym, _∙_}
 use mathlib.Core.List.{List}
-use Prim.Native.Nat.{ℕ, _*_, _≤_}
-use native.Mathlib.Omega.{arith}
-use lib.ListN.{length, take}
+use Prim.Native.Nat.{ℕ, _*_}
+use lib.ListN.{take}
 use Rattle.rules.specs.Answer.{Answer, fine, refuse, refusedAt, _>>=_}
 use Rattle.rules.specs.Plan.{Plan}
 use Rattle.rules.specs.Run.{conversion, runOf}
 use Rattle.rules.specs.Lent.{zoneF, plan, run}
 use Rattle.terms.specs.Meaning.{planIn}
 use Rattle.rows.specs.Kept.{fieldsIn}
-use Rattle.rows.specs.Fair.{PlanFair}
 use Rattle.plans.specs.Promise.{Plans}
 use Rattle.plans.specs.declared.DeckPlan.{DeckPlan}
-use Rattle.plans.proofs.FilledLaws.{refused-plan, accepted-plan, plan-is, plan-fair, row-holds}
+use Rattle.plans.proofs.FilledLaws.{refused-plan, accepted-plan, plan-taken}
 
 -- the plan is asked first
 run-plan : (room : ℕ) (deck s : List ℕ) (x : Answer Plan) → plan deck ≡ x → run room deck s ≡ (x >>= λ p. conversion room p s)
@@ -28,22 +26,8 @@ module _ (deck : List ℕ) (r : DeckPlan) (row : List ℕ) (w : Plans deck r row
       run-plan room deck s (refuse (q .0)) (q .1) ∙ (λ i. refuse (record { number = sym (q .2) i; place = sym (q .3) i; column = sym (q .4) i }))
 
   module _ (z : r .answer .refusal ≡ 0) where
-    abbrev end : ℕ
-    end = 5 * r .asked .count
-
-    -- as many numbers as its fields have
-    all : let p = accepted-plan deck r row w z .0 in end ≡ 5 * length (p .fields)
-    all = ap (λ (n : ℕ). 5 * n) (accepted-plan deck r row w z .3 .count)
-
-    pub run-accepted : (room : ℕ) (s : List ℕ) → run room deck s ≡ conversion room (planIn zoneF (r .asked) (fieldsIn (take end row))) s
+    pub run-accepted : (room : ℕ) (s : List ℕ) → run room deck s ≡ conversion room (planIn zoneF (r .asked) (fieldsIn (take (5 * r .asked .count) row))) s
     unfolding _>>=_
     run-accepted room s =
         let a = accepted-plan deck r row w z in
-        run-plan room deck s (fine (a .0)) (a .1) ∙ ap (λ (p : Plan). conversion room p s) (sym (plan-is deck (a .0) (r .asked) row (a .3) end all))
-
-    pub runnable : PlanFair (r .asked) (take end row)
-    runnable = let a = accepted-plan deck r row w z in plan-fair deck (a .0) (r .asked) row (a .3) end all (a .1)
-
-    -- they stand in the row
-    pub front-in : end ≤ length row
-    front-in = let a = accepted-plan deck r row w z in let l = row-holds deck (a .0) (a .1) (r .asked) row (a .3) in omega (arith, l .0, l .1, all)
+        run-plan room deck s (fine (a .0)) (a .1) ∙ ap (λ (p : Plan). conversion room p s) (sym (plan-taken deck r row w z))

@@ -5,7 +5,7 @@ use Prim.Native.Nat.{ℕ, _+_, _-_, _*_, _≤_, _<_}
 use native.Mathlib.Omega.{arith}
 use lib.ListN.{length, take, drop, length-map}
 use lib.Seq.{take-at}
-use borrow.Author.Tests.{leb-true, le-leb, lt-leb}
+use borrow.Author.Tests.{le-leb, lt-leb}
 use Rattle.rules.specs.Answer.{Refusal, Answer, fine, refuse}
 use mathlib.Core.Bool.{true, false}
 use lib.Dec.{leb}
@@ -19,7 +19,8 @@ use Rattle.rules.specs.Accepted.{Accepted}
 use Rattle.rules.specs.Plan.{Plan, PlanAnswer, planAnswer, planOf, assembled, recordLength, keyLength, partLength, bytesBefore, through, insidePart}
 use Rattle.rules.specs.Lent.{zoneF, plan, planInto, entryOf, cardFields, tableAfter}
 use Rattle.rules.proofs.Base.Lists.{map-drop}
-use Rattle.rules.proofs.Refusals.AnswerLaws.{fine-same, bind-fine, then-fine, unless-fine}
+use Rattle.rules.proofs.Refusals.AnswerLaws.{fine-same, bind-fine, then-fine}
+use Rattle.rules.proofs.Refusals.SaidLaws.{into-plan}
 use Rattle.rules.proofs.Deck.AcceptedLaws.{accepted, limited-of, limits-utility, limits-fields, combines, key-fits}
 use Rattle.rules.proofs.Deck.LimitLaws.{inside-exactly}
 use Rattle.rules.proofs.Halves.RecordLaws.{sizes-low}
@@ -165,6 +166,22 @@ plans-long deck r row w = go (plan deck) refl (w .held)
     go (fine p) e h = row-holds deck p e (r .asked) row h .1
     go (refuse q) e h = ap length (h .1) ∙ length-row [] (omega arith)
 
+-- the plan of a deck that is accepted, for those who go on with the struct and the front of the row
+module _ (deck : List ℕ) (r : DeckPlan) (row : List ℕ) (w : Plans deck r row) (z : r .answer .refusal ≡ 0) where
+  -- as many numbers as its fields have
+  all-numbers : 5 * r .asked .count ≡ 5 * length (accepted-plan deck r row w z .0 .fields)
+  all-numbers = ap (λ (n : ℕ). 5 * n) (accepted-plan deck r row w z .3 .count)
+
+  pub plan-taken : planIn zoneF (r .asked) (fieldsIn (take (5 * r .asked .count) row)) ≡ accepted-plan deck r row w z .0
+  plan-taken = let a = accepted-plan deck r row w z in plan-is deck (a .0) (r .asked) row (a .3) _ all-numbers
+
+  pub runnable : PlanFair (r .asked) (take (5 * r .asked .count) row)
+  runnable = let a = accepted-plan deck r row w z in plan-fair deck (a .0) (r .asked) row (a .3) _ all-numbers (a .1)
+
+  -- its fields stand in the row
+  pub front-in : 5 * r .asked .count ≤ length row
+  front-in = let a = accepted-plan deck r row w z in let l = row-holds deck (a .0) (a .1) (r .asked) row (a .3) in omega (arith, l .0, l .1, all-numbers)
+
 -- as many fields stand on the cards as in the plan
 pub card-count : (deck : List ℕ) (p : Plan) → plan deck ≡ fine p → length (cardFields (askedOf deck)) ≡ length (p .fields)
 unfolding plan
@@ -226,17 +243,9 @@ table-after deck (fine p) own table =
     ∙ map-append entryMeans (map entryFor (map entryOf fs)) (drop (length fs) table)
     ∙ rw (entries-hold (map entryOf fs), map-drop entryMeans (length fs) table, card-count deck p (own p refl))
 
--- a plan that goes into a table is the deck's plan, and the table has room for its fields
-pub into-room : (room : ℕ) (deck : List ℕ) (p : Plan) → planInto room deck ≡ fine p → (plan deck ≡ fine p) × (length (p .fields) ≤ room)
-unfolding planInto
-into-room room deck p e =
-    let s = bind-fine _ _ p e in
-    let t = then-fine _ _ p (s .2) in
-    let q = fine-same (s .0) p (t .1) in
-    (s .1 ∙ ap fine q, subst (λ (y : Plan). length (y .fields) ≤ room) q (leb-true _ room (unless-fine _ 15 _ (t .0))))
-
 pub into-own : (room : ℕ) (deck : List ℕ) (p : Plan) → planInto room deck ≡ fine p → plan deck ≡ fine p
-into-own room deck p e = into-room room deck p e .0
+unfolding plan
+into-own room deck p e = into-plan room deck p e .0
 
 -- no more entries are stored than there are, and than the table has
 pub store-fits : (room : ℕ) (deck : List ℕ) → (filledFor deck (planInto room deck) .store ≤ 64) × (filledFor deck (planInto room deck) .store ≤ room)
@@ -246,6 +255,6 @@ store-fits room deck = go (planInto room deck) refl
     go : (x : Answer Plan) → planInto room deck ≡ x → (filledFor deck x .store ≤ 64) × (filledFor deck x .store ≤ room)
     go (refuse r) e = (omega arith, omega arith)
     go (fine p) e =
-        let own = into-room room deck p e in
+        let own = into-plan room deck p e in
         let c = card-count deck p (own .0) in
         (omega (arith, c, accepted zoneF deck p (own .0) .few), omega (arith, c, own .1))

@@ -3,9 +3,8 @@
 use mathlib.Core.Path.{_≡_, refl, ap, sym, _∙_}
 use mathlib.Core.Bool.{Bool, true, false, cond, not}
 use mathlib.Core.List.{List}
-use Prim.Native.Nat.{ℕ, _*_, _≤_}
-use native.Mathlib.Omega.{arith}
-use lib.ListN.{length, take}
+use Prim.Native.Nat.{ℕ, _*_}
+use lib.ListN.{take}
 use borrow.Author.Tests.{eq-eqb, ne-eqb}
 use Rattle.rules.specs.Answer.{Answer, fine, refuse, _>>=_}
 use Rattle.rules.specs.Grammar.{Mode as RuleMode}
@@ -25,7 +24,7 @@ use Rattle.cards.specs.declared.DeckRead.{DeckRead}
 use Rattle.cards.proofs.PromiseLaws.{accepted, refused-as}
 use Rattle.plans.specs.Promise.{Plans}
 use Rattle.plans.specs.declared.DeckPlan.{DeckPlan}
-use Rattle.plans.proofs.FilledLaws.{refused-plan, accepted-plan, plan-is, plan-fair, row-holds}
+use Rattle.plans.proofs.FilledLaws.{refused-plan, accepted-plan, plan-taken}
 use Rattle.verdicts.specs.declared.Judged.{Judged}
 use Rattle.verdicts.specs.Promise.{judgedOf, judgeNumbers, refusedWith, toldAs, Spanning, NotJudged}
 
@@ -80,12 +79,6 @@ module _ (deck : List ℕ) (r : DeckPlan) (row : List ℕ) (w : Plans deck r row
           ∙ ap (λ (x : Answer ℕ). judgedOf (judgeAnswer x)) (sym is)
 
   module _ (z : r .answer .refusal ≡ 0) where
-    abbrev end : ℕ
-    end = 5 * r .asked .count
-
-    all : end ≡ 5 * length (accepted-plan deck r row w z .0 .fields)
-    all = ap (λ (n : ℕ). 5 * n) (accepted-plan deck r row w z .3 .count)
-
     same-mode : modeOf (r .asked .mode) ≡ accepted-plan deck r row w z .0 .mode
     unfolding planIn
     same-mode = ap (λ (p : Plan). p .mode) (accepted-plan deck r row w z .3 .is)
@@ -100,20 +93,13 @@ module _ (deck : List ℕ) (r : DeckPlan) (row : List ℕ) (w : Plans deck r row
 
     -- TR or TRF
     pub deck-judged : (t : Bool) → t ≡ isFilling (modeOf (r .asked .mode)) → t ≡ true → (j : Judged)
-        → j ≡ judgedOf (judgeAnswer (judgement (planIn zoneF (r .asked) (fieldsIn (take end row))) ours theirs)) → j ≡ judgedOf (judgeAnswer (judge deck ours theirs))
+        → j ≡ judgedOf (judgeAnswer (judgement (planIn zoneF (r .asked) (fieldsIn (take (5 * r .asked .count) row))) ours theirs)) → j ≡ judgedOf (judgeAnswer (judge deck ours theirs))
     unfolding judge plan
     deck-judged t e f j q =
         let k = accepted-plan deck r row w z in
         let c : copiesBlocks (askedOf deck) ≡ false = plan-copies deck (k .0) (k .1) ∙ ap (λ (m : RuleMode). not (isFilling m)) (sym same-mode) ∙ ap not (sym e ∙ f) in
         let is : judgeOf zoneF deck ours theirs ≡ judgement (k .0) ours theirs = deck-fills zoneF deck ours theirs c ∙ fine-bind (planOf zoneF deck) (λ p. judgement p ours theirs) (k .0) (k .1) in
-        q ∙ ap (λ (p : Plan). judgedOf (judgeAnswer (judgement p ours theirs))) (plan-is deck (k .0) (r .asked) row (k .3) end all) ∙ ap (λ (x : Answer ℕ). judgedOf (judgeAnswer x)) (sym is)
-
-    pub judgeable : PlanFair (r .asked) (take end row)
-    judgeable = let k = accepted-plan deck r row w z in plan-fair deck (k .0) (r .asked) row (k .3) end all (k .1)
-
-    -- its fields stand in the row
-    pub fields-stand : (end ≤ 320) × (length row ≡ 320)
-    fields-stand = let k = accepted-plan deck r row w z in let l = row-holds deck (k .0) (k .1) (r .asked) row (k .3) in (omega (arith, l .0, all), l .1)
+        q ∙ ap (λ (p : Plan). judgedOf (judgeAnswer (judgement p ours theirs))) (plan-taken deck r row w z) ∙ ap (λ (x : Answer ℕ). judgedOf (judgeAnswer x)) (sym is)
 
 -- ---- the plan's numbers in FS
 

@@ -10,9 +10,9 @@ use Rattle.rules.specs.Answer.{Answer}
 use Rattle.rules.specs.Run.{RunOutput}
 use Rattle.rules.specs.Lent.{runAnswer, outputAfter}
 use Rattle.rows.proofs.RowLaws.{row-none}
-use Rattle.plans.proofs.FilledLaws.{plans-long}
+use Rattle.plans.proofs.FilledLaws.{plans-long, runnable, front-in}
 use Rattle.outcomes.specs.Promise.{ranStruct}
-use Rattle.bhexodana.proofs.RunLaws.{run-refused, run-accepted, runnable, front-in}
+use Rattle.bhexodana.proofs.RunLaws.{run-refused, run-accepted}
 use Rattle.bhexodana.proofs.bhx_run.Statement.{statement}
 use Rattle.bhexodana.proofs.bhx_run.Tie as tie
 

@@ -4,8 +4,7 @@ use native.Mathlib.Omega.{arith}
 use lib.Seq.{length-take-le}
 use borrow.Author.Needs.{needs}
 use Rattle.rows.proofs.RowLaws.{row-none}
-use Rattle.plans.proofs.FilledLaws.{plans-long}
-use Rattle.bhexodana.proofs.RunLaws.{runnable, front-in}
+use Rattle.plans.proofs.FilledLaws.{plans-long, runnable, front-in}
 use Rattle.judge_reel.proofs.explain.Statement.{statement}
 use Rattle.judge_reel.proofs.explain.Tie as tie
 

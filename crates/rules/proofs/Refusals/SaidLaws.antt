@@ -96,7 +96,7 @@ plan-says deck = plan-says-of deck (Row zoneF deck) (planOf zoneF deck) (plan-co
 -- ---- a lent table
 
 -- a plan that goes into a table is the deck's plan, and the table has room for its fields
-into-plan : (entries : ℕ) (deck : List ℕ) (p : Plan) → planInto entries deck ≡ fine p → (planOf zoneF deck ≡ fine p) × (length (p .fields) ≤ entries)
+pub into-plan : (entries : ℕ) (deck : List ℕ) (p : Plan) → planInto entries deck ≡ fine p → (planOf zoneF deck ≡ fine p) × (length (p .fields) ≤ entries)
 unfolding planInto plan
 into-plan entries deck p e =
     let s = bind-fine _ _ p e in

@@ -4,8 +4,7 @@ use native.Mathlib.Omega.{arith}
 use lib.Seq.{length-take-le}
 use borrow.Author.Needs.{needs}
 use Rattle.rows.proofs.RowLaws.{row-none}
-use Rattle.plans.proofs.FilledLaws.{plans-long}
-use Rattle.bhexodana.proofs.RunLaws.{runnable, front-in}
+use Rattle.plans.proofs.FilledLaws.{plans-long, runnable, front-in}
 use Rattle.show_twins.proofs.show_twins.Statement.{statement}
 use Rattle.show_twins.proofs.show_twins.Tie as tie
 

@@ -7,7 +7,8 @@ use borrow.Author.Needs.{needs}
 use borrow.Author.Tests.{not-true, not-false}
 use denote.Ref.{now}
 use Rattle.rows.proofs.RowLaws.{row-none}
-use Rattle.verdicts.proofs.DeckLaws.{deck-refused, deck-keeps, deck-judged, judgeable, fields-stand}
+use Rattle.plans.proofs.FilledLaws.{plans-long, runnable, front-in}
+use Rattle.verdicts.proofs.DeckLaws.{deck-refused, deck-keeps, deck-judged}
 use Rattle.verdicts.proofs.judge_deck.Statement.{statement}
 use Rattle.verdicts.proofs.judge_deck.Tie as tie
 
@@ -43,28 +44,28 @@ mul-end : tie.Need-mul-end
 mul-end c =
     let s = c .before .before .before .before .before .before .before .before .before .before .before .args in
     let p = c .before .before .before .before .before .before .plan-deck in
-    let w = fields-stand (now (s .deck)) (p .result) (p .last .1 .0) (p .ensures) (now (s .ours)) (now (s .theirs)) (c .before .before .before .before .if1 .left) in
-    record { fits = omega (arith, w .0) }
+    let w = front-in (now (s .deck)) (p .result) (p .last .1 .0) (p .ensures) (c .before .before .before .before .if1 .left) in let l = plans-long (now (s .deck)) (p .result) (p .last .1 .0) (p .ensures) in
+    record { fits = omega (arith, w, l) }
 
 array-share-prefix-row : tie.Need-array-share-prefix-row
 array-share-prefix-row c =
     let s = c .before .before .before .before .before .before .before .before .before .before .before .args in
     let p = c .before .before .before .before .before .before .plan-deck in
-    let w = fields-stand (now (s .deck)) (p .result) (p .last .1 .0) (p .ensures) (now (s .ours)) (now (s .theirs)) (c .before .before .before .before .if1 .left) in
-    omega (arith, w .0, w .1)
+    let w = front-in (now (s .deck)) (p .result) (p .last .1 .0) (p .ensures) (c .before .before .before .before .if1 .left) in let l = plans-long (now (s .deck)) (p .result) (p .last .1 .0) (p .ensures) in
+    omega (arith, w, l)
 
 slice-aggregate-judge-plan : tie.Need-slice-aggregate-judge-plan
 slice-aggregate-judge-plan c =
     let s = c .before .before .before .before .before .before .before .before .before .before .before .before .args in
     let p = c .before .before .before .before .before .before .before .plan-deck in
-    let w = fields-stand (now (s .deck)) (p .result) (p .last .1 .0) (p .ensures) (now (s .ours)) (now (s .theirs)) (c .before .before .before .before .before .if1 .left) in
-    sym (length-take-le (5 * p .result .asked .count) (p .last .1 .0) (omega (arith, w .0, w .1)))
+    let w = front-in (now (s .deck)) (p .result) (p .last .1 .0) (p .ensures) (c .before .before .before .before .before .if1 .left) in let l = plans-long (now (s .deck)) (p .result) (p .last .1 .0) (p .ensures) in
+    sym (length-take-le (5 * p .result .asked .count) (p .last .1 .0) (omega (arith, w, l)))
 
 judge-plan-requires : tie.Need-judge-plan-requires
 judge-plan-requires c κs =
     let s = c .before .before .before .before .before .before .before .before .before .before .before .before .args in
     let p = c .before .before .before .before .before .before .before .plan-deck in
-    judgeable (now (s .deck)) (p .result) (p .last .1 .0) (p .ensures) (now (s .ours)) (now (s .theirs)) (c .before .before .before .before .before .if1 .left)
+    runnable (now (s .deck)) (p .result) (p .last .1 .0) (p .ensures) (c .before .before .before .before .before .if1 .left)
 
 returns-3 : tie.Need-returns-3
 returns-3 c =
