@@ -72,7 +72,7 @@ fn number(s: &[u8]) -> usize {
     value
 }
 
-fn least(a: usize, b: usize) -> usize
+fn smaller(a: usize, b: usize) -> usize
     ensures { λ r. ⌜ (r ≤ a) × (r ≤ b) ⌝ }
 {
     if a < b { a } else { b }
@@ -82,14 +82,14 @@ fn least(a: usize, b: usize) -> usize
 pub(crate) fn at_most(s: &[u8], most: usize) -> usize
     ensures { λ r. ⌜ r ≤ most ⌝ }
 {
-    least(number(s), most)
+    smaller(number(s), most)
 }
 
 // So many, but no more than there are bytes.
 fn within(count: usize, s: &[u8]) -> usize
     ensures { λ r. ⌜ Counts r (now (s .entry)) ⌝ }
 {
-    least(count, s.len())
+    smaller(count, s.len())
 }
 
 // The number that decimal digits say, but no more than there are bytes lent.
@@ -117,7 +117,7 @@ fn byte(s: &[u8]) -> u8 {
 fn put_same(byte: u8, times: usize, out: &mut [u8]) -> usize
     ensures { λ r. ⌜ r ≤ length (now (out .entry)) ⌝ }
 {
-    let end = least(times, out.len());
+    let end = smaller(times, out.len());
     let mut i = 0;
     while i < end {
         out[i] = byte;
@@ -130,7 +130,7 @@ fn put_same(byte: u8, times: usize, out: &mut [u8]) -> usize
 fn put_pairs(s: &[u8], out: &mut [u8]) -> usize
     ensures { λ r. ⌜ r ≤ length (now (out .entry)) ⌝ }
 {
-    let end = least(s.len() / 2, out.len());
+    let end = smaller(s.len() / 2, out.len());
     let mut i = 0;
     while i < end {
         let at = 2 * i;

@@ -13,8 +13,8 @@ Inv-loop s out₀ end i₀ out i = (i ≤ end) × (end + end ≤ length s) × (e
 abbrev μ-loop : tie.MeasureT-loop
 μ-loop s out₀ end i₀ out i = end - i
 
-least-requires : tie.Need-least-requires Inv-loop μ-loop
-least-requires c κs = tt
+smaller-requires : tie.Need-smaller-requires Inv-loop μ-loop
+smaller-requires c κs = tt
 
 loop-holds : tie.Need-loop-holds Inv-loop μ-loop
 loop-holds c = omega arith
@@ -58,7 +58,7 @@ put-pairs-spec =
     (tie.spec
     Inv-loop
     μ-loop
-    least-requires
+    smaller-requires
     loop-holds
     mul-at
     sub-byte

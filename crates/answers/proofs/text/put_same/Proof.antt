@@ -13,8 +13,8 @@ Inv-loop byte times out₀ end i₀ out i = (i ≤ end) × (end ≤ length out�
 abbrev μ-loop : tie.MeasureT-loop
 μ-loop byte times out₀ end i₀ out i = end - i
 
-least-requires : tie.Need-least-requires Inv-loop μ-loop
-least-requires c κs = tt
+smaller-requires : tie.Need-smaller-requires Inv-loop μ-loop
+smaller-requires c κs = tt
 
 loop-holds : tie.Need-loop-holds Inv-loop μ-loop
 loop-holds c = omega arith
@@ -43,7 +43,7 @@ put-same-spec =
     (tie.spec
     Inv-loop
     μ-loop
-    least-requires
+    smaller-requires
     loop-holds
     slice-write-out
     add-i
