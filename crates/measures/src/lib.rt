@@ -57,13 +57,13 @@ fn first_walked(task: Task, fields: &[u16], reel: &[u8]) -> usize
 }
 
 // Whether the output of each record taken fits, and what the output reel measures: along the walk, in a pass that holds three numbers and builds nothing.
+// `over` is the least size that a block of B may not have.
 fn measure_walked(task: Task, reel: &[u8]) -> Measured
     requires { ⌜ Measurable task (now reel) ⌝ }
     ensures { λ r. ⌜ Measures task (now (reel .entry)) r ⌝ }
 {
     let form = tasks::form_of(task);
     let first = task.first;
-    // The least size that a block of B may not have.
     let over = task.limit + 1;
     let mut walk = walks::taken(form, reel, first);
     let mut number = first;
@@ -92,9 +92,7 @@ fn measure_walked(task: Task, reel: &[u8]) -> Measured
             }
             RecordRead::End => {
                 let records = number - first;
-                let words = 4 * tally.blocks;
-                let header = words + 8;
-                let length = header + tally.bytes;
+                let length = 4 * tally.blocks + 8 + tally.bytes;
                 return Measured::Fits {
                     blocks: tally.blocks,
                     records,
@@ -191,10 +189,7 @@ fn measure_fixed(task: Task, reel: &[u8]) -> Measured
     let from = walks::fixed_start(tasks::form_of(task), reel, task.first);
     let records = walks::rest(reel, from).len() / task.n;
     let blocks = fixed_blocks(task, reel, from, records);
-    let words = 4 * blocks;
-    let header = words + 8;
-    let data = records * task.width;
-    let length = header + data;
+    let length = 4 * blocks + 8 + records * task.width;
     Measured::Fits {
         blocks,
         records,

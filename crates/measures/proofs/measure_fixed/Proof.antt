@@ -37,17 +37,17 @@ div-records c =
 fixed-blocks-requires : tie.Need-fixed-blocks-requires
 fixed-blocks-requires c κs = fixed-from (c .before .before .before .before .before .pre .0) (c .before .before .before .before .before .pre .1) (start c) _ (ap length (c .before .rest .ensures))
 
-mul-words : tie.Need-mul-words
-mul-words c = search needs
-
-add-header : tie.Need-add-header
-add-header c = search needs
-
-mul-data : tie.Need-mul-data
-mul-data c = omega (arith, bytes-small (c .before .before .before .before .before .before .before .pre .0) (c .before .before .before .before .before .before .before .pre .1) (start (c .before .before)) _ (ap length (c .before .before .before .rest .ensures)))
+mul-length : tie.Need-mul-length
+mul-length c = search needs
 
 add-length : tie.Need-add-length
-add-length c = omega (arith, c .before .fixed-blocks .ensures .few, bytes-small (c .before .before .before .before .before .before .before .pre .0) (c .before .before .before .before .before .before .before .pre .1) (start (c .before .before)) _ (ap length (c .before .before .before .rest .ensures)))
+add-length c = search needs
+
+mul-length-2 : tie.Need-mul-length-2
+mul-length-2 c = omega (arith, bytes-small (c .before .before .before .before .before .before .before .pre .0) (c .before .before .before .before .before .before .before .pre .1) (start (c .before .before)) _ (ap length (c .before .before .before .rest .ensures)))
+
+add-length-2 : tie.Need-add-length-2
+add-length-2 c = omega (arith, c .before .fixed-blocks .ensures .few, bytes-small (c .before .before .before .before .before .before .before .pre .0) (c .before .before .before .before .before .before .before .pre .1) (start (c .before .before)) _ (ap length (c .before .before .before .rest .ensures)))
 
 returns : tie.Need-returns
 returns c = fixed-measures (c .before .before .before .before .before .before .before .pre .0) (c .before .before .before .before .before .before .before .pre .1) (start (c .before .before)) _ _ (ap length (c .before .before .before .rest .ensures)) (c .before .fixed-blocks .ensures)
@@ -61,8 +61,8 @@ measure-fixed-spec =
     rest-requires
     div-records
     fixed-blocks-requires
-    mul-words
-    add-header
-    mul-data
+    mul-length
     add-length
+    mul-length-2
+    add-length-2
     returns)

@@ -75,18 +75,18 @@ enum-told c = search needs
 sub-records : tie.Need-sub-records Inv-loop μ-loop
 sub-records c = omega (arith, (c .before .before) .before .loop .inv .blocks)
 
-mul-words : tie.Need-mul-words Inv-loop μ-loop
-mul-words c =
-    let r = c .before .before .before in
-    let g = go-bytes (start r .args .task) (past-form-of r .form-of .ensures) (r .before .loop .inv) (r .«record» .ensures) (start r .pre) in omega (arith, g .0)
-
-add-header : tie.Need-add-header Inv-loop μ-loop
-add-header c =
+mul-length : tie.Need-mul-length Inv-loop μ-loop
+mul-length c =
     let r = c .before .before .before in
     let g = go-bytes (start r .args .task) (past-form-of r .form-of .ensures) (r .before .loop .inv) (r .«record» .ensures) (start r .pre) in omega (arith, g .0)
 
 add-length : tie.Need-add-length Inv-loop μ-loop
 add-length c =
+    let r = c .before .before .before in
+    let g = go-bytes (start r .args .task) (past-form-of r .form-of .ensures) (r .before .loop .inv) (r .«record» .ensures) (start r .pre) in omega (arith, g .0)
+
+add-length-2 : tie.Need-add-length-2 Inv-loop μ-loop
+add-length-2 c =
     let r = c .before .before .before .before in
     let g = go-bytes (start r .args .task) (past-form-of r .form-of .ensures) (r .before .loop .inv) (r .«record» .ensures) (start r .pre) in omega (arith, g .0, g .1)
 
@@ -115,7 +115,7 @@ measure-walked-spec =
     loop-again
     enum-told
     sub-records
-    mul-words
-    add-header
+    mul-length
     add-length
+    add-length-2
     returns-2)
