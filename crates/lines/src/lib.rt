@@ -10,7 +10,7 @@ ghost use Rattle.lines.specs.Meaning.{BeginsSays, OperandEnds, CardSays,
 ghost use Rattle.lines.specs.Ordering.{oneMore, cardKindOf, firstMarked, isOther, faulty, misplaced, closed, withLine, orderOf, cardCount, answerOf};
 
 // The most bytes of a card.
-const LONGEST: usize = 80;
+pub const LONGEST: usize = 80;
 
 // The most cards of a deck.
 const CARDS: usize = 64;
@@ -20,7 +20,7 @@ const MOST: usize = 18446744073709551615;
 
 const BLANK: u8 = 0x20;
 
-const LINE_END: u8 = 0x0A;
+pub const LINE_END: u8 = 0x0A;
 
 // How many bytes are looked at at once where a line's end is looked for.
 const BLOCK: usize = 8;

@@ -3,13 +3,10 @@ ghost use mathlib.Core.Path.{_≡_};
 ghost use Rattle.lines.specs.Ordering.{answerOf};
 ghost use Rattle.scans.specs.Scanning.{begunKind, seenOf, lineEnded, withByte, stepOf, noBytes, scanFrom, scannedOf};
 use lines::CardKind;
+use lines::LINE_END;
+use lines::LONGEST;
 use lines::LinesSeen;
 use lines::OrderRead;
-
-// The most bytes of a card.
-const LONGEST: usize = 80;
-
-const LINE_END: u8 = 0x0A;
 
 // How far a scan has come: what it must know of the bytes before to go on with the next. A deck can so be scanned piece by piece.
 pub struct Scanner {
