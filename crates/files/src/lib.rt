@@ -7,5 +7,6 @@ pub use given::deck;
 pub use given::name;
 pub use given::reel;
 pub use given::reel_room;
+pub use output::NO_MODE;
 pub use output::put;
 pub use output::write;

@@ -41,12 +41,19 @@ fn part_name(path: &[u8], room: &mut [u8]) -> usize
     put(room, numbered, b".part")
 }
 
-// Whether all bytes are in the file, on its device, and the file is closed.
-fn fill(fd: i32, bytes: &[u8], path: &[u8]) -> bool {
-    let mut filled = io::write_all(fd, bytes);
-    if filled {
-        filled = libc::fsync(fd) == 0;
+// In place of a mode: the file gets the one that the system gives a new file.
+pub const NO_MODE: u32 = u32::MAX;
+
+fn is_moded(fd: i32, mode: u32) -> bool {
+    if mode == NO_MODE {
+        return true;
     }
+    libc::fchmod(fd, mode) == 0
+}
+
+// Whether all bytes are in the file, on its device, and the file is closed. It has its mode before it has a byte, so that none is ever seen by who may not see it.
+fn fill(fd: i32, bytes: &[u8], mode: u32, path: &[u8]) -> bool {
+    let filled = is_moded(fd, mode) && io::write_all(fd, bytes) && libc::fsync(fd) == 0;
     if !filled {
         os::fail(path);
         libc::close(fd);
@@ -60,8 +67,8 @@ fn fill(fd: i32, bytes: &[u8], path: &[u8]) -> bool {
 }
 
 // Whether the part, which is open, is filled and has taken the file's name. Otherwise it is gone.
-fn complete(fd: i32, part: &[u8], bytes: &[u8], path: &[u8]) -> bool {
-    let filled = fill(fd, bytes, path);
+fn complete(fd: i32, part: &[u8], bytes: &[u8], mode: u32, path: &[u8]) -> bool {
+    let filled = fill(fd, bytes, mode, path);
     if filled {
         if os::rename(part, path) == 0 {
             return true;
@@ -73,12 +80,12 @@ fn complete(fd: i32, part: &[u8], bytes: &[u8], path: &[u8]) -> bool {
 }
 
 // Makes the part, fills it and renames it.
-fn replace(path: &[u8], bytes: &[u8]) -> bool {
+fn replace(path: &[u8], bytes: &[u8], mode: u32) -> bool {
     let mut room = io::buffer();
     let n = part_name(path, &mut room);
     let fd = os::create(&room[..n]);
     if fd >= 0 {
-        return complete(fd, &room[..n], bytes, path);
+        return complete(fd, &room[..n], bytes, mode, path);
     }
     if os::errno() == libc::EEXIST {
         os::fail(&room[..n]);
@@ -100,12 +107,12 @@ fn is_special(path: &[u8]) -> bool {
     special
 }
 
-// Whether the file now holds these bytes. Otherwise what had its name still has it.
-pub fn write(path: &[u8], bytes: &[u8]) -> bool {
+// Whether the file now holds these bytes and has this mode, if one is given. Otherwise what had its name still has it.
+pub fn write(path: &[u8], bytes: &[u8], mode: u32) -> bool {
     if is_special(path) {
         notices::say(path);
         notices::say(b": is a device or a pipe, and no file takes its place\n");
         return false;
     }
-    replace(path, bytes)
+    replace(path, bytes, mode)
 }

@@ -1,15 +1,19 @@
 // What programs tell people: the line of numbers on standard output, and in plain words on standard error what was refused, where, and
 // what to look at, or what a plan loses. The words of refusals 1 to 10 stand in `deck`, what they say of a card with a column in `card`, and the words of 11 to
-// 15, 17 and 18 in `reel`; 16, by which a plan that keeps has no twins, is said here. How a field is named stands in `field`.
+// 15, 17 and 18 in `reel`; 16, by which a plan that keeps has no twins, is said here. How a field is named stands in `field`, and what is said of
+// records that are not taken in `taken`.
 mod card;
 mod deck;
 mod field;
 mod reel;
+mod taken;
 
 pub use field::field_on_card;
 use libc::STDERR_FILENO;
 use libc::STDOUT_FILENO;
 use plans::DeckPlan;
+pub use taken::left_out;
+pub use taken::none_taken;
 
 // Words on standard error.
 pub fn say(text: &[u8]) {

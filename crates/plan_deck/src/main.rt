@@ -1,5 +1,5 @@
 // Reads a deck from standard input and prints the plan's line: refusal, place, 1 for keeping or 0, lost place or 0. What it means
-// in plain words goes to standard error, where the deck is refused or the plan loses; with it the card, where a column of it is refused.
+// in plain words goes to standard error, where the deck is refused, the plan loses or R leaves records out; with it the card, where a column of it is refused.
 use libc::STDIN_FILENO;
 
 fn refused(deck: &[u8], refusal: usize, place: usize, column: usize) {
@@ -17,6 +17,8 @@ fn whole(deck: &[u8]) {
     }
     notices::line(&[0, 0, p.answer.keeping, p.answer.lost]);
     notices::loss(p);
+    let asked = p.asked;
+    notices::left_out(asked.first);
 }
 
 fn main() {

@@ -33,7 +33,7 @@ fn write_records(path: &[u8], bytes: &[u8]) -> bool {
     if path.len() == 0 {
         return true;
     }
-    files::write(path, bytes)
+    files::write(path, bytes, files::NO_MODE)
 }
 
 // The same for their reel, which a run of the deck takes: copies of the first stand in for the records before R.
@@ -51,7 +51,7 @@ fn write_reel(path: &[u8], asked: Asked, first: &[u8], second: &[u8]) -> bool {
         );
         return true;
     }
-    files::write(path, room::front(&room, n))
+    files::write(path, room::front(&room, n), files::NO_MODE)
 }
 
 // What people see: the records, why they become alike, and what they become.

@@ -23,6 +23,9 @@ line-requires c κs = search needs
 loss-requires : tie.Need-loss-requires
 loss-requires c κs = search needs
 
+left-out-requires : tie.Need-left-out-requires
+left-out-requires c κs = search needs
+
 returns-2 : tie.Need-returns-2
 returns-2 c = search needs
 
@@ -36,4 +39,5 @@ whole-spec =
     slice-aggregate-line
     line-requires
     loss-requires
+    left-out-requires
     returns-2)
