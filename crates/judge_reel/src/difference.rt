@@ -3,7 +3,6 @@ ghost use Prim.Native.Nat.{_*_, _≤_};
 ghost use lib.ListN.{length};
 ghost use Rattle.rows.specs.Flat.{Fielded};
 ghost use Rattle.rows.specs.Fair.{PlanFair};
-use crate::gathered;
 use notices::number;
 use notices::say;
 use terms::Asked;
@@ -110,7 +109,7 @@ fn say_selected(deck: &[u8], asked: Asked, fields: &[u16], ours: &[u8], theirs: 
     requires { ⌜ PlanFair asked (now fields) ⌝ }
 {
     let task = tasks::task_of(asked);
-    let mut copy = gathered::record_room();
+    let mut copy = gathers::record_room();
     let m = files::put(&mut copy, 0, theirs);
     if ours.len() < task.n {
         return;

@@ -2,7 +2,6 @@
 // and the number, in the output, of the first record that disagrees or lacks a partner, or 0. What that means is said in plain words on standard error, and so
 // is a file that cannot be read; such a file gives no line.
 mod difference;
-mod gathered;
 mod verdict;
 
 // Says that TC and TF are refused, where the plan is not refused so by itself.

@@ -3,7 +3,6 @@ ghost use Prim.Native.Nat.{_≤_};
 ghost use lib.ListN.{length};
 ghost use Rattle.rows.specs.Fair.{PlanFair};
 use crate::difference;
-use crate::gathered;
 use notices::number;
 use notices::say;
 use plans::DeckPlan;
@@ -23,8 +22,8 @@ fn say_many(count: usize, name: &[u8]) {
 pub(crate) fn yes(plan: DeckPlan, theirs: &[u8]) {
     let asked = plan.asked;
     let task = tasks::task_of(asked);
-    let mut nothing = gathered::record_room();
-    let found = gathered::gather(tasks::form_under(task), theirs, 0, &mut nothing);
+    let mut nothing = gathers::record_room();
+    let found = gathers::gather(tasks::form_under(task), theirs, 0, &mut nothing);
     say(b"theirs is a true conversion of ours, of ");
     say_many(found.records, b"record");
     say(b"\n");
@@ -112,10 +111,10 @@ pub(crate) fn no(
     let task = tasks::task_of(asked);
     let before = passed(asked.first);
     let place = in_input(before, apart);
-    let mut room = gathered::record_room();
-    let taken = gathered::gather(tasks::form_of(task), ours, place, &mut room);
-    let mut other = gathered::record_room();
-    let found = gathered::gather(tasks::form_under(task), theirs, apart, &mut other);
+    let mut room = gathers::record_room();
+    let taken = gathers::gather(tasks::form_of(task), ours, place, &mut room);
+    let mut other = gathers::record_room();
+    let found = gathers::gather(tasks::form_under(task), theirs, apart, &mut other);
     say(b"theirs is no true conversion of ours: ");
     say_record(apart, place, place <= taken.records);
     if taken.records < place || found.records < apart {

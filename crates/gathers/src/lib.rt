@@ -10,16 +10,16 @@ use reels::HeaderRead;
 use terms::Format;
 
 // Room for the longest record. The `ensures` gives the length, which lending the array as a slice needs.
-pub(crate) fn record_room() -> [u8; 32752]
+pub fn record_room() -> [u8; 32752]
     ensures { λ r. ⌜ 32752 ≡ length r ⌝ }
 {
     [0; 32752]
 }
 
 // How many records there are so far, and how many bytes of the one that is wanted are in the room.
-pub(crate) struct Gathered {
-    pub(crate) records: usize,
-    pub(crate) length: usize,
+pub struct Gathered {
+    pub records: usize,
+    pub length: usize,
 }
 
 // Where the pieces of a block begin: in FS too behind a word of 4 bytes.
@@ -99,8 +99,8 @@ fn behind_block(form: Form, b: &[u8], before: Gathered, wanted: usize, room: &mu
 }
 
 // How many blocks a reel has.
-fn blocks(s: &[u8]) -> usize {
-    let read = reels::header(s);
+fn blocks(reel: &[u8]) -> usize {
+    let read = reels::header(reel);
     match read {
         HeaderRead::Reel { blocks } => blocks,
         HeaderRead::NoReel => 0,
@@ -108,17 +108,17 @@ fn blocks(s: &[u8]) -> usize {
 }
 
 // Counts the records of a reel, and puts the wanted one, from 1, into the room, as much of it as goes in. Where there is no such record its length is 0.
-pub(crate) fn gather(form: Form, s: &[u8], wanted: usize, room: &mut [u8]) -> Gathered
+pub fn gather(form: Form, reel: &[u8], wanted: usize, room: &mut [u8]) -> Gathered
     ensures { λ r. ⌜ Counts (r .length) (now (room .exit)) ⌝ }
 {
-    let count = blocks(s);
+    let count = blocks(reel);
     let mut found = Gathered {
         records: 0,
         length: 0,
     };
     let mut i = 0;
     while i < count {
-        found = behind_block(form, reels::block(s, i), found, wanted, room);
+        found = behind_block(form, reels::block(reel, i), found, wanted, room);
         i += 1;
     }
     found

@@ -4,14 +4,14 @@ use Prim.Native.Nat.{_-_}
 use borrow.Author.Needs.{needs}
 use lib.ListN.{length}
 use Rattle.io.specs.Counts.{Counts}
-use Rattle.judge_reel.proofs.gathered.gather.Statement.{statement}
-use Rattle.judge_reel.proofs.gathered.gather.Tie as tie
+use Rattle.gathers.proofs.gather.Statement.{statement}
+use Rattle.gathers.proofs.gather.Tie as tie
 
 abbrev Inv-loop : tie.InvT-loop
-Inv-loop form s wanted room₀ count found₀ i₀ room found i = Counts (found .length) room × (length room ≡ length room₀)
+Inv-loop form reel wanted room₀ count found₀ i₀ room found i = Counts (found .length) room × (length room ≡ length room₀)
 
 abbrev μ-loop : tie.MeasureT-loop
-μ-loop form s wanted room₀ count found₀ i₀ room found i = count - i
+μ-loop form reel wanted room₀ count found₀ i₀ room found i = count - i
 
 blocks-requires : tie.Need-blocks-requires Inv-loop μ-loop
 blocks-requires c κs = search needs

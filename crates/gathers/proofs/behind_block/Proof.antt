@@ -8,8 +8,8 @@ use lib.ListN.{length}
 use Rattle.io.specs.Counts.{Counts}
 use Rattle.pieces.proofs.PiecesLaws.{further}
 use Rattle.pieces.specs.declared.PieceRead.the-variants.{Piece}
-use Rattle.judge_reel.proofs.gathered.behind_block.Statement.{statement}
-use Rattle.judge_reel.proofs.gathered.behind_block.Tie as tie
+use Rattle.gathers.proofs.behind_block.Statement.{statement}
+use Rattle.gathers.proofs.behind_block.Tie as tie
 
 abbrev Inv-loop : tie.InvT-loop
 Inv-loop form b wanted room₀ at₀ found₀ room at found = Counts (found .length) room × (length room ≡ length room₀)

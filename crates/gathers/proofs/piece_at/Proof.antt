@@ -1,8 +1,8 @@
 -- A piece lies behind its place and inside the block, be it a record or a segment.
 use borrow.Author.Needs.{needs}
 use Rattle.pieces.proofs.PiecesLaws.{piece-further, worded-further}
-use Rattle.judge_reel.proofs.gathered.piece_at.Statement.{statement}
-use Rattle.judge_reel.proofs.gathered.piece_at.Tie as tie
+use Rattle.gathers.proofs.piece_at.Statement.{statement}
+use Rattle.gathers.proofs.piece_at.Tie as tie
 
 is-fs-requires : tie.Need-is-fs-requires
 is-fs-requires c κs = search needs
