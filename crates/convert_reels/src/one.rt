@@ -14,10 +14,10 @@ fn head(name: &[u8]) {
 }
 
 // A run that is refused.
-fn refused(deck: &[u8], ran: Ran, name: &[u8], end: u8) {
+fn refused(deck: &[u8], reel: &[u8], ran: Ran, name: &[u8], end: u8) {
     line::print(ran, name, end);
     head(name);
-    notices::refused(deck, ran.refusal, ran.place, ran.column);
+    reports::refused(deck, reel, ran.refusal, ran.place, ran.column);
 }
 
 // A run that is finished.
@@ -67,7 +67,7 @@ pub(crate) fn convert(
     let n = filled.length;
     let ran = run(asked, fields, &blocks[..n], room);
     if ran.refusal != 0 {
-        refused(deck, ran, name, end);
+        refused(deck, &blocks[..n], ran, name, end);
         return;
     }
     let length = ran.length;

@@ -5,7 +5,7 @@ mod difference;
 mod verdict;
 
 // Says that TC and TF are refused, where the plan is not refused so by itself.
-fn say_refused(deck: &[u8], refusal: usize, place: usize, column: usize) {
+fn say_refused(deck: &[u8], ours: &[u8], refusal: usize, place: usize, column: usize) {
     let mut row = [0u16; 320];
     let plan = plans::plan_deck(deck, &mut row);
     if refusal == 8 && (plan.answer.refusal != 8 || plan.answer.place != place) {
@@ -14,7 +14,7 @@ fn say_refused(deck: &[u8], refusal: usize, place: usize, column: usize) {
         );
         return;
     }
-    notices::refused(deck, refusal, place, column);
+    reports::refused(deck, ours, refusal, place, column);
 }
 
 // A deck that judges has a plan, so that its second refusal does not arise.
@@ -44,8 +44,12 @@ fn judge(deck: &[u8], ours: &[u8], theirs: &[u8]) {
             judged.number,
         ],
     );
+    if judged.refusal > 16 {
+        reports::refused_theirs(deck, theirs, judged.refusal, judged.place);
+        return;
+    }
     if judged.refusal != 0 {
-        say_refused(deck, judged.refusal, judged.place, judged.column);
+        say_refused(deck, ours, judged.refusal, judged.place, judged.column);
         return;
     }
     explain(deck, judged.number, ours, theirs);

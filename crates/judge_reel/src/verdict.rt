@@ -6,17 +6,8 @@ use crate::difference;
 use notices::number;
 use notices::say;
 use plans::DeckPlan;
+use reports::many;
 use terms::Asked;
-
-// Says so many of what has this name.
-fn say_many(count: usize, name: &[u8]) {
-    number(count);
-    say(b" ");
-    say(name);
-    if count != 1 {
-        say(b"s");
-    }
-}
 
 // Says that theirs is true, and what the plan loses: where it loses, other inputs may have the same conversion.
 pub(crate) fn yes(plan: DeckPlan, theirs: &[u8]) {
@@ -25,7 +16,7 @@ pub(crate) fn yes(plan: DeckPlan, theirs: &[u8]) {
     let mut nothing = gathers::record_room();
     let found = gathers::gather(tasks::form_under(task), theirs, 0, &mut nothing);
     say(b"theirs is a true conversion of ours, of ");
-    say_many(found.records, b"record");
+    many(found.records, b"record");
     say(b"\n");
     notices::loss(plan);
 }
@@ -77,7 +68,7 @@ fn say_record(apart: usize, place: usize, is_ours: bool) {
 // Says that a record has no partner, by the counts of both sides.
 fn say_counts(ours: usize, theirs: usize) {
     say(b"lacks a partner: ours gives ");
-    say_many(ours, b"record");
+    many(ours, b"record");
     say(b", theirs has ");
     number(theirs);
 }
@@ -92,7 +83,7 @@ fn say_pair(deck: &[u8], asked: Asked, fields: &[u16], ours: &[u8], theirs: &[u8
         return;
     }
     say(b"has another length: ours gives ");
-    say_many(n, b"byte");
+    many(n, b"byte");
     say(b", theirs has ");
     number(theirs.len());
 }

@@ -1,11 +1,10 @@
 // What programs tell people: the line of numbers on standard output, and in plain words on standard error what was refused, where, and
-// what to look at, or what a plan loses. The words of refusals 1 to 10 stand in `deck`, what they say of a card with a column in `card`, and the words of 11 to
-// 15, 17 and 18 in `reel`; 16, by which a plan that keeps has no twins, is said here. How a field is named stands in `field`, and what is said of
-// records that are not taken in `taken`.
+// what to look at, or what a plan loses. The words of refusals 1 to 10 stand in `deck`, and what they say of a card with a column in `card`; 16, by which a plan
+// that keeps has no twins, is said here. Those of a reel are said where the reel is at hand, by `reports`. How a field is named stands in `field`, and what is
+// said of records that are not taken in `taken`.
 mod card;
 mod deck;
 mod field;
-mod reel;
 mod taken;
 
 pub use field::field_on_card;
@@ -72,16 +71,14 @@ fn half(place: usize, key: usize) {
     say(b" of the input record");
 }
 
-// A refusal, by its number, its place and its column, or 0 for none; the deck has the card.
+// A refusal of a deck, by its number, its place and its column, or 0 for none; the deck has the card.
 pub fn refused(deck: &[u8], refusal: usize, place: usize, column: usize) {
     say(b"refused by ");
     number(refusal);
     if refusal < 11 {
         deck::explain(deck, refusal, place, column);
-    } else if refusal == 16 {
-        say(b": the plan keeps: no two records become alike, so there are no twins to show");
     } else {
-        reel::explain(refusal, place);
+        say(b": the plan keeps: no two records become alike, so there are no twins to show");
     }
     say(b"\n");
     card::show(deck, place, column);

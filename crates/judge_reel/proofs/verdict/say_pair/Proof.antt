@@ -25,11 +25,11 @@ slice-aggregate-say c = search needs
 say-requires : tie.Need-say-requires
 say-requires c κs = search needs
 
-slice-aggregate-say-many : tie.Need-slice-aggregate-say-many
-slice-aggregate-say-many c = search needs
+slice-aggregate-many : tie.Need-slice-aggregate-many
+slice-aggregate-many c = search needs
 
-say-many-requires : tie.Need-say-many-requires
-say-many-requires c κs = search needs
+many-requires : tie.Need-many-requires
+many-requires c κs = search needs
 
 slice-aggregate-say-2 : tie.Need-slice-aggregate-say-2
 slice-aggregate-say-2 c = search needs
@@ -53,8 +53,8 @@ say-pair-spec =
     returns
     slice-aggregate-say
     say-requires
-    slice-aggregate-say-many
-    say-many-requires
+    slice-aggregate-many
+    many-requires
     slice-aggregate-say-2
     say-requires-2
     number-requires
