@@ -4,34 +4,13 @@ ghost use Rattle.rows.specs.Fair.{PlanFair};
 use crate::one;
 use terms::Asked;
 
-// Where the own name begins: behind the last slash.
-fn own_start(path: &[u8]) -> usize {
-    let mut start = 0;
-    let mut i = 0;
-    while i < path.len() {
-        if path[i] == b'/' {
-            start = i + 1;
-        }
-        i += 1;
-    }
-    start
-}
-
-fn own_name(path: &[u8]) -> &[u8] {
-    let start = own_start(path);
-    if path.len() < start {
-        return path;
-    }
-    &path[start..]
-}
-
 // Puts the output's name into the room. One that fills the room is longer than any that a file may have.
 fn out_name(folder: &[u8], path: &[u8], room: &mut [u8]) -> usize
     ensures { λ r. ⌜ Counts r (now (room .exit)) ⌝ }
 {
     let placed = files::put(room, 0, folder);
     let slashed = files::put(room, placed, b"/");
-    files::put(room, slashed, own_name(path))
+    files::put(room, slashed, files::own(path))
 }
 
 pub(crate) fn convert(

@@ -21,16 +21,8 @@ fn entry_room() -> [u8; ENTRY]
     [0; ENTRY]
 }
 
-// The first bytes of the room, at most all.
-fn front(room: &[u8], size: usize) -> &[u8] {
-    if room.len() < size {
-        return room;
-    }
-    &room[..size]
-}
-
 fn too_long(name: &[u8]) {
-    notices::say(front(name, 60));
+    notices::say(files::front(name, 60));
     notices::say(b"..: this name has more than 4,095 bytes, and no file has such a one\n");
 }
 
@@ -98,7 +90,7 @@ fn behind(entry: &[u8], at: usize) -> &[u8] {
 // An entry without the blank that stands behind a mode.
 fn modeless(entry: &[u8]) {
     if entry.len() > 0 {
-        notices::say(front(entry, 60));
+        notices::say(files::front(entry, 60));
         notices::say(
             b": before a name its mode, in octal, or nothing, and a blank have to stand\n",
         );
@@ -137,7 +129,7 @@ fn convert_entry(
         modeless(entry);
         return;
     }
-    let mode = mode::read(front(entry, at));
+    let mode = mode::read(files::front(entry, at));
     convert(
         form,
         deck,
@@ -184,7 +176,7 @@ fn take_byte(
         asked,
         fields,
         folder,
-        front(entry, held),
+        files::front(entry, held),
         blocks,
         room,
     );
@@ -278,7 +270,7 @@ fn convert_list(
         asked,
         fields,
         folder,
-        front(&entry, held),
+        files::front(&entry, held),
         blocks,
         room,
     );

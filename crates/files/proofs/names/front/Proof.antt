@@ -1,8 +1,8 @@
--- So many bytes are in the room, so they can be lent.
+-- So many bytes are there, so they can be lent.
 use borrow.Author.Needs.{needs}
 use Rattle.io.proofs.Counting.{front}
-use Rattle.convert_reels.proofs.list.front.Statement.{statement}
-use Rattle.convert_reels.proofs.list.front.Tie as tie
+use Rattle.files.proofs.names.front.Statement.{statement}
+use Rattle.files.proofs.names.front.Tie as tie
 
 returns : tie.Need-returns
 returns c = search needs

@@ -3,8 +3,8 @@ use borrow.Author.Needs.{needs}
 use native.Mathlib.Omega.{arith}
 use Prim.Native.Nat.{_-_}
 use lib.ListN.{length}
-use Rattle.convert_reels.proofs.folder.own_start.Statement.{statement}
-use Rattle.convert_reels.proofs.folder.own_start.Tie as tie
+use Rattle.files.proofs.names.own_start.Statement.{statement}
+use Rattle.files.proofs.names.own_start.Tie as tie
 
 abbrev Inv-loop : tie.InvT-loop
 Inv-loop path start₀ i₀ start i = Unit {0}
