@@ -1,45 +1,30 @@
 // What refusals 1 to 10, of a deck, say.
-use crate::card;
 use crate::half;
 use crate::number;
 use crate::say;
 
+// What refusal 3 says.
+fn unread() {
+    say(
+        b"what stands on this card cannot be read from this column on; look at its letters, commas, slashes and parentheses, and for a blank that ends it too early",
+    );
+}
+
 // What refusal 4 says.
 fn twice(deck: &[u8], place: usize, column: usize) {
     say(b"a parameter, or CV, stands here for the second time; the first stands at ");
-    card::first(deck, place, column);
+    card_words::first(deck, place, column);
 }
 
-// What refusal 7 says.
-fn outside(deck: &[u8], place: usize, column: usize) {
-    say(b"this number is outside its limits, which are ");
-    card::limits(deck, place, column);
-}
-
-// What refusals 1, 2, 3 and 5 say.
-fn reading(refusal: usize) {
+// What refusals 1 to 5 and 7, of lines and cards by themselves, say.
+fn reading(deck: &[u8], refusal: usize, place: usize, column: usize) {
     match refusal {
-        1 => say(
-            b"this line is none of the cards: '// U ', '// UTT ', '// FS ' or '// END', 1 to 80 printable bytes, no tab and no carriage return",
-        ),
-        2 => say(
-            b"the cards are not one U card, any number of FS cards and one END card, at most 64 in all; this one is out of order, or is missing",
-        ),
-        3 => say(
-            b"what stands on this card cannot be read from this column on; look at its letters, commas, slashes and parentheses, and for a blank that ends it too early",
-        ),
-        _ => say(b"T, F, A or B is missing on the U card"),
-    }
-}
-
-// What refusals 6, 9 and 10 say.
-fn asking(refusal: usize) {
-    match refusal {
-        6 => say(b"the 65th field stands on this card; 64 are allowed"),
-        9 => say(
-            b"this field, counted through all FS cards, reaches outside its records; look at its places and sizes, and at the first numbers of A and B, or the lengths of key and data",
-        ),
-        _ => say(b"no value of this half byte would do for all fields that read it"),
+        1 => card_words::no_card(deck, place),
+        2 => card_words::disorder(deck, place),
+        3 => unread(),
+        4 => twice(deck, place, column),
+        5 => card_words::lacking(deck),
+        _ => card_words::outside_limits(deck, place, column),
     }
 }
 
@@ -62,6 +47,13 @@ fn combining(place: usize) {
     );
 }
 
+// What refusal 9 says.
+fn reaching() {
+    say(
+        b"this field, counted through all FS cards, reaches outside its records; look at its places and sizes, and at the first numbers of A and B, or the lengths of key and data",
+    );
+}
+
 // How long the key is that the cards give, or 0.
 fn key(deck: &[u8]) -> usize {
     let mut row = [0u16; 320];
@@ -79,7 +71,7 @@ fn where_it_is(deck: &[u8], refusal: usize, place: usize, column: usize) {
             number(place);
         }
         10 => half(place, key(deck)),
-        _ => card::spot(place, column),
+        _ => card_words::spot(place, column),
     }
 }
 
@@ -87,10 +79,10 @@ pub(crate) fn explain(deck: &[u8], refusal: usize, place: usize, column: usize) 
     where_it_is(deck, refusal, place, column);
     say(b": ");
     match refusal {
-        1 | 2 | 3 | 5 => reading(refusal),
-        4 => twice(deck, place, column),
-        7 => outside(deck, place, column),
+        6 => say(b"the 65th field stands on this card; 64 are allowed"),
         8 => combining(place),
-        _ => asking(refusal),
+        9 => reaching(),
+        10 => say(b"no value of this half byte would do for all fields that read it"),
+        _ => reading(deck, refusal, place, column),
     }
 }

@@ -1,27 +1,16 @@
-// What programs tell people: the line of numbers on standard output, and in plain words on standard error what was refused, where, and
-// what to look at, or what a plan loses. The words of refusals 1 to 10 stand in `deck`, and what they say of a card with a column in `card`; 16, by which a plan
-// that keeps has no twins, is said here. Those of a reel are said where the reel is at hand, by `reports`. How a field is named stands in `field`, and what is
-// said of records that are not taken in `taken`.
-mod card;
+// What programs tell people: the line of numbers on standard output, and in plain words on standard error what was refused, where, and what was found, or what
+// a plan loses. Which words a refusal of 1 to 10 has stands in `deck`: what stands on the cards says the crate `card_words`; 16, by which a plan that keeps has no
+// twins, is said here. Those of a reel are said where the reel is at hand, by `reports`. What is said of records that are not taken stands in `taken`.
 mod deck;
-mod field;
 mod taken;
 
-pub use field::field_on_card;
-use libc::STDERR_FILENO;
+pub use card_words::field_on_card;
+pub use card_words::number;
+pub use card_words::say;
 use libc::STDOUT_FILENO;
 use plans::DeckPlan;
 pub use taken::left_out;
 pub use taken::none_taken;
-
-// Words on standard error.
-pub fn say(text: &[u8]) {
-    io::write_all(STDERR_FILENO, text);
-}
-
-pub fn number(n: usize) {
-    io::print_decimal(STDERR_FILENO, n as u64);
-}
 
 // The numbers on standard output, with a blank between.
 pub fn line(numbers: &[usize]) {
@@ -81,7 +70,7 @@ pub fn refused(deck: &[u8], refusal: usize, place: usize, column: usize) {
         say(b": the plan keeps: no two records become alike, so there are no twins to show");
     }
     say(b"\n");
-    card::show(deck, place, column);
+    card_words::show(deck, place, column);
 }
 
 // A half byte of the first n bytes is lost, or the tail, whose place is 2n.

@@ -3,8 +3,8 @@ use Prim.Native.Nat.{_-_}
 use native.Mathlib.Omega.{arith}
 use borrow.Author.Needs.{needs}
 use lib.ListN.{length}
-use Rattle.notices.proofs.card.is_open.Statement.{statement}
-use Rattle.notices.proofs.card.is_open.Tie as tie
+use Rattle.card_words.proofs.limit.is_open.Statement.{statement}
+use Rattle.card_words.proofs.limit.is_open.Tie as tie
 
 abbrev Inv-loop : tie.InvT-loop
 Inv-loop part inside₀ i₀ inside i = Unit {0}

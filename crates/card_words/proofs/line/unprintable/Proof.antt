@@ -1,19 +1,18 @@
 -- The bytes that are left fall, so the loop ends.
 use Prim.Native.Nat.{_-_}
-use native.Mathlib.Omega.{arith}
 use borrow.Author.Needs.{needs}
 use lib.ListN.{length}
-use Rattle.notices.proofs.card.behind_digits.Statement.{statement}
-use Rattle.notices.proofs.card.behind_digits.Tie as tie
+use Rattle.card_words.proofs.line.unprintable.Statement.{statement}
+use Rattle.card_words.proofs.line.unprintable.Tie as tie
 
 abbrev Inv-loop : tie.InvT-loop
-Inv-loop part i₀ i = Unit {0}
+Inv-loop line i₀ i = Unit {0}
 
 abbrev μ-loop : tie.MeasureT-loop
-μ-loop part i₀ i = length part - i
+μ-loop line i₀ i = length line - i
 
 loop-holds : tie.Need-loop-holds Inv-loop μ-loop
-loop-holds c = tt
+loop-holds c = search needs
 
 shared-slice-read-if1 : tie.Need-shared-slice-read-if1 Inv-loop μ-loop
 shared-slice-read-if1 c = search needs
@@ -21,26 +20,26 @@ shared-slice-read-if1 c = search needs
 shared-slice-read-if2 : tie.Need-shared-slice-read-if2 Inv-loop μ-loop
 shared-slice-read-if2 c = search needs
 
-shared-slice-read-result : tie.Need-shared-slice-read-result Inv-loop μ-loop
-shared-slice-read-result c = search needs
+add-result : tie.Need-add-result Inv-loop μ-loop
+add-result c = search needs
 
 returns : tie.Need-returns Inv-loop μ-loop
-returns c = tt
+returns c = search needs
 
 add-i : tie.Need-add-i Inv-loop μ-loop
-add-i c = omega arith
+add-i c = search needs
 
 loop-less : tie.Need-loop-less Inv-loop μ-loop
-loop-less c = omega arith
+loop-less c = search needs
 
 loop-again : tie.Need-loop-again Inv-loop μ-loop
-loop-again c = tt
+loop-again c = search needs
 
 returns-2 : tie.Need-returns-2 Inv-loop μ-loop
-returns-2 c = tt
+returns-2 c = search needs
 
-pub behind-digits-spec : {M : Type 1} → statement M
-behind-digits-spec =
+pub unprintable-spec : {M : Type 1} → statement M
+unprintable-spec =
     tie.close
     (tie.spec
     Inv-loop
@@ -48,7 +47,7 @@ behind-digits-spec =
     loop-holds
     shared-slice-read-if1
     shared-slice-read-if2
-    shared-slice-read-result
+    add-result
     returns
     add-i
     loop-less

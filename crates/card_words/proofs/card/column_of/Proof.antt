@@ -3,8 +3,8 @@ use Prim.Native.Nat.{_-_}
 use native.Mathlib.Omega.{arith}
 use borrow.Author.Needs.{needs}
 use lib.ListN.{length}
-use Rattle.notices.proofs.card.column_of.Statement.{statement}
-use Rattle.notices.proofs.card.column_of.Tie as tie
+use Rattle.card_words.proofs.card.column_of.Statement.{statement}
+use Rattle.card_words.proofs.card.column_of.Tie as tie
 
 abbrev Inv-loop : tie.InvT-loop
 Inv-loop card byte i₀ i = Unit {0}

@@ -3,23 +3,26 @@ use Prim.Native.Nat.{_-_}
 use native.Mathlib.Omega.{arith}
 use borrow.Author.Needs.{needs}
 use lib.ListN.{length}
-use Rattle.notices.proofs.card.parameter.Statement.{statement}
-use Rattle.notices.proofs.card.parameter.Tie as tie
+use Rattle.card_words.proofs.limit.behind_digits.Statement.{statement}
+use Rattle.card_words.proofs.limit.behind_digits.Tie as tie
 
 abbrev Inv-loop : tie.InvT-loop
-Inv-loop card letter before₀ i₀ before i = Unit {0}
+Inv-loop part i₀ i = Unit {0}
 
 abbrev μ-loop : tie.MeasureT-loop
-μ-loop card letter before₀ i₀ before i = length card - i
+μ-loop part i₀ i = length part - i
 
 loop-holds : tie.Need-loop-holds Inv-loop μ-loop
 loop-holds c = tt
 
-shared-slice-read-byte : tie.Need-shared-slice-read-byte Inv-loop μ-loop
-shared-slice-read-byte c = search needs
+shared-slice-read-if1 : tie.Need-shared-slice-read-if1 Inv-loop μ-loop
+shared-slice-read-if1 c = search needs
 
-add-result : tie.Need-add-result Inv-loop μ-loop
-add-result c = omega arith
+shared-slice-read-if2 : tie.Need-shared-slice-read-if2 Inv-loop μ-loop
+shared-slice-read-if2 c = search needs
+
+shared-slice-read-result : tie.Need-shared-slice-read-result Inv-loop μ-loop
+shared-slice-read-result c = search needs
 
 returns : tie.Need-returns Inv-loop μ-loop
 returns c = tt
@@ -36,15 +39,16 @@ loop-again c = tt
 returns-2 : tie.Need-returns-2 Inv-loop μ-loop
 returns-2 c = tt
 
-pub parameter-spec : {M : Type 1} → statement M
-parameter-spec =
+pub behind-digits-spec : {M : Type 1} → statement M
+behind-digits-spec =
     tie.close
     (tie.spec
     Inv-loop
     μ-loop
     loop-holds
-    shared-slice-read-byte
-    add-result
+    shared-slice-read-if1
+    shared-slice-read-if2
+    shared-slice-read-result
     returns
     add-i
     loop-less

@@ -1,0 +1,57 @@
+-- The bytes that are left fall, so the loop ends; a byte that is no digit stands in the part, so what stands before it can be lent.
+use Prim.Native.Nat.{_-_}
+use native.Mathlib.Omega.{arith}
+use borrow.Author.Needs.{needs}
+use lib.ListN.{length}
+use Rattle.io.proofs.Counting.{front}
+use Rattle.card_words.proofs.limit.digits.Statement.{statement}
+use Rattle.card_words.proofs.limit.digits.Tie as tie
+
+abbrev Inv-loop : tie.InvT-loop
+Inv-loop part i₀ i = Unit {0}
+
+abbrev μ-loop : tie.MeasureT-loop
+μ-loop part i₀ i = length part - i
+
+loop-holds : tie.Need-loop-holds Inv-loop μ-loop
+loop-holds c = search needs
+
+shared-slice-read-if1 : tie.Need-shared-slice-read-if1 Inv-loop μ-loop
+shared-slice-read-if1 c = search needs
+
+shared-slice-read-if2 : tie.Need-shared-slice-read-if2 Inv-loop μ-loop
+shared-slice-read-if2 c = search needs
+
+slice-aggregate-result : tie.Need-slice-aggregate-result Inv-loop μ-loop
+slice-aggregate-result c = front _ _ (omega arith)
+
+returns : tie.Need-returns Inv-loop μ-loop
+returns c = search needs
+
+add-i : tie.Need-add-i Inv-loop μ-loop
+add-i c = search needs
+
+loop-less : tie.Need-loop-less Inv-loop μ-loop
+loop-less c = search needs
+
+loop-again : tie.Need-loop-again Inv-loop μ-loop
+loop-again c = search needs
+
+returns-2 : tie.Need-returns-2 Inv-loop μ-loop
+returns-2 c = search needs
+
+pub digits-spec : {M : Type 1} → statement M
+digits-spec =
+    tie.close
+    (tie.spec
+    Inv-loop
+    μ-loop
+    loop-holds
+    shared-slice-read-if1
+    shared-slice-read-if2
+    slice-aggregate-result
+    returns
+    add-i
+    loop-less
+    loop-again
+    returns-2)
