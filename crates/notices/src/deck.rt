@@ -1,7 +1,9 @@
 // What refusals 1 to 10, of a deck, say.
+use crate::combination;
 use crate::half;
 use crate::number;
 use crate::say;
+use cards::DeckRead;
 
 // What refusal 3 says.
 fn unread() {
@@ -28,23 +30,21 @@ fn reading(deck: &[u8], refusal: usize, place: usize, column: usize) {
     }
 }
 
-// What refusal 8 says: at the U card the combinations of its parameters, elsewhere what an FS card may not be.
-fn combining(place: usize) {
-    if place > 1 {
-        say(
-            b"this card does not go with the U card: TC and TR allow no FS card, CV stands only with FV, and (K,r) only where A gives a key",
-        );
+// What the cards ask for.
+fn read(deck: &[u8]) -> DeckRead {
+    let mut row = [0u16; 320];
+    cards::read_deck(deck, &mut row)
+}
+
+// What refusal 8 says.
+fn combining(deck: &[u8], place: usize) {
+    let read = read(deck);
+    let asked = read.asked;
+    if read.refusal != 0 {
+        say(b"the cards do not go together");
         return;
     }
-    say(
-        b"the parameters do not go together: FU only with TC, format FS only with TC or TR; TC only with R1 and A equal to B; ",
-    );
-    say(
-        b"two numbers in A and B for FF, one for FU and FS, for FV two with TF or TRF and else one; in FF m a multiple of n; ",
-    );
-    say(
-        b"in FF equal n for TR, equal m divided by n for TF; in FV n+8 at most m; TF and TRF need an FS card; a key only in FF with TF or TRF, and with TF one record to a block of B",
-    );
+    combination::broken(asked, place);
 }
 
 // What refusal 9 says.
@@ -56,8 +56,7 @@ fn reaching() {
 
 // How long the key is that the cards give, or 0.
 fn key(deck: &[u8]) -> usize {
-    let mut row = [0u16; 320];
-    let read = cards::read_deck(deck, &mut row);
+    let read = read(deck);
     let asked = read.asked;
     asked.key
 }
@@ -80,7 +79,7 @@ pub(crate) fn explain(deck: &[u8], refusal: usize, place: usize, column: usize) 
     say(b": ");
     match refusal {
         6 => say(b"the 65th field stands on this card; 64 are allowed"),
-        8 => combining(place),
+        8 => combining(deck, place),
         9 => reaching(),
         10 => say(b"no value of this half byte would do for all fields that read it"),
         _ => reading(deck, refusal, place, column),

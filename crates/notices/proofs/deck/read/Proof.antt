@@ -2,8 +2,8 @@
 use mathlib.Core.Path.{sym}
 use borrow.Author.Needs.{needs}
 use Rattle.rows.proofs.RowLaws.{row-none}
-use Rattle.notices.proofs.deck.key.Statement.{statement}
-use Rattle.notices.proofs.deck.key.Tie as tie
+use Rattle.notices.proofs.deck.read.Statement.{statement}
+use Rattle.notices.proofs.deck.read.Tie as tie
 
 read-deck-requires : tie.Need-read-deck-requires
 read-deck-requires c κs = sym row-none
@@ -11,5 +11,5 @@ read-deck-requires c κs = sym row-none
 returns : tie.Need-returns
 returns c = search needs
 
-pub key-spec : {M : Type 1} → statement M
-key-spec = tie.close (tie.spec read-deck-requires returns)
+pub read-spec : {M : Type 1} → statement M
+read-spec = tie.close (tie.spec read-deck-requires returns)
