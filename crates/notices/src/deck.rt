@@ -36,22 +36,19 @@ fn read(deck: &[u8]) -> DeckRead {
     cards::read_deck(deck, &mut row)
 }
 
-// What refusal 8 says.
-fn combining(deck: &[u8], place: usize) {
+// What refusals 8 and 9, of cards that could be read, say.
+fn asking(deck: &[u8], refusal: usize, place: usize) {
     let read = read(deck);
     let asked = read.asked;
     if read.refusal != 0 {
         say(b"the cards do not go together");
         return;
     }
-    combination::broken(asked, place);
-}
-
-// What refusal 9 says.
-fn reaching() {
-    say(
-        b"this field, counted through all FS cards, reaches outside its records; look at its places and sizes, and at the first numbers of A and B, or the lengths of key and data",
-    );
+    if refusal == 8 {
+        combination::broken(asked, place);
+    } else {
+        card_words::outside_records(deck, asked, place);
+    }
 }
 
 // How long the key is that the cards give, or 0.
@@ -79,8 +76,7 @@ pub(crate) fn explain(deck: &[u8], refusal: usize, place: usize, column: usize) 
     say(b": ");
     match refusal {
         6 => say(b"the 65th field stands on this card; 64 are allowed"),
-        8 => combining(deck, place),
-        9 => reaching(),
+        8 | 9 => asking(deck, refusal, place),
         10 => say(b"no value of this half byte would do for all fields that read it"),
         _ => reading(deck, refusal, place, column),
     }
