@@ -1,8 +1,8 @@
 -- What filling a room comes to follows from what its reads answered, read by read. A scan that goes on where another stopped is one scan of both pieces;
--- and a deck that fills the room is refused, since it is too long to be right.
+-- and a deck that fills the room is refused, since it is too long to be right. Where the scan is settled, what was not read makes no difference.
 use mathlib.Core.Path.{_≡_, refl, ap, sym, _∙_, subst}
 use mathlib.Core.Logic.{_⊎_, inl, inr, ⊎-elim}
-use mathlib.Core.Bool.{Bool, false, cond}
+use mathlib.Core.Bool.{Bool, true, false, cond}
 use mathlib.Core.List.{List, [], _∷_, _++_, append-assoc}
 use Prim.Native.Nat.{ℕ, zero-le, _+_, _-_, _≤_, _<_}
 use native.Mathlib.Omega.{arith}
@@ -14,10 +14,11 @@ use borrow.Author.Tests.{eq-eqb, ne-eqb}
 use Rattle.io.specs.Counts.{Counts}
 use Rattle.io.proofs.Counting.{counts}
 use Rattle.rules.specs.Answer.{Answer, fine, refuse, refusalOf}
-use Rattle.scans.specs.Scanning.{noBytes, scanFrom, scannedOf}
+use Rattle.scans.specs.Scanning.{noBytes, scanFrom, scannedOf, settled}
 use Rattle.scans.specs.declared.Scanner.{Scanner}
 use Rattle.scans.proofs.DeckLaws.{scan-pieces}
 use Rattle.scans.proofs.LongLaws.{long-refused}
+use Rattle.scans.proofs.SettledLaws.{settled-stays}
 use Rattle.inputs.specs.Reading.{readAs, ReadSays, filledFrom, FillSays, Went, FedSays, wholeDeck, bytesUsed, longDeck, deckOf, LongDeckSays}
 use Rattle.inputs.specs.declared.BytesRead.{BytesRead}
 use Rattle.inputs.specs.declared.Fed.{Fed}
@@ -114,3 +115,13 @@ long-deck-refused bytes r h j =
     let n = ap (λ (d : DeckBytes). d .length) (j .2) in
     let s = ap (λ (d : DeckBytes). d .refusal) (j .2) in
     ⊎-elim (λ e. (n ∙ ap bytesUsed e, inl (s ∙ ap refusalOf e))) (λ e. (n ∙ ap bytesUsed e, inr (s ∙ ap refusalOf e))) (l .1)
+
+-- where some bytes settle the scan, the decks that begin with them all come to the same
+settled-alike : (x y : List ℕ) → settled (scanFrom noBytes x) ≡ true → scannedOf (scanFrom noBytes (x ++ y)) ≡ scannedOf (scanFrom noBytes x)
+settled-alike x y e = sym (ap scannedOf (scan-pieces noBytes x y)) ∙ settled-stays (scanFrom noBytes x) y e
+
+-- so an answer that settled bytes were enough for is that of the deck, however it goes on
+pub settled-deck : (bytes more : List ℕ) (r : DeckBytes) → settled (scanFrom noBytes bytes) ≡ true → LongDeckSays bytes r
+    → (failed : Bool) × (r ≡ longDeck (scannedOf (scanFrom noBytes (bytes ++ more))) failed)
+settled-deck bytes more r e j =
+    (j .1, j .2 ∙ ap (λ (x : Answer ℕ). longDeck x (j .1)) (settled-alike bytes (j .0) e ∙ sym (settled-alike bytes more e)))

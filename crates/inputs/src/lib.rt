@@ -82,7 +82,8 @@ fn feed(fd: i32, state: Scanner) -> Fed
     fed_with(scans::scan(state, &room[..n]), read)
 }
 
-// A proved loop has to end, and nothing says that the input does: it counts its turns down, from a number that no run uses up.
+// Reads on until the scan is settled or the input ends. A proved loop has to end, and nothing says that the input does: it counts its turns down, from a number that
+// no run uses up.
 fn feed_all(fd: i32, state: Scanner) -> Fed
     ensures { λ r. ⌜ FedSays state r ⌝ }
 {
@@ -94,6 +95,9 @@ fn feed_all(fd: i32, state: Scanner) -> Fed
     let mut turns = u64::MAX;
     while turns > 0 {
         let now = fed.state;
+        if scans::is_settled(now) {
+            return fed;
+        }
         fed = feed(fd, now);
         if !fed.more {
             return fed;

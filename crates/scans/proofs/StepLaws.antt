@@ -1,8 +1,10 @@
 -- A step of a scan, for code that takes it: what each way through the code answers is what the scan's definition says. By the tests on the way.
-use mathlib.Core.Path.{_≡_}
+use mathlib.Core.Path.{_≡_, refl}
+use mathlib.Core.Bool.{true}
 use mathlib.Core.List.{List}
 use Prim.Native.Nat.{ℕ, _+_, _≤_, _<_}
 use native.Mathlib.Numerals.{add-one}
+use lib.Dec.{ltb}
 use lib.ListN.{length, getD, take, drop, set, drop-of-length-le}
 use lib.Seq.{drop-cons}
 use borrow.Author.Tests.{eq-eqb, ne-eqb, lt-ltb, le-ltb, le-leb, lt-leb}
@@ -11,7 +13,7 @@ use Rattle.lines.specs.Ordering.{cardKindOf, withLine, orderOf}
 use Rattle.lines.specs.declared.CardKind.{CardKind}
 use Rattle.lines.specs.declared.CardKind.the-variants.{Other}
 use Rattle.lines.specs.declared.LinesSeen.{LinesSeen}
-use Rattle.scans.specs.Scanning.{begunKind, seenOf, lineEnded, withByte, stepOf, scanFrom, scannedOf}
+use Rattle.scans.specs.Scanning.{begunKind, seenOf, lineEnded, withByte, stepOf, scanFrom, scannedOf, settled}
 use Rattle.scans.specs.declared.Scanner.{Scanner}
 
 module _ (st : Scanner) where
@@ -64,3 +66,11 @@ module _ (st : Scanner) where
   pub scanned-inside : (st .size ≡ 0 → ⊥) → scannedOf st ≡ orderOf (seenOf (lineEnded st))
   unfolding scannedOf
   scanned-inside n = rw (ne-eqb (st .size) 0 n)
+
+  pub settled-bad : 0 < st .bad → settled st ≡ true
+  unfolding settled
+  settled-bad h = rw (lt-ltb 0 (st .bad) h)
+
+  pub settled-long : st .bad ≤ 0 → settled st ≡ ltb 80 (st .size)
+  unfolding settled
+  settled-long h = rw (le-ltb 0 (st .bad) h)

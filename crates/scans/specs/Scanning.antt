@@ -1,6 +1,6 @@
 -- A scan of a deck, byte by byte: what it knows of the lines that have ended and of the line that is begun. What it comes to is a refusal 1 or 2 of
 -- document 01, "The deck", or the number of the cards.
-use mathlib.Core.Bool.{false, cond}
+use mathlib.Core.Bool.{Bool, true, false, cond}
 use mathlib.Core.List.{List, [], _∷_}
 use Prim.Native.Nat.{ℕ, _+_}
 use lib.Dec.{ltb, leb, eqb}
@@ -60,3 +60,7 @@ scanFrom st (b ∷ bs) = scanFrom (stepOf st b) bs
 -- a line that is begun where the deck ends is the last
 unfoldable pub scannedOf : Scanner → Answer ℕ
 scannedOf st = orderOf (seenOf (cond (eqb (st .size) 0) st (lineEnded st)))
+
+-- nothing that follows changes what it comes to: a line that is no card has ended, or the begun line is longer than any card
+unfoldable pub settled : Scanner → Bool
+settled st = cond (ltb 0 (st .bad)) true (ltb 80 (st .size))

@@ -1,7 +1,7 @@
 // A deck scanned piece by piece, as it is read: what its cards' order comes to, whatever its length (document 01, "The deck"): refusals 1 and 2.
 ghost use mathlib.Core.Path.{_≡_};
 ghost use Rattle.lines.specs.Ordering.{answerOf};
-ghost use Rattle.scans.specs.Scanning.{begunKind, seenOf, lineEnded, withByte, stepOf, noBytes, scanFrom, scannedOf};
+ghost use Rattle.scans.specs.Scanning.{begunKind, seenOf, lineEnded, withByte, stepOf, noBytes, scanFrom, scannedOf, settled};
 use lines::CardKind;
 use lines::LINE_END;
 use lines::LONGEST;
@@ -123,4 +123,14 @@ pub fn scanned(state: Scanner) -> OrderRead
         return lines::order_of(seen_of(state));
     }
     lines::order_of(seen_of(line_ended(state)))
+}
+
+// Whether nothing that follows changes what the scan comes to: a line that is no card has ended, or the begun one is longer than any card.
+pub fn is_settled(state: Scanner) -> bool
+    ensures { λ r. ⌜ r ≡ settled state ⌝ }
+{
+    if 0 < state.bad {
+        return true;
+    }
+    LONGEST < state.size
 }

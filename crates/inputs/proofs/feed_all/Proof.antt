@@ -17,11 +17,17 @@ abbrev μ-loop : tie.MeasureT-loop
 loop-holds : tie.Need-loop-holds Inv-loop μ-loop
 loop-holds c = (_, record { length = 65536; failed = false }, ([], refl), refl)
 
+is-settled-requires : tie.Need-is-settled-requires Inv-loop μ-loop
+is-settled-requires c κs = tt
+
+returns : tie.Need-returns Inv-loop μ-loop
+returns c = c .before .before .before .before .loop .inv
+
 feed-requires : tie.Need-feed-requires Inv-loop μ-loop
 feed-requires c κs = tt
 
-returns : tie.Need-returns Inv-loop μ-loop
-returns c = further _ _ _ (c .before .before .before .before .before .loop .inv) (c .before .before .feed .ensures)
+returns-2 : tie.Need-returns-2 Inv-loop μ-loop
+returns-2 c = further _ _ _ (c .before .before .before .before .before .before .before .loop .inv) (c .before .before .feed .ensures)
 
 sub-turns : tie.Need-sub-turns Inv-loop μ-loop
 sub-turns c = omega arith
@@ -30,10 +36,10 @@ loop-less : tie.Need-loop-less Inv-loop μ-loop
 loop-less c = omega arith
 
 loop-again : tie.Need-loop-again Inv-loop μ-loop
-loop-again c = further _ _ _ (c .before .before .before .before .before .loop .inv) (c .before .before .feed .ensures)
+loop-again c = further _ _ _ (c .before .before .before .before .before .before .before .loop .inv) (c .before .before .feed .ensures)
 
-returns-2 : tie.Need-returns-2 Inv-loop μ-loop
-returns-2 c = c .before .loop .inv
+returns-3 : tie.Need-returns-3 Inv-loop μ-loop
+returns-3 c = c .before .loop .inv
 
 pub feed-all-spec : {M : Type 1} → statement M
 feed-all-spec =
@@ -42,9 +48,11 @@ feed-all-spec =
     Inv-loop
     μ-loop
     loop-holds
-    feed-requires
+    is-settled-requires
     returns
+    feed-requires
+    returns-2
     sub-turns
     loop-less
     loop-again
-    returns-2)
+    returns-3)
