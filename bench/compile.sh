@@ -1,9 +1,9 @@
 # shellcheck shell=bash
-# To be sourced by what measures: how the kit lowers the crates, and how C and what was lowered are compiled. Sets root, kit, home, and by tests/kit.sh rt and tools.
+# To be sourced by what measures: how the kit lowers the crates, and how C and what was lowered are compiled. Sets root, kit, home, and by launcher/kit.sh rt and tools.
 # To lower proves nothing: the kit does it as for `rt try`, and the bodies are those that `rt staticlib` compiles.
 root=$(cd "$(dirname "${BASH_SOURCE[0]}")/.." && pwd -P)
-# shellcheck source=tests/kit.sh
-. "$root/tests/kit.sh"
+# shellcheck source=launcher/kit.sh
+. "$root/launcher/kit.sh"
 kit=$(dirname "$tools")
 home=$(cd "$kit/../.." && pwd -P)
 

@@ -12,8 +12,8 @@ cd "$work" || exit 1
 . "$root/tests/tally.sh"
 
 # The programs are built before anything is compared: a call that has to build one says so among its own words.
-# shellcheck source=tests/kit.sh
-. "$root/tests/kit.sh"
+# shellcheck source=launcher/kit.sh
+. "$root/launcher/kit.sh"
 for program in plan_deck convert_reels show_twins judge_reel; do
     build "$root" "$program" || exit 1
 done
