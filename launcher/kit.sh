@@ -18,7 +18,7 @@ is_built() {
 # Proves a program and all that it stands on, and says which crates are proved.
 prove() {
     echo "building $2: first all that it stands on is proved, which takes some minutes" >&2
-    status=$({ (cd "$1" && "$rt" check "$2" 2>&1; echo $? >&3) | grep '^rt: ' >&2; } 3>&1)
+    status=$({ (cd "$1" && "$rt" check "$2" 2>&1; echo $? >&3) | grep '^rt: ' | grep -v '(unchanged since' >&2; } 3>&1)
     [ "$status" = 0 ] || { echo "$2 could not be built: (cd $1 && rt check $2) says why" >&2; return 2; }
     touch "$1/target/made-$2"
 }

@@ -127,7 +127,7 @@ twins() {
             --reel) given_once "$reel" "${2-}"; reel=$2; shift ;;
             --force) force=yes ;;
             --no-clobber) no_clobber=yes ;;
-            --*) wrong_usage ;;
+            --*) wrong_usage "$1: there is no such option" ;;
             *) given_once "$deck" "$1"; deck=$1 ;;
         esac
         shift
