@@ -9,10 +9,10 @@ checksums() {
     [[ $# -gt 0 ]] || return 0
     mapfile -d '' -t found < <(printf '%s\0' "$@" | xargs -0 sha256sum -z --)
     for entry in "${found[@]}"; do
-        sum_of[${entry:66}]=${entry:0:64}
+        sum_of[=${entry:66}]=${entry:0:64}
     done
     for ((i = 1; i <= $#; i++)); do
-        sums+=("${sum_of[${!i}]:--}")
+        sums+=("${sum_of[=${!i}]:--}")
     done
 }
 

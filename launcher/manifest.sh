@@ -78,7 +78,7 @@ others() {
             *)
                 IFS=' ' read -r _ _ _ _ _ _ _ _ _ reel <<<"$line"
                 own_name "$reel"
-                [[ -n ${member_of[$own]-} ]] || printf '%s\n' "$line"
+                [[ -n ${member_of[=$own]-} ]] || printf '%s\n' "$line"
                 ;;
         esac
     done

@@ -28,6 +28,15 @@ refused_deck() {
 
 # ---- convert-all
 
+# An empty line in a list names nothing.
+drop_empty() {
+    local i
+    for i in "${!reels[@]}"; do
+        [[ -n ${reels[i]} ]] || unset 'reels[i]'
+    done
+    reels=("${reels[@]}")
+}
+
 # The reels: as arguments, or by --names from a file, one to a line or, by --null, each ended by NUL.
 take_reels() {
     local name
@@ -39,11 +48,13 @@ take_reels() {
         readable "$names_from"
         named "$names_from"
         if [[ -n $null ]]; then mapfile -d '' -t reels <"$name"; else mapfile -t reels <"$name"; fi
+        drop_empty
     fi
     [[ ${#reels[@]} -gt 0 ]] || unusable 'no reel is named'
 }
 
-# Each reel has a name of its own, or one output would be written over another; and none that of the manifest.
+# Each reel has a name of its own, or one output would be written over another; and none that of the manifest. In tables of names each has = in front: the shell takes @ and * for all
+# of a table.
 names_differ() {
     local reel own
     for reel in "${reels[@]}"; do
@@ -51,30 +62,28 @@ names_differ() {
         [[ -n $own ]] || unusable "$reel: is no name of a reel"
         [[ $own != - ]] || unusable '-: a reel from standard input has no name; use convert'
         [[ $own != MANIFEST ]] || unusable "$reel: an output of this name would take the place of $folder/MANIFEST"
-        [[ -z ${member_of[$own]-} ]] || unusable "$own: two of the reels have this name, and their outputs would too"
-        member_of[$own]=$reel
+        [[ -z ${member_of[=$own]-} ]] || unusable "$own: two of the reels have this name, and their outputs would too"
+        member_of[=$own]=$reel
     done
 }
 
 # Those that can be converted go into the list, each with the mode that its output has already.
 list_reels() {
-    local entry reel own
+    local entry reel own of
     declare -A modes=()
     while IFS= read -r -d '' entry; do
-        modes[${entry#* }]=${entry%% *}
+        modes[=${entry#* }]=${entry%% *}
     done < <(find "$folder/" -maxdepth 1 -type f -printf '%m %f\0')
     for reel in "${reels[@]}"; do
         own=${reel##*/}
-        if can_read "$reel"; then
-            why_of=$reel
-            can_write "$folder/$own" "${modes[$own]:-0}" "$given_deck" "$reel" || why_of=$folder/$own
-        else
-            why_of=$reel
+        of=$reel
+        if can_read "$reel" && ! can_write "$folder/$own" "${modes[=$own]:-0}" "$given_deck" "$reel"; then
+            of=$folder/$own
         fi
         if [[ -z $why ]]; then
-            list+=("${modes[$own]-} $reel")
+            list+=("${modes[=$own]-} $reel")
         else
-            printf '%s\n' "$why_of: $why" >&2
+            printf '%s\n' "$of: $why" >&2
             also 2
         fi
     done
@@ -115,7 +124,7 @@ read_parts() {
     for line in "${lines[@]}"; do
         status_of "$line"
         also $?
-        [[ $line =~ ^([0-9]+( [0-9]+){4})\ (.*)$ ]] && numbers_of[${BASH_REMATCH[3]}]=${BASH_REMATCH[1]}
+        [[ $line =~ ^([0-9]+( [0-9]+){4})\ (.*)$ ]] && numbers_of[=${BASH_REMATCH[3]}]=${BASH_REMATCH[1]}
     done
     [[ ${#lines[@]} -eq ${#list[@]} ]] || also 2
 }
@@ -133,7 +142,7 @@ tell_parts() {
 gather_members() {
     local reel refused=() sums i
     for reel in "${reels[@]}"; do
-        case ${numbers_of[$reel]-} in
+        case ${numbers_of[=$reel]-} in
             '') ;;
             '0 '*) paths+=("$reel") names+=("$reel") written+=("$folder/${reel##*/}") ;;
             *) refused+=("$reel") ;;
@@ -146,7 +155,7 @@ gather_members() {
     for ((i = 0; i < ${#sums[@]}; i++)); do
         if [[ $i -lt ${#paths[@]} ]]; then reel=${paths[i]}; else reel=${refused[i - ${#paths[@]}]}; fi
         on_a_line "$reel"
-        entries+=("$made_by $deck_sum ${sums[i]} ${outputs[i]:--} ${numbers_of[$reel]} $line_name")
+        entries+=("$made_by $deck_sum ${sums[i]} ${outputs[i]:--} ${numbers_of[=$reel]} $line_name")
     done
 }
 
