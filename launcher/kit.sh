@@ -7,12 +7,12 @@ tools=${RATTLE_HOME:-$(cd "$(dirname "$(readlink -f "$rt")")/.." && pwd -P)}/on/
 
 # Whether a file is there and no older than the crates: is_fresh ROOT FILE.
 is_fresh() {
-    [ -e "$2" ] && [ -z "$(find "$1/crates" -newer "$2" | head -n 1)" ]
+    [ -e "$2" ] && [ -z "$(find "$1/crates" -newer "$2" -print -quit)" ]
 }
 
 # Whether a program of the repository is built: is_built ROOT PROGRAM. One that is older than the crates may have been proved again since, and is marked.
 is_built() {
-    [ -x "$1/target/bin/$2" ] && { is_fresh "$1" "$1/target/bin/$2" || is_fresh "$1" "$1/target/made-$2"; }
+    [ -x "$1/target/bin/$2" ] && { is_fresh "$1" "$1/target/made-$2" || is_fresh "$1" "$1/target/bin/$2"; }
 }
 
 # Proves a program and all that it stands on, and says which crates are proved.
