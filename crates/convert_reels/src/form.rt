@@ -1,75 +1,90 @@
 // What the arguments ask for, by the first of them.
 
-pub(crate) enum Kind {
-    Check,
-    File,
-    Given,
-    Listed,
-}
-
-// The argument that names the deck, or 0 where the arguments cannot be understood; the one behind it; whether modes stand before the names of a list; and what ends
-// each of these and each printed line.
+// The arguments that name the deck, the output's mode, the file or folder of the output, and the first reel; 0 where there is none: no deck where the arguments cannot
+// be understood, no reel where a list names them. Whether the output is a folder; whether modes stand before the names of a list; and what ends each of these and
+// each printed line.
 pub(crate) struct Form {
-    pub(crate) kind: Kind,
     pub(crate) deck: usize,
-    pub(crate) next: usize,
+    pub(crate) mode: usize,
+    pub(crate) out: usize,
+    pub(crate) reel: usize,
+    pub(crate) folder: bool,
     pub(crate) modes: bool,
     pub(crate) end: u8,
 }
 
-fn asked_for(kind: Kind, deck: usize, next: usize, modes: bool, end: u8) -> Form {
+// One reel.
+fn single(deck: usize, mode: usize, out: usize, reel: usize) -> Form {
     Form {
-        kind,
         deck,
-        next,
+        mode,
+        out,
+        reel,
+        folder: false,
+        modes: false,
+        end: b'\n',
+    }
+}
+
+// Many reels into a folder, whose argument stands behind the deck's.
+fn many(deck: usize, out: usize, reel: usize, modes: bool, end: u8) -> Form {
+    Form {
+        deck,
+        mode: 0,
+        out,
+        reel,
+        folder: true,
         modes,
         end,
     }
 }
 
-fn wrong() -> Form {
-    asked_for(Kind::Listed, 0, 0, false, b'\n')
-}
-
-// Of so many arguments, the program's own name among them, where the first is a word.
-fn worded(word: &[u8], count: usize) -> Form {
-    if check::same(word, b"--file") && count == 6 {
-        return asked_for(Kind::File, 3, 4, false, b'\n');
-    }
-    if count != 4 {
-        return wrong();
-    }
+// The form that a word asks for; without a deck where it is no such word.
+fn worded(word: &[u8]) -> Form {
     if check::same(word, b"--check") {
-        return asked_for(Kind::Check, 2, 3, false, b'\n');
+        return single(2, 0, 0, 3);
+    }
+    if check::same(word, b"--file") {
+        return single(3, 2, 4, 5);
     }
     if check::same(word, b"--null") {
-        return asked_for(Kind::Listed, 2, 3, false, 0);
+        return many(2, 3, 0, false, 0);
     }
     if check::same(word, b"--modes") {
-        return asked_for(Kind::Listed, 2, 3, true, 0);
+        return many(2, 3, 0, true, 0);
     }
-    wrong()
+    many(0, 0, 0, false, b'\n')
 }
 
-fn is_word(first: &[u8]) -> bool {
-    check::same(first, b"--check")
-        || check::same(first, b"--file")
-        || check::same(first, b"--null")
-        || check::same(first, b"--modes")
+// Of so many arguments, the program's own name among them, where the first is no word.
+fn wordless(count: usize) -> Form {
+    if count < 3 {
+        return many(0, 0, 0, false, b'\n');
+    }
+    if count == 3 {
+        return many(1, 2, 0, false, b'\n');
+    }
+    many(1, 2, 3, false, b'\n')
+}
+
+// How many arguments a form has that begins with a word.
+fn size(form: Form) -> usize {
+    if form.mode > 0 {
+        return 6;
+    }
+    4
 }
 
 pub(crate) fn read() -> Form {
     let count = os::arg_count();
     let mut first = io::buffer();
     let n = os::arg(1, &mut first);
-    if is_word(&first[..n]) {
-        return worded(&first[..n], count);
+    let form = worded(&first[..n]);
+    if form.deck == 0 {
+        return wordless(count);
     }
-    if count < 3 {
-        return wrong();
+    if count != size(form) {
+        return wordless(0);
     }
-    if count == 3 {
-        return asked_for(Kind::Listed, 1, 2, false, b'\n');
-    }
-    asked_for(Kind::Given, 1, 2, false, b'\n')
+    form
 }

@@ -8,37 +8,20 @@
 //     convert_reels DECK OUTDIR                the same, the names from standard input, one to a line
 //     convert_reels --null DECK OUTDIR         the same, a NUL behind each name and each printed line
 //     convert_reels --modes DECK OUTDIR        the same, and before each name the mode of its output, in octal, or nothing, and a blank
-mod arguments;
-mod folder;
+mod destination;
+mod entry;
 mod form;
 mod line;
 mod list;
 mod mode;
 mod one;
+mod reels;
 
-ghost use Rattle.rows.specs.Fair.{PlanFair};
 use form::Form;
-use form::Kind;
-use terms::Asked;
 
 fn refused(form: Form, deck: &[u8], refusal: usize, place: usize, column: usize) {
     line::print(outcomes::refused(refusal, place, column), b"", form.end);
     notices::refused(deck, refusal, place, column);
-}
-
-// The rooms are made here and lent for every reel. That of the output is the longest reel's: a longer one is refused in any room.
-fn convert_reels(form: Form, deck: &[u8], asked: Asked, fields: &[u16])
-    requires { ⌜ PlanFair asked (now fields) ⌝ }
-{
-    let mut blocks = files::reel_room();
-    let mut room = io::large_buffer();
-    let kind = form.kind;
-    match kind {
-        Kind::Check => arguments::checked(deck, asked, fields, &mut blocks, &mut room),
-        Kind::File => arguments::filed(deck, asked, fields, &mut blocks, &mut room),
-        Kind::Given => arguments::given(deck, asked, fields, &mut blocks, &mut room),
-        Kind::Listed => list::listed(form, deck, asked, fields, &mut blocks, &mut room),
-    }
 }
 
 // What is said of the deck comes before any reel.
@@ -59,7 +42,7 @@ fn convert(form: Form, deck: &[u8]) {
     let asked = plan.asked;
     notices::left_out(asked.first);
     let end = 5 * asked.count;
-    convert_reels(form, deck, asked, &row[..end]);
+    reels::convert(form, deck, asked, &row[..end]);
 }
 
 fn convert_named(form: Form) {

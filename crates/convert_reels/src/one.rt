@@ -1,9 +1,20 @@
 // One reel: read, run over the plan, written and told.
 ghost use Rattle.io.specs.Counts.{Counts};
 ghost use Rattle.rows.specs.Fair.{PlanFair};
+use crate::destination;
+use crate::entry;
+use crate::form::Form;
 use crate::line;
 use outcomes::Ran;
 use terms::Asked;
+
+// The name as it stands behind the numbers and before the words: empty where one reel is converted.
+fn told(form: Form, name: &[u8]) -> &[u8] {
+    if form.folder {
+        return name;
+    }
+    &name[..0]
+}
 
 // Whose words follow, where many are converted.
 fn head(name: &[u8]) {
@@ -37,41 +48,67 @@ fn run(asked: Asked, fields: &[u16], reel: &[u8], room: &mut [u8]) -> Ran
     runs::run_plan(asked, fields, reel, room)
 }
 
-// Whether the output is in its file. An empty name asks for none.
-fn is_stored(out: &[u8], bytes: &[u8], mode: u32) -> bool {
+// Whether the output is in its file. An empty destination asks for none.
+fn is_stored(form: Form, out: &[u8], name: &[u8], bytes: &[u8], mode: u32) -> bool {
     if out.len() == 0 {
         return true;
     }
-    files::write(out, bytes, mode)
+    let mut path = io::buffer();
+    let n = destination::put_name(form, out, name, &mut path);
+    files::write(&path[..n], bytes, mode)
 }
 
-// The reel in the file `path` into the file `out`. The name stands behind the numbers and before the words; where one reel is converted it is empty.
-pub(crate) fn convert(
+// The reel that is named. The output's room is the longest reel's: a longer one is refused in any room.
+fn convert_named(
+    form: Form,
     deck: &[u8],
     asked: Asked,
     fields: &[u16],
-    path: &[u8],
     out: &[u8],
     mode: u32,
     name: &[u8],
-    end: u8,
-    blocks: &mut [u8],
-    room: &mut [u8],
 )
     requires { ⌜ PlanFair asked (now fields) ⌝ }
 {
-    let filled = files::reel(path, blocks);
+    let mut blocks = files::reel_room();
+    let filled = files::reel(name, &mut blocks);
     if filled.failed {
         return;
     }
     let n = filled.length;
-    let ran = run(asked, fields, &blocks[..n], room);
+    let mut room = io::large_buffer();
+    let ran = run(asked, fields, &blocks[..n], &mut room);
     if ran.refusal != 0 {
-        refused(deck, &blocks[..n], ran, name, end);
+        refused(deck, &blocks[..n], ran, told(form, name), form.end);
         return;
     }
     let length = ran.length;
-    if is_stored(out, &room[..length], mode) {
-        finished(ran, asked.first, name, end);
+    if is_stored(form, out, name, &room[..length], mode) {
+        finished(ran, asked.first, told(form, name), form.end);
+    }
+}
+
+// The reel of an entry. Where the entry has no mode the output gets the given one.
+pub(crate) fn convert(
+    form: Form,
+    deck: &[u8],
+    asked: Asked,
+    fields: &[u16],
+    out: &[u8],
+    mode: u32,
+    entry: &[u8],
+)
+    requires { ⌜ PlanFair asked (now fields) ⌝ }
+{
+    if entry::is_usable(form, entry) {
+        convert_named(
+            form,
+            deck,
+            asked,
+            fields,
+            out,
+            entry::mode(form, entry, mode),
+            entry::name(form, entry),
+        );
     }
 }

@@ -35,11 +35,11 @@ array-share-prefix-row c =
     let p = c .before .before .before .before .before .before .plan-deck in
     front-in _ (p .result) (p .last .1 .0) (p .ensures) (c .before .before .before .before .if1 .left)
 
-slice-aggregate-convert-reels : tie.Need-slice-aggregate-convert-reels
-slice-aggregate-convert-reels c = sym (length-take-le _ _ (array-share-prefix-row (c .before)))
+slice-aggregate-convert : tie.Need-slice-aggregate-convert
+slice-aggregate-convert c = sym (length-take-le _ _ (array-share-prefix-row (c .before)))
 
-convert-reels-requires : tie.Need-convert-reels-requires
-convert-reels-requires c κs =
+convert-requires : tie.Need-convert-requires
+convert-requires c κs =
     let p = c .before .before .before .before .before .before .before .plan-deck in
     runnable _ (p .result) (p .last .1 .0) (p .ensures) (c .before .before .before .before .before .if1 .left)
 
@@ -57,6 +57,6 @@ convert-spec =
     left-out-requires
     mul-end
     array-share-prefix-row
-    slice-aggregate-convert-reels
-    convert-reels-requires
+    slice-aggregate-convert
+    convert-requires
     returns-2)

@@ -3,8 +3,8 @@ use borrow.Author.Needs.{needs}
 use native.Mathlib.Omega.{arith}
 use Prim.Native.Nat.{_-_}
 use lib.ListN.{length}
-use Rattle.convert_reels.proofs.list.before_blank.Statement.{statement}
-use Rattle.convert_reels.proofs.list.before_blank.Tie as tie
+use Rattle.convert_reels.proofs.entry.before_blank.Statement.{statement}
+use Rattle.convert_reels.proofs.entry.before_blank.Tie as tie
 
 abbrev Inv-loop : tie.InvT-loop
 Inv-loop entry i₀ i = Unit {0}
