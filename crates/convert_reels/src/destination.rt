@@ -63,10 +63,8 @@ pub(crate) fn read(form: Form, room: &mut [u8]) -> Destination
 pub(crate) fn put_name(form: Form, out: &[u8], reel: &[u8], room: &mut [u8]) -> usize
     ensures { λ r. ⌜ Counts r (now (room .exit)) ⌝ }
 {
-    let placed = files::put(room, 0, out);
-    if !form.folder {
-        return placed;
+    if form.folder {
+        return files::put_in(room, out, reel);
     }
-    let slashed = files::put(room, placed, b"/");
-    files::put(room, slashed, files::own(reel))
+    files::put(room, 0, out)
 }

@@ -9,7 +9,7 @@ pub use given::name;
 pub use given::reel;
 pub use given::reel_room;
 pub use names::front;
-pub use names::own;
+pub use names::put_in;
 pub use output::NO_MODE;
 pub use output::put;
 pub use output::write;
