@@ -31,7 +31,8 @@ with_manifest() {
 
 # Puts standard input in the manifest's place.
 put_manifest() {
-    local part=$folder/.MANIFEST.$$-$RANDOM.part
+    local part
+    printf -v part '%s/.MANIFEST.%d-%04x.part' "$folder" $$ "$RANDOM"
     if ! cat >"$part" || ! mv -f -- "$part" "$folder/MANIFEST"; then
         rm -f -- "$part"
         unusable "$folder/MANIFEST: cannot be written"

@@ -185,10 +185,10 @@ fill_folder() {
     deck_sum=${sums[0]}
     not_of_another
     mkdir -p -- "$folder" || exit 2
+    places=("$folder")
     maker
     on_a_line "$given_deck"
     with_manifest claim
-    places=("$folder")
     list_reels
     start_parts
     watch_parts

@@ -33,7 +33,7 @@ need_work() {
     work=$(mktemp -d "${TMPDIR:-/tmp}/bhexodana.XXXXXX") || exit 2
 }
 
-# Programs that run, and the folders into which they write. What a program writes has a hidden name with its own number in it, until it is whole.
+# Programs that run, and the folders into which they write. What a program writes has a hidden name with its own number in it, until it is whole; and so has what the launcher writes.
 running=() places=()
 
 # Starts a program that writes. Where job control is off, what runs beside has no standard input unless it is handed on.
@@ -50,7 +50,7 @@ interrupted() {
         kill "${running[@]}" 2>/dev/null
         wait
     fi
-    for pid in "${running[@]}"; do
+    for pid in $$ "${running[@]}"; do
         for place in "${places[@]}"; do
             rm -f -- "$place"/.*."$pid"-????.part
         done
