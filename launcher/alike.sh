@@ -7,7 +7,7 @@ checksums() {
     declare -A sum_of=()
     sums=()
     [[ $# -gt 0 ]] || return 0
-    mapfile -d '' -t found < <(printf '%s\0' "$@" | xargs -0 sha256sum -z --)
+    mapfile -d '' -t found < <(printf '%s\0' "$@" | xargs -0 sha256sum -z -- 2>/dev/null)
     for entry in "${found[@]}"; do
         sum_of[=${entry:66}]=${entry:0:64}
     done
@@ -52,7 +52,9 @@ compare() {
     fi
     readable "${words[@]}"
     names=("${words[@]}")
-    [[ " ${names[*]} " != *' - '* ]] || unusable '-: standard input cannot be compared; name files'
+    for i in "${names[@]}"; do
+        [[ $i != - ]] || unusable '-: standard input cannot be compared; name files'
+    done
     checksums "${names[@]}"
     of=("${sums[@]}")
     for ((i = 0; i < ${#of[@]}; i++)); do

@@ -157,6 +157,19 @@ gather_members() {
         on_a_line "$reel"
         entries+=("$made_by $deck_sum ${sums[i]} ${outputs[i]:--} ${numbers_of[=$reel]} $line_name")
     done
+    drop_unread
+}
+
+# An output that cannot be read, as one that keeps such a mode, is not compared.
+drop_unread() {
+    local i
+    for i in "${!outputs[@]}"; do
+        [[ ${outputs[i]} == - ]] || continue
+        printf '%s\n' "${written[i]}: was written, and cannot be read to be compared" >&2
+        also 2
+        unset 'outputs[i]' 'inputs[i]' 'paths[i]' 'names[i]'
+    done
+    outputs=("${outputs[@]}") inputs=("${inputs[@]}") paths=("${paths[@]}") names=("${names[@]}")
 }
 
 convert_all() {

@@ -70,7 +70,7 @@ report() {
     local of=("${outputs[@]}") groups=() numbers first same by
     became_alike= differ=0
     if [[ ${#names[@]} -eq 0 ]]; then
-        printf '%s\n' 'no reel was converted' >&2
+        printf '%s\n' 'there is no output to compare' >&2
         return
     fi
     group
