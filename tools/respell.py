@@ -21,9 +21,9 @@ DECLARED = re.compile(
 )
 PROOFS = ("Proof.antt", "Invariants.antt", "Answers.antt")
 # Those that a rule does not reach: types with a dash, and names that two definitions would share.
-BY_HAND = {"Asks-for": "AsksFor", "Under-B": "UnderB"}
+BY_HAND = {"Asks-for": "AsksFor", "Asks-once": "AsksOnce", "Under-B": "UnderB"}
 # Lemmas about a type, whose dash joins it to their own word.
-ON_TYPES = {"Nearer-wf", "Asks-once"}
+ON_TYPES = {"Nearer-wf"}
 
 
 def text_of(path):
@@ -59,6 +59,12 @@ def declared(own_crates):
                 found[m.group(3)].add("inner")
             else:
                 found[m.group(3)].add("spec" if "/specs/" in path else "lemma")
+        # Several names before one colon, and names that a term binds.
+        if not proof:
+            text = text_of(path)
+            for n in set(TOKEN.findall(no_comments(text))) - imported(text, own_crates) - set(found):
+                if "-" in n or re.match(r"[a-z].*[A-Z]", n):
+                    found[n].add("inner")
     return found
 
 

@@ -12,7 +12,7 @@ use borrow.Author.Tests.{eq-eqb, ne_eqb, le-leb}
 use Rattle.rules.specs.Base.{joined}
 use Rattle.rules.specs.Places.{Both, none_left, both}
 use Rattle.rules.specs.Deck.{before_fs}
-use Rattle.rules.specs.Grammar.{Part, inData, inKey, Item, field, cv}
+use Rattle.rules.specs.Grammar.{Part, in_data, in_key, Item, field, cv}
 use Rattle.rules.specs.Texts.{ItemText, FsText}
 use Rattle.rules.specs.Words.{Worded, fs_words, values_of, again_column, number_columns, outside_column, first_column, outside_in, outside_among}
 use Rattle.rules.specs.Asked.{cvs, same_cv, cv_column, item_numbers, field_column}
@@ -43,8 +43,8 @@ counted_leaves n card = go (ltb n.count 64) refl
 -- so does the part of a field
 named_leaves : (n : Noted) (card : ℕ) (part : Part)
     → ((key_noted (field_counted n card) card part).cv ≡ n.cv) × (second (key_noted (field_counted n card) card part) ≡ second n) × (outside (key_noted (field_counted n card) card part) ≡ outside n)
-named_leaves n card inData = counted_leaves n card
-named_leaves n card inKey = counted_leaves n card
+named_leaves n card in_data = counted_leaves n card
+named_leaves n card in_key = counted_leaves n card
 
 -- a field leaves what is noted of CV
 field_leaves : (n : Noted) (card : ℕ) (part : Part) (out : ℕ) → ((field_noted n card part out).cv ≡ n.cv) × (second (field_noted n card part out) ≡ second n)

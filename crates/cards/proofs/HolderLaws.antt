@@ -29,7 +29,7 @@ use Rattle.cards.specs.declared.DeckRead.{DeckRead}
 use Rattle.cards.specs.Selected.{NotedRow, ListSays, with_words}
 use Rattle.cards.specs.Deck.{cards_in, fs_first, OperandAt, Operandless, CardAtSays, FsFine}
 use Rattle.cards.specs.Promise.{Accepts, DeckSays, InOrder, card_of_field}
-use Rattle.cards.specs.contracts.CardAt as card-type
+use Rattle.cards.specs.contracts.CardAt as card_type
 use Rattle.cards.proofs.NotedLaws.{all_fields, many_fields}
 use Rattle.cards.proofs.RowLaws.{words_key, words_many}
 use Rattle.cards.proofs.DeckLaws.{no_more_lem}
@@ -204,7 +204,7 @@ module _ (deck : List ℕ) (r : DeckRead) (row : List ℕ) (h : DeckSays deck r 
     pub accepted_cards : All IsCard (cards_in deck)
     accepted_cards = all_cards deck order.0 order.1
 
-    pub accepted_first : (x : CardAt) → CardAtSays deck 0 x → (tag_of card-type.the_type x ≡ 1) ⊎ (tag_of card-type.the_type x ≡ 2) → ⊥
+    pub accepted_first : (x : CardAt) → CardAtSays deck 0 x → (tag_of card_type.the_type x ≡ 1) ⊎ (tag_of card_type.the_type x ≡ 2) → ⊥
     accepted_first x k t = first_known deck order.0 order.1 x k t
 
     module _ (start end next : ℕ) (u : OperandAt (u_card (start - 0)) deck 0 start end next) where

@@ -10,7 +10,7 @@ use lib.ListN.{length, length-append}
 use borrow.Author.Tests.{ltb-true, ltb-false, eqb-true, eqb-false}
 use Rattle.rules.specs.Base.{joined, every}
 use Rattle.rules.specs.Answer.{each}
-use Rattle.rules.specs.Grammar.{Part, inData, inKey, CardField, Item, field, cv}
+use Rattle.rules.specs.Grammar.{Part, in_data, in_key, CardField, Item, field, cv}
 use Rattle.rules.specs.Asked.{fields_of, cvs, up_to, field_limits}
 use Rattle.rules.specs.Plan.{is_key, key_fields}
 use Rattle.rules.specs.Rows.{on_all_cards}
@@ -146,7 +146,7 @@ module _ (cs : List (List Item)) (c : List Item) where
     tells_named x p = go f.part refl
       where
         go : (q : Part) → f.part ≡ q → Named (key_noted x card q)
-        go inData e =
+        go in_data e =
             let none : key_fields (f ∷ []) ≡ 0 = ap (λ (k : Part). cond (is_key k) 1 0 + 0) e in
             record {
               count = p.count;
@@ -156,7 +156,7 @@ module _ (cs : List (List Item)) (c : List Item) where
               twice = p.twice;
               beyond = p.beyond;
             }
-        go inKey e =
+        go in_key e =
             let one : key_fields (f ∷ []) ≡ 1 = ap (λ (k : Part). cond (is_key k) 1 0 + 0) e in
             record {
               count = p.count;

@@ -38,7 +38,7 @@ use Rattle.cards.specs.Parameters.{UListed}
 use Rattle.cards.specs.Deck.{cards_in, fs_first, OperandAt, Operandless, CardAtSays, FsRead, FsSaid}
 use Rattle.cards.specs.CardRefusals.{judged_as}
 use Rattle.cards.specs.Promise.{refused_deck, DeckAnswered, DeckReads, InOrder}
-use Rattle.cards.specs.contracts.CardAt as card-type
+use Rattle.cards.specs.contracts.CardAt as card_type
 use Rattle.cards.proofs.RowLaws.{Fair, Holds, holds_cards}
 use Rattle.cards.proofs.ListedLaws.{words_fair}
 use Rattle.cards.proofs.DeckLaws.{fs_all, cards_ordered}
@@ -117,7 +117,7 @@ module _ (deck : List ℕ) (fs : ℕ) (order : InOrder deck fs) where
       omega arith
 
   -- so that what was read of it has the number of `UAt`
-  pub first_known : (r : CardAt) → CardAtSays deck 0 r → (tag_of card-type.the_type r ≡ 1) ⊎ (tag_of card-type.the_type r ≡ 2) → ⊥
+  pub first_known : (r : CardAt) → CardAtSays deck 0 r → (tag_of card_type.the_type r ≡ 1) ⊎ (tag_of card_type.the_type r ≡ 2) → ⊥
   first_known (UAt start end next) h k = ⊎_elim (λ e. omega arith) (λ e. omega arith) k
   first_known (FsAt start end next) h k = first_not_fs start end next h
   first_known NoOperand h k = first_u h

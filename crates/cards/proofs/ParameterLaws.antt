@@ -12,7 +12,7 @@ use lib.Seq.{drop-cons, drop-drop, get_or-set_same, get_or-set_other, length-tak
 use borrow.Author.Tests.{eqb-true, eqb-false, ne_eqb}
 use Rattle.rules.specs.Places.{All, also}
 use Rattle.rules.specs.Reader.{Read, read, stopped, list_of}
-use Rattle.rules.specs.Grammar.{Format as RuleFormat, ff, fv, Parameter, mode_is, format_is, input_is, output_is, rewindIn, rewindOut, first_is, parameter}
+use Rattle.rules.specs.Grammar.{Format as RuleFormat, ff, fv, Parameter, mode_is, format_is, input_is, output_is, rewind_in, rewind_out, first_is, parameter}
 use Rattle.rules.specs.Words.{Worded, worded, values_of, again_column, number_columns, outside_column, first_column, outside_among}
 use Rattle.rules.specs.Asked.{letter, among, distinct, same_letter, parameter_numbers, GivenParameters, note, given}
 use Rattle.rules.proofs.Grammar.ReaderLaws.{Within}
@@ -38,8 +38,8 @@ letter_small (mode_is m) = omega arith
 letter_small (format_is f) = omega arith
 letter_small (input_is s) = omega arith
 letter_small (output_is s) = omega arith
-letter_small rewindIn = omega arith
-letter_small rewindOut = omega arith
+letter_small rewind_in = omega arith
+letter_small rewind_out = omega arith
 letter_small (first_is n) = omega arith
 
 -- ---- no parameter

@@ -32,7 +32,7 @@ format_once f g e = let q : FormatIs f ≡ FormatIs g = parameter_once (FormatIs
 size_once : (z y : Size) → size_of z ≡ size_of y → z ≡ y
 size_once z y e = let q : OutputIs z ≡ OutputIs y = parameter_once (OutputIs z) (OutputIs y) (ap (λ x. output_is x) e) in cc
 
-module _ (r q : DeckRead) (one-row other_row : List ℕ) (a : RuleAsked) (x : Accepts r one-row a) (y : Accepts q other_row a) where
+module _ (r q : DeckRead) (one_row other_row : List ℕ) (a : RuleAsked) (x : Accepts r one_row a) (y : Accepts q other_row a) where
   abbrev one : Asked
   one = r.asked
 
@@ -57,7 +57,7 @@ module _ (r q : DeckRead) (one-row other_row : List ℕ) (a : RuleAsked) (x : Ac
       let w : one.keyed ≡ other.keyed = x.means.keyed ∙ sym y.means.keyed in
       λ i. record { mode = m i; format = f i; input = n i; output = o i; first = (u i).first; key = k i; count = c i; fs = s i; cv = v i; keyed = w i }
 
-  accepts_once : (r ≡ q) × (one-row ≡ other_row)
+  accepts_once : (r ≡ q) × (one_row ≡ other_row)
   accepts_once =
       let e : r.refusal ≡ q.refusal = x.refusal ∙ sym y.refusal in
       let f : r.place ≡ q.place = x.place ∙ sym y.place in
@@ -115,11 +115,11 @@ cleared deck r before after n h = go (asked_of deck) h
 
 -- ---- one outcome
 
-pub only_one : (deck : List ℕ) (r q : DeckRead) (one-row other_row : List ℕ) → DeckSays deck r one-row → DeckSays deck q other_row → (r ≡ q) × (one-row ≡ other_row)
-only_one deck r q one-row other_row e f = go (asked_of deck) refl e.reads f.reads
+pub only_one : (deck : List ℕ) (r q : DeckRead) (one_row other_row : List ℕ) → DeckSays deck r one_row → DeckSays deck q other_row → (r ≡ q) × (one_row ≡ other_row)
+only_one deck r q one_row other_row e f = go (asked_of deck) refl e.reads f.reads
   where
-    go : (x : Answer RuleAsked) → asked_of deck ≡ x → DeckAnswered x r one-row → DeckAnswered x q other_row → (r ≡ q) × (one-row ≡ other_row)
-    go (fine a) w g h = accepts_once r q one-row other_row a g h
+    go : (x : Answer RuleAsked) → asked_of deck ≡ x → DeckAnswered x r one_row → DeckAnswered x q other_row → (r ≡ q) × (one_row ≡ other_row)
+    go (fine a) w g h = accepts_once r q one_row other_row a g h
     go (refuse x) w g h =
         let some : (d : DeckRead) → d ≡ refused_deck x.number x.place x.column → d.refusal ≡ 0 → ⊥
         = λ (d : DeckRead) k z. omega (arith, some_refusal deck x w, z, ap (λ (d : DeckRead). d.refusal) k, (numbers_of x).0) in

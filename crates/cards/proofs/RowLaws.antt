@@ -11,7 +11,7 @@ use borrow.Author.Tests.{lt-ltb, ltb-true, ltb-false}
 use Rattle.rules.specs.Base.{every}
 use Rattle.rules.specs.Places.{All, also}
 use Rattle.rules.specs.Deck.{before_fs}
-use Rattle.rules.specs.Grammar.{Part, inData, inKey, CardField, Item, field, cv}
+use Rattle.rules.specs.Grammar.{Part, in_data, in_key, CardField, Item, field, cv}
 use Rattle.rules.specs.Halves.{over}
 use Rattle.rules.specs.Words.{Worded, values_of, outside_in}
 use Rattle.rules.specs.Asked.{fields_of, field_limits, item_numbers}
@@ -48,18 +48,18 @@ unfolding field_noted field_counted
 field_key n card part out = go (ltb n.count 64) refl part (eqb out 0) refl (eqb n.beyond 0) refl
   where
     go : (c : Bool) → ltb n.count 64 ≡ c → (q : Part) → (a : Bool) → eqb out 0 ≡ a → (b : Bool) → eqb n.beyond 0 ≡ b → (field_noted n card q out).key ≡ n.key
-    go true g inData true e b f = rw (g, e)
-    go true g inData false e true f = rw (g, e, f)
-    go true g inData false e false f = rw (g, e, f)
-    go true g inKey true e b f = rw (g, e)
-    go true g inKey false e true f = rw (g, e, f)
-    go true g inKey false e false f = rw (g, e, f)
-    go false g inData true e b f = rw (g, e)
-    go false g inData false e true f = rw (g, e, f)
-    go false g inData false e false f = rw (g, e, f)
-    go false g inKey true e b f = rw (g, e)
-    go false g inKey false e true f = rw (g, e, f)
-    go false g inKey false e false f = rw (g, e, f)
+    go true g in_data true e b f = rw (g, e)
+    go true g in_data false e true f = rw (g, e, f)
+    go true g in_data false e false f = rw (g, e, f)
+    go true g in_key true e b f = rw (g, e)
+    go true g in_key false e true f = rw (g, e, f)
+    go true g in_key false e false f = rw (g, e, f)
+    go false g in_data true e b f = rw (g, e)
+    go false g in_data false e true f = rw (g, e, f)
+    go false g in_data false e false f = rw (g, e, f)
+    go false g in_key true e b f = rw (g, e)
+    go false g in_key false e true f = rw (g, e, f)
+    go false g in_key false e false f = rw (g, e, f)
 
 pub cv_key : (n : Noted) (card column : ℕ) → (cv_noted n card column).key ≡ n.key
 unfolding cv_noted
@@ -173,12 +173,12 @@ item_many card column out (field f) t l = go f.part ∙ many (ltb t.0.count 64) 
     go q = by q (eqb out 0) refl (eqb t.0.beyond 0) refl
       where
         by : (q : Part) (a : Bool) → eqb out 0 ≡ a → (b : Bool) → eqb t.0.beyond 0 ≡ b → (field_noted t.0 card q out).count ≡ (field_counted t.0 card).count
-        by inData true e b f = rw e
-        by inData false e true f = rw (e, f)
-        by inData false e false f = rw (e, f)
-        by inKey true e b f = rw e
-        by inKey false e true f = rw (e, f)
-        by inKey false e false f = rw (e, f)
+        by in_data true e b f = rw e
+        by in_data false e true f = rw (e, f)
+        by in_data false e false f = rw (e, f)
+        by in_key true e b f = rw e
+        by in_key false e true f = rw (e, f)
+        by in_key false e false f = rw (e, f)
 
 -- those of a card more, up to 64
 pub words_many : (card column : ℕ) (ws : List (Worded Item)) (t : NotedRow) → t.0.count ≤ 64

@@ -3,7 +3,7 @@ use Rattle.std.specs.Prelude.{◌≡◌, cond, List, [], ◌∷◌, ℕ, suc, �
 use Rattle.rules.specs.Halves.{Field as RuleField, over}
 use Rattle.rules.specs.Reader.{Read, read, stopped}
 use Rattle.rules.specs.Deck.{before_fs}
-use Rattle.rules.specs.Grammar.{Part, inData, inKey, Item, field, cv}
+use Rattle.rules.specs.Grammar.{Part, in_data, in_key, Item, field, cv}
 use Rattle.rules.specs.Words.{Worded, first_column, outside_in}
 use Rattle.rules.specs.Asked.{item_numbers}
 use Rattle.terms.specs.declared.Field.{Field}
@@ -28,8 +28,8 @@ field_counted n card =
 
 -- of the first field that is taken from the key the card is noted
 abbrev pub key_noted : Noted → ℕ → Part → Noted
-key_noted n card inData = n
-key_noted n card inKey =
+key_noted n card in_data = n
+key_noted n card in_key =
     record { key = n.key; count = n.count; sixty_fifth = n.sixty_fifth; cv = n.cv; keyed = first_column n.keyed card; second_cv = n.second_cv; second_column = n.second_column; beyond = n.beyond; beyond_column = n.beyond_column }
 
 -- of the first field with a number outside its limits the card and the number's column are noted

@@ -100,7 +100,7 @@ module _ {P : Type 0} (x : Framing P) (base : ℕ) (old : List ℕ) where
           let one : length (x.body (p ∷ [])) ≡ length (x.piece p) = ap length (body_one x p) in
           let n : length y ≡ length old = length_over 4 (hs ++ w) old (omega (arith, length-append hs w, heads_long, length_word start)) in
           let k : base + length j + (x.cost + length (x.piece p)) ≤ length old = omega (arith, length_more x bs (p ∷ [])) in
-          let long-s : length s ≡ x.cost = x.long size in
+          let long_s : length s ≡ x.cost = x.long size in
           ap (λ (o : List ℕ). over end (x.piece p) (over from s o)) (offset_put l at a w (length_word start))
           ∙ ap (over end (x.piece p)) (over_behind base from j s y (e ∙ b) (omega arith))
           ∙ over_behind base end (j ++ s) (x.piece p) y (omega (arith, length-append j s)) (omega arith)
@@ -121,21 +121,21 @@ module _ {P : Type 0} (x : Framing P) (base : ℕ) (old : List ℕ) where
         → end ≡ base + length (bytes_by x (closed ++ (now ∷ [])))
         → over end (x.piece p) (over from (x.size_word size) (laid (closed ++ (now ∷ [])))) ≡ laid (closed ++ ((now ++ (p ∷ [])) ∷ []))
     laid_behind from size end a c d =
-        let old-blocks = closed ++ (now ∷ []) in
+        let old_blocks = closed ++ (now ∷ []) in
         let new = now ++ (p ∷ []) in
         let j = bytes_by x closed in
         let before = x.size_word (x.cost + length (x.body now)) in
         let after = x.size_word size in
         let body = x.body now in
-        let y = headed old-blocks in
+        let y = headed old_blocks in
         let more = length_behind x now p in
-        let room : base + length (bytes_by x old-blocks) + length (x.piece p) ≤ length old = omega (arith, length_more x closed new, length_more x closed now) in
-        let n : length y ≡ length old = headed_length old-blocks front (omega arith) in
+        let room : base + length (bytes_by x old_blocks) + length (x.piece p) ≤ length old = omega (arith, length_more x closed new, length_more x closed now) in
+        let n : length y ≡ length old = headed_length old_blocks front (omega arith) in
         let same : length after ≡ length before = x.long size ∙ sym (x.long (x.cost + length (x.body now))) in
-        let is : bytes_by x old-blocks ≡ j ++ (before ++ body) = mapped_last x.block closed now ∙ ap (j ++◌) (x.is now) in
-        let long : length (j ++ (after ++ body)) ≡ length (bytes_by x old-blocks)
+        let is : bytes_by x old_blocks ≡ j ++ (before ++ body) = mapped_last x.block closed now ∙ ap (j ++◌) (x.is now) in
+        let long : length (j ++ (after ++ body)) ≡ length (bytes_by x old_blocks)
         = omega (arith, ap length is, length-append j (after ++ body), length-append j (before ++ body), length-append after body, length-append before body) in
-        let heads-in : (b : List P) → heads base (map x.block (closed ++ (b ∷ []))) ≡ heads base (map x.block closed) ++ word (base + length (bytes_by x closed))
+        let heads_in : (b : List P) → heads base (map x.block (closed ++ (b ∷ []))) ≡ heads base (map x.block closed) ++ word (base + length (bytes_by x closed))
         = λ b. ap (heads base) (map-append x.block closed (b ∷ [])) ∙ heads_snoc base (map x.block closed) (x.block b) in
         ap (λ (u : List ℕ). over end (x.piece p) (over from after (over base u y))) is
         ∙ ap (over end (x.piece p)) (over_part base from j before after body y a same (omega arith))
@@ -147,7 +147,7 @@ module _ {P : Type 0} (x : Framing P) (base : ℕ) (old : List ℕ) where
         ∙ ap₂ (λ (i : ℕ) (q : List ℕ). x.size_word i ++ q) (let z : size ≡ x.cost + length (x.body new) = omega arith in z) (sym (x.behind now p))
         ∙ sym (x.is new))
         ∙ sym (mapped_last x.block closed new))
-        (heads-in now ∙ sym (heads-in new))
+        (heads_in now ∙ sym (heads_in new))
 
 -- ---- the reel
 

@@ -37,8 +37,8 @@ module _ {t old d : List ℕ} {j : ℕ} (long : length t ≡ length old) where
 
 pub left_start : (t old : List ℕ) → length t ≡ length old → Filling old t old (length old)
 left_start t old e =
-    let atEnd : length t ≤ length old = omega arith in
-    record { upto = omega arith; is = sym (rw (take_all (length old) old (omega arith), drop_of_length-le t atEnd, append-nil) refl); same = sym e }
+    let at_end : length t ≤ length old = omega arith in
+    record { upto = omega arith; is = sym (rw (take_all (length old) old (omega arith), drop_of_length-le t at_end, append-nil) refl); same = sym e }
 
 stored_left : (t old : List ℕ) (j : ℕ) → length t ≡ length old → j < length old → set (take (suc j) old ++ drop (suc j) t) j (get_or t j 0) ≡ take j old ++ drop j t
 stored_left t old j e h =

@@ -171,19 +171,19 @@ module _ (l : List ℕ) (known : IsCard (card_of l)) where
         let t = text_fs card_text.2 letter in
         (t.1, o.from, o.upto, card_text.1 ∙ ap some (t.2 ∙ ap fs_card o.is))
 
-  module _ (notFS : get_or l 3 0 ≡ 0x46 → ⊥) (notEND : get_or l 3 0 ≡ 0x45 → ⊥) where
+  module _ (not_fs : get_or l 3 0 ≡ 0x46 → ⊥) (not_end : get_or l 3 0 ≡ 0x45 → ⊥) where
     pub card_says_u : {e : ℕ} → get_or l 4 0 ≡ 0x20 → OperandEnds l 5 e → CardSays l (UCard 5 e)
     card_says_u b o =
-        let t = text_u card_text.2 notFS notEND b in
+        let t = text_u card_text.2 not_fs not_end b in
         (inl t.0, o.from, o.upto, card_text.1 ∙ ap some (t.1 ∙ ap (u_card 5) o.is))
 
     module _ (fifth : get_or l 4 0 ≡ 0x20 → ⊥) where
       pub seven_bytes : 7 ≤ length l
-      seven_bytes = (text_utt card_text.2 notFS notEND fifth).0
+      seven_bytes = (text_utt card_text.2 not_fs not_end fifth).0
 
       pub card_says_utt : {e : ℕ} → OperandEnds l 7 e → CardSays l (UCard 7 e)
       card_says_utt o =
-          let t = text_utt card_text.2 notFS notEND fifth in
+          let t = text_utt card_text.2 not_fs not_end fifth in
           (inr t.1, o.from, o.upto, card_text.1 ∙ ap some (t.2 ∙ ap (u_card 7) o.is))
 
 -- ---- the line that begins at a place

@@ -7,7 +7,7 @@ use Rattle.rules.specs.Answer.{fine}
 use Rattle.rules.specs.Demand.{Marked}
 use Rattle.rules.specs.Plan.{Plan}
 use Rattle.rules.specs.Lent.{zone_f, plan}
-use Rattle.rules.proofs.Keeping.Demand3.{demand3 as rules-demand3}
+use Rattle.rules.proofs.Keeping.Demand3.{demand3 as rules_demand3}
 use Rattle.plans.specs.Promise.{Plans}
 use Rattle.plans.specs.declared.DeckPlan.{DeckPlan}
 use Rattle.plans.specs.declared.Planned.{Planned}
@@ -21,5 +21,5 @@ demand3 deck r row w z =
     let s = accepted_plan deck r row w z in (
       s.0,
       s.1,
-      subst (λ (n : Planned). Marked s.0 n.keeping n.lost) (sym w.numbers) (rules-demand3 zone_f (omega arith) deck s.0 s.1),
+      subst (λ (n : Planned). Marked s.0 n.keeping n.lost) (sym w.numbers) (rules_demand3 zone_f (omega arith) deck s.0 s.1),
     )

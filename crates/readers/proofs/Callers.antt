@@ -8,11 +8,11 @@ use native.Mathlib.Omega.{arith}
 use lib.ListN.{take, drop}
 use Rattle.rules.specs.Reader.{Reader, number}
 use Rattle.rules.specs.Halves.{Kind as RuleKind, input_size, output_size}
-use Rattle.rules.specs.Grammar.{Size as RuleSize, two, one, Input as RuleInput, plain, keyed, Parameter as RuleParameter, mode_is, format_is, input_is, output_is, rewindIn, rewindOut, first_is, Item, field, cv, Start, parameter, item}
+use Rattle.rules.specs.Grammar.{Size as RuleSize, two, one, Input as RuleInput, plain, keyed, Parameter as RuleParameter, mode_is, format_is, input_is, output_is, rewind_in, rewind_out, first_is, Item, field, cv, Start, parameter, item}
 use Rattle.rules.specs.Words.{number_columns}
 use Rattle.rules.specs.Texts.{SizeText, InputText, ParameterText, KindText, StartText, ItemText}
 use Rattle.rules.proofs.Grammar.ReaderLaws.{Within, within_read, within_number}
-use Rattle.rules.proofs.Grammar.NumberLaws.{number_small as value-small, text_small}
+use Rattle.rules.proofs.Grammar.NumberLaws.{number_small as value_small, text_small}
 use Rattle.rules.proofs.Grammar.ParameterLaws.{within_parameter}
 use Rattle.rules.proofs.Grammar.ItemLaws.{within_item}
 use Rattle.rules.proofs.Grammar.GrammarLaws.{parameter_sound, item_sound}
@@ -52,7 +52,7 @@ cv_takes s n r = takes item within_item s cv n r
 -- ---- at most 99,999
 
 pub number_small : (s : List ℕ) (v n : ℕ) → NumberSays s (IsNumber v n) → v < 100000
-number_small s v n r = value-small s v (drop n s) r.1
+number_small s v n r = value_small s v (drop n s) r.1
 
 abbrev pub SmallSize : RuleSize → Type 0
 SmallSize (two n m) = (n < 100000) × (m < 100000)
@@ -67,8 +67,8 @@ SmallParameter (mode_is m) = Unit
 SmallParameter (format_is f) = Unit
 SmallParameter (input_is i) = SmallInput i
 SmallParameter (output_is z) = SmallSize z
-SmallParameter rewindIn = Unit
-SmallParameter rewindOut = Unit
+SmallParameter rewind_in = Unit
+SmallParameter rewind_out = Unit
 SmallParameter (first_is n) = n < 100000
 
 small_size : {x : List ℕ} {z : RuleSize} → SizeText x z → SmallSize z

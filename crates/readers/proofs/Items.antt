@@ -8,7 +8,7 @@ use lib.ListN.{length, get_or, drop, length-append}
 use lib.Seq.{slice}
 use Rattle.rules.specs.Reader.{read, pure, ◌>>=◌, ◌>>◌, after, text, is_digit, number}
 use Rattle.rules.specs.Halves.{Kind as RuleKind, copy}
-use Rattle.rules.specs.Grammar.{field, Start, start, inData, inKey, kind_reader, item}
+use Rattle.rules.specs.Grammar.{field, Start, start, in_data, in_key, kind_reader, item}
 use Rattle.rules.specs.Words.{number_columns}
 use Rattle.rules.specs.Texts.{NumberText}
 use Rattle.rules.specs.TextParts.{number_then, key_then, sizes_behind, field_behind}
@@ -154,9 +154,9 @@ start_goes s b place to e passed (NoItem a) h = (h.0, e ∙ h.1)
 
 -- `r,`
 module _ (s : List ℕ) (other : get_or s 0 256 ≡ 67 → ⊥) (bare : get_or s 0 256 ≡ 40 → ⊥) where
-  pub item_goes : (v to : ℕ) → ReadsFrom (number_then 44) 0 s v to → (x : ItemRead) → ItemFrom (field_behind (start inData v)) to 0 s x → ItemSays s x
+  pub item_goes : (v to : ℕ) → ReadsFrom (number_then 44) 0 s v to → (x : ItemRead) → ItemFrom (field_behind (start in_data v)) to 0 s x → ItemSays s x
   item_goes v to r x h =
-      start_goes s (start inData v) 0 to (item_field s other bare ∙ rw r.1 refl) (λ n k l. then_passed s 0 44 v to (omega arith) r n refl k l) x h
+      start_goes s (start in_data v) 0 to (item_field s other bare ∙ rw r.1 refl) (λ n k l. then_passed s 0 44 v to (omega arith) r n refl k l) x h
 
   pub item_stops : (a : ℕ) → StopsFrom (number_then 44) 0 s a → Stops item s a
   item_stops a r = (r.0, item_field s other bare ∙ rw r.1 refl)
@@ -222,8 +222,8 @@ module _ (s : List ℕ) (bracket : get_or s 0 256 ≡ 40) where
       mark_passed s 0 false 40 n bracket refl (omega arith) l ∙ ap (number_columns false 1) (text_ahead s 1 to (key_text x.1) i x.2 n (omega arith) k l)
       ∙ key_columns x.1 (slice to n s) x.3 ∙ ap (λ (j : ℕ). 3 ∷ number_columns false j (slice to n s)) (sym e)
 
-  pub key_goes : (v to : ℕ) → ReadsFrom key_then 1 s v to → (x : ItemRead) → ItemFrom (field_behind (start inKey v)) to 3 s x → ItemSays s x
-  key_goes v to r x h = start_goes s (start inKey v) 3 to (item_key s bracket ∙ rw r.1 refl) (key_passed v to r) x h
+  pub key_goes : (v to : ℕ) → ReadsFrom key_then 1 s v to → (x : ItemRead) → ItemFrom (field_behind (start in_key v)) to 3 s x → ItemSays s x
+  key_goes v to r x h = start_goes s (start in_key v) 3 to (item_key s bracket ∙ rw r.1 refl) (key_passed v to r) x h
 
   pub key_item_stops : (a : ℕ) → StopsFrom key_then 1 s a → Stops item s a
   key_item_stops a r = (r.0, item_key s bracket ∙ rw r.1 refl)

@@ -8,7 +8,7 @@ use native.Mathlib.Omega.{arith}
 use lib.ListN.{length, take, drop, length-drop}
 use Rattle.rules.specs.Reader.{Reader, number}
 use Rattle.rules.specs.Halves.{input_size, output_size, Field as RuleField}
-use Rattle.rules.specs.Grammar.{Size as RuleSize, two, one, Input as RuleInput, plain, keyed, Parameter as RuleParameter, mode_is, format_is, input_is, output_is, rewindIn, rewindOut, first_is, Part as RulePart, inData, inKey, CardField, field, cv, parameter, item}
+use Rattle.rules.specs.Grammar.{Size as RuleSize, two, one, Input as RuleInput, plain, keyed, Parameter as RuleParameter, mode_is, format_is, input_is, output_is, rewind_in, rewind_out, first_is, Part as RulePart, in_data, in_key, CardField, field, cv, parameter, item}
 use Rattle.rules.specs.Words.{number_columns}
 use Rattle.rules.proofs.Grammar.ReaderLaws.{not_read, read_value, read_left}
 use Rattle.terms.specs.Meaning.{size_of, input_of, kind_for, OneSize, field_of, part_of, card_field}
@@ -83,8 +83,8 @@ parameter_back (mode_is m) = ModeIs (mode_back m)
 parameter_back (format_is f) = FormatIs (format_back f)
 parameter_back (input_is i) = InputIs (input_back i)
 parameter_back (output_is z) = OutputIs (size_back z)
-parameter_back rewindIn = RewindIn
-parameter_back rewindOut = RewindOut
+parameter_back rewind_in = RewindIn
+parameter_back rewind_out = RewindOut
 parameter_back (first_is n) = FirstIs n
 
 parameter_back_lem : (u : UParameter) → parameter_back (parameter_of u) ≡ u
@@ -130,8 +130,8 @@ pub field_once : (f g : Field) → OneSize f.kind f.input f.output → OneSize g
 field_once f g a b e = sym (field_back_lem f a) ∙ ap field_back e ∙ field_back_lem g b
 
 abbrev part_back : RulePart → Part
-part_back inData = Data
-part_back inKey = Key
+part_back in_data = Data
+part_back in_key = Key
 
 part_back_lem : (p : Part) → part_back (part_of p) ≡ p
 part_back_lem Data = refl

@@ -7,7 +7,7 @@ use native.Mathlib.Omega.{arith}
 use lib.ListN.{length, take, drop}
 use Rattle.rules.specs.Base.{ascii}
 use Rattle.rules.specs.Halves.{Kind as RuleKind}
-use Rattle.rules.specs.Grammar.{Size as RuleSize, two, one, Input as RuleInput, plain, keyed, Parameter as RuleParameter, mode_is, format_is, input_is, output_is, rewindIn, rewindOut, first_is, Item, field, cv, Start, parameter, item}
+use Rattle.rules.specs.Grammar.{Size as RuleSize, two, one, Input as RuleInput, plain, keyed, Parameter as RuleParameter, mode_is, format_is, input_is, output_is, rewind_in, rewind_out, first_is, Item, field, cv, Start, parameter, item}
 use Rattle.rules.specs.Words.{number_columns}
 use Rattle.rules.specs.Texts.{NumberText, SizeText, InputText, ParameterText, KindText, StartText, ItemText}
 use Rattle.rules.proofs.Grammar.NumberLaws.{Ends, at_end, comma_ends, close_ends}
@@ -46,8 +46,8 @@ rule_places (mode_is m) second = []
 rule_places (format_is f) second = []
 rule_places (input_is i) second = input_places i second
 rule_places (output_is z) second = size_places z second
-rule_places rewindIn second = []
-rule_places rewindOut second = []
+rule_places rewind_in second = []
+rule_places rewind_out second = []
 rule_places (first_is n) second = 1 ∷ []
 
 size_text : {x : List ℕ} {z : RuleSize} → SizeText x z → (second : ℕ) × (number_columns false 2 x ≡ size_places z second)
@@ -107,8 +107,8 @@ module _ (s : List ℕ) (n : ℕ) where
   rule_again (input_is (keyed l d)) k = refl
   rule_again (output_is (two n m)) k = refl
   rule_again (output_is (one g)) k = refl
-  rule_again rewindIn k = refl
-  rule_again rewindOut k = refl
+  rule_again rewind_in k = refl
+  rule_again rewind_out k = refl
   rule_again (first_is n) k = refl
 
   rule_same : (u : UParameter) (k : ℕ) → parameter_places u k ≡ rule_places (parameter_of u) k

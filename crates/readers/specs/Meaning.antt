@@ -3,7 +3,7 @@ use Rattle.std.specs.Prelude.{◌≡◌, Bool, false, cond, List, [], ◌∷◌,
 use Rattle.std.proofs.Math.Seq.{slice}
 use Rattle.rules.specs.Reader.{read, stopped, Reader, is_digit, number}
 use Rattle.rules.specs.Halves.{Kind as RuleKind}
-use Rattle.rules.specs.Grammar.{Size as RuleSize, Input as RuleInput, Parameter as RuleParameter, mode_is, format_is, input_is, output_is, rewindIn, rewindOut, first_is, Item, field, cv, parameter, item}
+use Rattle.rules.specs.Grammar.{Size as RuleSize, Input as RuleInput, Parameter as RuleParameter, mode_is, format_is, input_is, output_is, rewind_in, rewind_out, first_is, Item, field, cv, parameter, item}
 use Rattle.rules.specs.Words.{number_columns}
 use Rattle.terms.specs.Meaning.{mode_of, format_of, size_of, input_of, kind_of, OneSize, card_field}
 use Rattle.terms.specs.declared.Size.TheVariants.{Two, One}
@@ -98,8 +98,8 @@ parameter_of (ModeIs m) = mode_is (mode_of m)
 parameter_of (FormatIs f) = format_is (format_of f)
 parameter_of (InputIs i) = input_is (input_of i)
 parameter_of (OutputIs z) = output_is (size_of z)
-parameter_of RewindIn = rewindIn
-parameter_of RewindOut = rewindOut
+parameter_of RewindIn = rewind_in
+parameter_of RewindOut = rewind_out
 parameter_of (FirstIs n) = first_is n
 
 abbrev pub ParameterSays : List ℕ → ParameterRead → Type 0

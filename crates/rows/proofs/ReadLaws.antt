@@ -40,7 +40,7 @@ kind_pack k e = rw e
 
 pub kind_unpack : (k : ℕ) → (k ≡ 0 → ⊥) → (k ≡ 1 → ⊥) → kind_at k ≡ Unpack
 unfolding kind_at
-kind_unpack k no_copy no-pack = rw (ne_eqb k 0 no_copy, ne_eqb k 1 no-pack)
+kind_unpack k no_copy no_pack = rw (ne_eqb k 0 no_copy, ne_eqb k 1 no_pack)
 
 -- ---- what a field reads
 

@@ -1,7 +1,7 @@
 -- Document 02, order 5, in words: what a field of a keyed record reads, and the deck without keys that counts through.
 use Rattle.std.specs.Prelude.{List, map, ℕ, ◌-◌, take, drop}
 use Rattle.rules.specs.Halves.{input_size}
-use Rattle.rules.specs.Grammar.{plain, Part, inData, inKey, CardField, Item, field, cv}
+use Rattle.rules.specs.Grammar.{plain, Part, in_data, in_key, CardField, Item, field, cv}
 use Rattle.rules.specs.Asked.{Utility, Asked}
 use Rattle.rules.specs.Plan.{joined_size, key_length, through}
 
@@ -9,8 +9,8 @@ use Rattle.rules.specs.Plan.{joined_size, key_length, through}
 
 -- behind a key of so many bytes
 abbrev pub part_bytes : ℕ → Part → List ℕ → List ℕ
-part_bytes key inData r = drop key r
-part_bytes key inKey r = take key r
+part_bytes key in_data r = drop key r
+part_bytes key in_key r = take key r
 
 -- what a field reads, as it stands on its card: so many bytes of its own part, from position r on
 unfoldable pub own_input : ℕ → CardField → List ℕ → List ℕ
@@ -20,7 +20,7 @@ own_input key f r = take (input_size f.field.kind) (drop (f.field.r - 1) (part_b
 
 -- r of a data field raised by K
 abbrev pub through_field : ℕ → CardField → CardField
-through_field key f = record { part = inData; field = through key f }
+through_field key f = record { part = in_data; field = through key f }
 
 abbrev pub through_item : ℕ → Item → Item
 through_item key (field f) = field (through_field key f)

@@ -4,7 +4,7 @@ use Rattle.std.specs.Prelude.{◌≡◌, List, ℕ, length, take, drop}
 use Rattle.rules.specs.Base.{joined}
 use Rattle.rules.specs.Places.{Both}
 use Rattle.rules.specs.Halves.{Kind, copy, pack, unpack}
-use Rattle.rules.specs.Grammar.{Parameter, Part, inData, inKey, CardField, Item}
+use Rattle.rules.specs.Grammar.{Parameter, Part, in_data, in_key, CardField, Item}
 use Rattle.rules.specs.Reel.{reel_of}
 use Rattle.rules.specs.Asked.{fields_of}
 use Rattle.rules.specs.Plan.{Plan, PlanAnswer}
@@ -34,8 +34,8 @@ KindIs (unpack n m) kind input output = (kind ≡ 2) × (input ≡ n) × (output
 
 -- its part: data or key
 abbrev pub PartIs : Part → ℕ → Type 0
-PartIs inData part = part ≡ 0
-PartIs inKey part = part ≡ 1
+PartIs in_data part = part ≡ 0
+PartIs in_key part = part ≡ 1
 
 -- an entry holds a field as it stands on its card
 pub record EntryIs (f : CardField) (e : Entry) : Type 0 where

@@ -135,7 +135,7 @@ module _ (asked : Asked) (row : List ℕ) where
       → (c : Bool) (g m : ℕ) → c ≡ is_tc (mode_of asked.mode) → g ≡ block_length (size_of asked.input) → m ≡ block_length (size_of asked.output)
       → (room : ℕ) (s : List ℕ) → spanned_run c g m asked.first room s ≡ conversion room q s
   unfolding conversion plan_in
-  by_spans e c g m is_c is-g is_m room s = rw (is_c, is-g, is_m, e) refl
+  by_spans e c g m is_c is_g is_m room s = rw (is_c, is_g, is_m, e) refl
 
 -- ---- one outcome
 

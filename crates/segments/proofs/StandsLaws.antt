@@ -49,7 +49,7 @@ module _ (g : ℕ) (s : List ℕ) (e : is_reel s ≡ true) where
   step_here : (block i : ℕ) → block ≤ block_count s → i < length (block_part s block) → (here : List Segment) → segments_from (block_part s block) i ≡ some here
       → (later : List (List Segment)) → Both (Reads g) (drop (suc block) (blocks_of s)) later → Step g s (read_at s block i) (here ++ joined later)
   unfolding bytes_at
-  step_here block i m l here left later behind-it =
+  step_here block i m l here left later behind_it =
       let b = block_part s block in
       let f = from_first b i here l left in
       let x = piece_at i (drop i b) in
@@ -70,7 +70,7 @@ module _ (g : ℕ) (s : List ℕ) (e : is_reel s ≡ true) where
               here = f.more;
               left = ap (segments_from b) to ∙ f.next;
               later = later;
-              behind = behind-it;
+              behind = behind_it;
               is = refl;
             };
         bytes =

@@ -196,10 +196,10 @@ module _ (m base : ℕ) (old : List ℕ) (rs : List (List ℕ)) where
             let b = opened_same m t l in
             let same : (opened_of m t).blocks ≡ t.blocks = sym (ap (λ (x : Tally). x.blocks) b) in
             let size : (opened_of m t).size ≡ t.size = sym (ap (λ (x : Tally). x.size) b) in
-            let long-so : (opened_of m t).bytes ≡ t.bytes = sym (ap (λ (x : Tally). x.bytes) b) in
+            let long_so : (opened_of m t).bytes ≡ t.bytes = sym (ap (λ (x : Tally). x.bytes) b) in
             let before = w.size (omega arith) in
             let fit = w.fair.last (omega arith) in
-            let more-spelled : length (spelled (w.here ++ (s ∷ []))) ≡ length (spelled w.here) + (p.size + 4)
+            let more_spelled : length (spelled (w.here ++ (s ∷ []))) ≡ length (spelled w.here) + (p.size + 4)
             = omega (arith, ap length (spelled_more w.here s), length-append (spelled w.here) (segment_piece s), length_piece s) in
             record {
               closed = first ∷ earlier;

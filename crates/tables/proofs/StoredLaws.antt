@@ -12,7 +12,7 @@ use Rattle.rules.specs.Answer.{Answer, fine, refuse}
 use Rattle.rules.specs.Places.{All, no_more, also}
 use Rattle.rules.specs.Halves.{input_size, Field as RuleField}
 use Rattle.rules.specs.Base.{joined}
-use Rattle.rules.specs.Grammar.{Format, Size, Input, plain, keyed, Part, inData, inKey, CardField}
+use Rattle.rules.specs.Grammar.{Format, Size, Input, plain, keyed, Part, in_data, in_key, CardField}
 use Rattle.rules.specs.Asked.{fields_of, asked_of}
 use Rattle.rules.specs.Rows.{FieldWithin, Inside}
 use Rattle.rules.specs.Plan.{Plan, plan_answer, plan_of, assembled, record_length, key_length, part_length, bytes_before, through, inside_part}
@@ -51,14 +51,14 @@ module _ (i : Input) (b : Size) where
       low : 1 ≤ input_size x.field.kind
       low = (sizes_low x.field.kind l.kind).0
 
-      data_again : (k : ℕ) → x.part ≡ inData → on_card k (through k x) ≡ x
+      data_again : (k : ℕ) → x.part ≡ in_data → on_card k (through k x) ≡ x
       data_again k q =
           let z : bytes_before k x.part ≡ k = ap (bytes_before k) q in
           let t : leb (bytes_before k x.part + x.field.r) k ≡ false = lt-leb _ k (omega (arith, z, l.r.0)) in
           let r : bytes_before k x.part + x.field.r - k ≡ x.field.r = omega (arith, z) in
           rw t (λ j. record { part = sym q j; field = record { r = r j; kind = x.field.kind; t = x.field.t } })
 
-      key_again : (k : ℕ) → x.part ≡ inKey → x.field.r + input_size x.field.kind - 1 ≤ k → on_card k (through k x) ≡ x
+      key_again : (k : ℕ) → x.part ≡ in_key → x.field.r + input_size x.field.kind - 1 ≤ k → on_card k (through k x) ≡ x
       key_again k q w =
           let z : bytes_before k x.part ≡ 0 = ap (bytes_before k) q in
           let t : leb (bytes_before k x.part + x.field.r) k ≡ true = le-leb _ k (omega (arith, z, w, low)) in
@@ -67,8 +67,8 @@ module _ (i : Input) (b : Size) where
 
       go : (i : Input) → Inside (part_length i x.part) (record_length b) x.field → Named i x → (q : Part) → x.part ≡ q → on_card (key_length i) (through (key_length i) x) ≡ x
       go (plain s) w n q e = data_again 0 (n refl)
-      go (keyed k d) w n inData e = data_again k e
-      go (keyed k d) w n inKey e =
+      go (keyed k d) w n in_data e = data_again k e
+      go (keyed k d) w n in_key e =
           let p : part_length (keyed k d) x.part ≡ k = ap (part_length (keyed k d)) e in
           key_again k e (omega (arith, p, w.input))
 

@@ -8,7 +8,7 @@ use lib.ListN.{length, take, get_or, set, replicate, length-map}
 use lib.Seq.{take-suc, take-length, set_at, append_snoc, length-take-le}
 use mathlib.Core.Bool.{Bool, true, false, cond}
 use lib.Dec.{leb}
-use Rattle.rules.specs.Grammar.{inData, inKey, CardField}
+use Rattle.rules.specs.Grammar.{in_data, in_key, CardField}
 use Rattle.rules.specs.Halves.{Field as RuleField}
 use Rattle.rules.specs.Lent.{kind_number, part_number, entry_of}
 use Rattle.terms.specs.Meaning.{kind_of, field_of, OneSize, no_field, entry_for, no_entry}
@@ -37,7 +37,7 @@ entry_is f key k p r e h q one =
       t = f.t;
     }
   where
-    part_said : (t : Bool) → cond t 1 0 ≡ part_number (cond t inKey inData)
+    part_said : (t : Bool) → cond t 1 0 ≡ part_number (cond t in_key in_data)
     part_said true = refl
     part_said false = refl
 

@@ -1,7 +1,7 @@
 -- What is promised of the plan for a lent table.
 use Rattle.std.specs.Prelude.{List, [], ◌++◌, map, cond, ℕ, ◌-◌, leb, length, replicate}
 use Rattle.rules.specs.Answer.{Answer, fine, refuse}
-use Rattle.rules.specs.Grammar.{inData, inKey, CardField}
+use Rattle.rules.specs.Grammar.{in_data, in_key, CardField}
 use Rattle.rules.specs.Halves.{Field as RuleField}
 use Rattle.rules.specs.Asked.{asked_of}
 use Rattle.rules.specs.Plan.{Plan, plan_answer}
@@ -28,7 +28,7 @@ abbrev pub place_on_card : ℕ → ℕ → ℕ
 place_on_card key r = cond (leb r key) r (r - key)
 
 unfoldable pub on_card : ℕ → RuleField → CardField
-on_card key f = record { part = cond (leb f.r key) inKey inData; field = record { r = place_on_card key f.r; kind = f.kind; t = f.t } }
+on_card key f = record { part = cond (leb f.r key) in_key in_data; field = record { r = place_on_card key f.r; kind = f.kind; t = f.t } }
 
 -- an entry for each field, and nothing behind them: 64 in all
 unfoldable pub table_of : List CardField → List Entry

@@ -9,7 +9,7 @@ use lib.ListN.{length, length-map}
 use borrow.Author.Tests.{leb-true, le-leb, lt-leb}
 use Rattle.rules.specs.Base.{joined}
 use Rattle.rules.specs.Asked.{fields_of, Asked as RuleAsked}
-use Rattle.rules.specs.Grammar.{Format, Size, Input, plain, keyed, Part, inData, inKey, CardField}
+use Rattle.rules.specs.Grammar.{Format, Size, Input, plain, keyed, Part, in_data, in_key, CardField}
 use Rattle.rules.specs.Halves.{input_size, Field}
 use Rattle.rules.specs.Plan.{record_length, joined_size, key_length, part_length, bytes_before, through, is_keyed, is_key, inside, inside_part}
 use Rattle.rules.specs.Rows.{InputWithin, FieldWithin}
@@ -24,7 +24,7 @@ pub many_laid : (x : Asked) (a : RuleAsked) → Means x a → x.count ≡ length
 unfolding laid_fields
 many_laid x a m = m.count ∙ sym (length-map (fields_of (joined a.cards)) (laid (key_length a.utility.input)))
 
-no_part : inKey ≡ inData → ⊥
+no_part : in_key ≡ in_data → ⊥
 no_part e = true≢false (ap is_key e)
 
 -- two comparisons that hold together
@@ -38,30 +38,30 @@ same a b c d h k = go (leb a b) (leb c d) refl refl
 
 module _ (f : Format) (r s : ℕ) (some : 1 ≤ r) (long : 1 ≤ s) where
   -- the end of what is read
-  laid_end : (i : Input) (q : Part) → InputWithin f i → (is_keyed i ≡ false → q ≡ inData)
+  laid_end : (i : Input) (q : Part) → InputWithin f i → (is_keyed i ≡ false → q ≡ in_data)
       → leb (laid_at (key_length i) q r s + s - 1) (record_length (joined_size i)) ≡ leb (r + s - 1) (part_length i q)
-  laid_end (plain z) inData w n = let e : 0 + r ≡ r = omega arith in rw e
-  laid_end (plain z) inKey w n = absurd (no_part (n refl))
-  laid_end (keyed k d) inData w n = same (k + r + s - 1) (k + d) (r + s - 1) d (λ l. omega arith) (λ l. omega arith)
-  laid_end (keyed k d) inKey w n = go (leb (r + s - 1) k) refl
+  laid_end (plain z) in_data w n = let e : 0 + r ≡ r = omega arith in rw e
+  laid_end (plain z) in_key w n = absurd (no_part (n refl))
+  laid_end (keyed k d) in_data w n = same (k + r + s - 1) (k + d) (r + s - 1) d (λ l. omega arith) (λ l. omega arith)
+  laid_end (keyed k d) in_key w n = go (leb (r + s - 1) k) refl
     where
       go : (t : Bool) → leb (r + s - 1) k ≡ t → leb (cond (leb (r + s - 1) k) r 8192 + s - 1) (k + d) ≡ leb (r + s - 1) k
       go true t = rw t (le-leb (r + s - 1) (k + d) (let l = leb-true (r + s - 1) k t in omega arith))
       go false t = rw t (lt-leb (8192 + s - 1) (k + d) (omega (arith, w.2)))
 
   -- and where it begins
-  laid_place : (i : Input) (q : Part) → (is_keyed i ≡ false → q ≡ inData) → leb (r + s - 1) (part_length i q) ≡ true
+  laid_place : (i : Input) (q : Part) → (is_keyed i ≡ false → q ≡ in_data) → leb (r + s - 1) (part_length i q) ≡ true
       → laid_at (key_length i) q r s ≡ bytes_before (key_length i) q + r
-  laid_place (plain z) inData n e = refl
-  laid_place (plain z) inKey n e = absurd (no_part (n refl))
-  laid_place (keyed k d) inData n e = refl
-  laid_place (keyed k d) inKey n e = rw e (omega arith)
+  laid_place (plain z) in_data n e = refl
+  laid_place (plain z) in_key n e = absurd (no_part (n refl))
+  laid_place (keyed k d) in_data n e = refl
+  laid_place (keyed k d) in_key n e = rw e (omega arith)
 
 -- it is a place at all
 module _ (r s : ℕ) (some : 1 ≤ r) where
   laid_low : (k : ℕ) (q : Part) → k ≤ 4096 → r ≤ 4096 → (1 ≤ laid_at k q r s) × (laid_at k q r s ≤ 8192)
-  laid_low k inData h l = (omega arith, omega arith)
-  laid_low k inKey h l = go (leb (r + s - 1) k)
+  laid_low k in_data h l = (omega arith, omega arith)
+  laid_low k in_key h l = go (leb (r + s - 1) k)
     where
       go : (t : Bool) → (1 ≤ cond t r 8192) × (cond t r 8192 ≤ 8192)
       go true = (omega arith, omega arith)

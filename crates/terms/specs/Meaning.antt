@@ -1,7 +1,7 @@
 -- What the types that cards name mean in the rules.
 use Rattle.std.specs.Prelude.{◌≡◌, cond, not, List, [], ◌∷◌, ◌++◌, map, ℕ, suc, ◌+◌, ◌-◌, ◌≤◌, leb, eqb, length, replicate}
 use Rattle.rules.specs.Base.{joined}
-use Rattle.rules.specs.Grammar.{Mode as RuleMode, tc, tf, tr, trf, Format as RuleFormat, ff, fv, fu, fsp, Size as RuleSize, two, one, Input as RuleInput, plain, keyed, Part as RulePart, inData, inKey, CardField, Item}
+use Rattle.rules.specs.Grammar.{Mode as RuleMode, tc, tf, tr, trf, Format as RuleFormat, ff, fv, fu, fsp, Size as RuleSize, two, one, Input as RuleInput, plain, keyed, Part as RulePart, in_data, in_key, CardField, Item}
 use Rattle.rules.specs.Halves.{Kind as RuleKind, copy, pack, unpack, input_size, Field as RuleField}
 use Rattle.rules.specs.Asked.{fields_of, cvs, Utility, Asked as RuleAsked}
 use Rattle.rules.specs.Plan.{Plan, record_length, block_length, key_length, key_fields}
@@ -62,8 +62,8 @@ field_of f = record { r = f.r; kind = kind_of f.kind f.input f.output; t = f.t }
 
 -- a field as it stands on its card
 abbrev pub part_of : Part → RulePart
-part_of Data = inData
-part_of Key = inKey
+part_of Data = in_data
+part_of Key = in_key
 
 unfoldable pub card_field : Part → Field → CardField
 card_field part f = record { part = part_of part; field = field_of f }
@@ -71,8 +71,8 @@ card_field part f = record { part = part_of part; field = field_of f }
 -- where a field stands in the row, behind a key of so many bytes: it counts through key and data, but one that is taken from the key and runs past it, which
 -- is refused, stands past every record
 abbrev pub laid_at : ℕ → RulePart → ℕ → ℕ → ℕ
-laid_at key inData r size = key + r
-laid_at key inKey r size = cond (leb (r + size - 1) key) r 8192
+laid_at key in_data r size = key + r
+laid_at key in_key r size = cond (leb (r + size - 1) key) r 8192
 
 unfoldable pub laid : ℕ → CardField → RuleField
 laid key f = record { r = laid_at key f.part f.field.r (input_size f.field.kind); kind = f.field.kind; t = f.field.t }

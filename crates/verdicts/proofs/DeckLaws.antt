@@ -35,13 +35,13 @@ mode_read : (x : Asked) (a : RuleAsked) → Means x a → mode_of x.mode ≡ a.u
 unfolding utility_of through_utility
 mode_read x a m = ap (λ (u : Utility). u.mode) m.utility
 
-module _ (deck : List ℕ) (d : DeckRead) (row : List ℕ) (Reads-of : DeckSays deck d row) where
+module _ (deck : List ℕ) (d : DeckRead) (row : List ℕ) (reads_of : DeckSays deck d row) where
   pub none_asked : (d.refusal ≡ 0 → ⊥) → false ≡ copies_blocks (asked_of deck)
-  none_asked h = sym (ap copies_blocks (refused_as deck d row Reads-of.reads h))
+  none_asked h = sym (ap copies_blocks (refused_as deck d row reads_of.reads h))
 
   pub mode_asked : d.refusal ≡ 0 → (t : Bool) → t ≡ is_filling (mode_of d.asked.mode) → not t ≡ copies_blocks (asked_of deck)
   mode_asked z t e =
-      let w = accepted deck d row Reads-of.reads z in
+      let w = accepted deck d row reads_of.reads z in
       ap not e ∙ ap (λ (m : RuleMode). not (is_filling m)) (mode_read d.asked w.0 w.2.means) ∙ sym (ap copies_blocks w.1)
 
 -- the plan's mode is what the cards ask for

@@ -19,7 +19,7 @@ use Rattle.cards.specs.declared.Noted.{Noted}
 use Rattle.cards.specs.Selected.{NotedRow}
 use Rattle.cards.specs.Deck.{cards_in, OperandAt, CardAtSays}
 use Rattle.cards.proofs.HolderLaws.{Seeking, Held, seeking_start, seeking_none, seeking_u, seeking_key, seeking_found, seeking_more}
-use Rattle.cards.specs.contracts.CardAt as card-type
+use Rattle.cards.specs.contracts.CardAt as card_type
 use Rattle.cards.proofs.card_over.Statement.{statement}
 use Rattle.cards.proofs.card_over.Tie as tie
 use Rattle.cards.proofs.DeckLaws.{lent_list}
@@ -47,7 +47,7 @@ enum-known-found c = search rules
 
 -- a card whose number is not that of `FsAt`
 other : (deck : List ℕ) (from field : ℕ) (t : NotedRow) (card at : ℕ) (g : Seeking deck from field t.0.count card at) (r : CardAt) → CardAtSays deck at r
-    → (tag_of card-type.the_type r ≡ 0) ⊎ (tag_of card-type.the_type r ≡ 2) → Held deck from field t card at g 0
+    → (tag_of card_type.the_type r ≡ 0) ⊎ (tag_of card_type.the_type r ≡ 2) → Held deck from field t card at g 0
 other deck from field t card at g (UAt start end next) h k = seeking_u deck from field t card at g (start - at) start end next h
 other deck from field t card at g (FsAt start end next) h k = absurd (⊎_elim (λ e. omega arith) (λ e. omega arith) k)
 other deck from field t card at g NoOperand h k = seeking_none deck from field t card at g h

@@ -22,7 +22,7 @@ use Rattle.cards.specs.Selected.{NotedRow, nothing_noted, no_selection}
 use Rattle.cards.specs.Deck.{cards_in, fs_first, OperandAt, CardAtSays, FsSaid}
 use Rattle.cards.proofs.ListedLaws.{key_kept}
 use Rattle.cards.proofs.DeckLaws.{Selecting, selecting_start, selecting_none, selecting_u, selecting_stop, selecting_more, lent_list}
-use Rattle.cards.specs.contracts.CardAt as card-type
+use Rattle.cards.specs.contracts.CardAt as card_type
 use Rattle.cards.proofs.fs_cards.Statement.{statement}
 use Rattle.cards.proofs.fs_cards.Tie as tie
 
@@ -58,7 +58,7 @@ enum-known-found c = search rules
 
 -- a card whose number is not that of `FsAt`
 other : (deck : List ℕ) (from key : ℕ) (t : NotedRow) (card at : ℕ) → Selecting deck from key t card at → (r : CardAt) → CardAtSays deck at r
-    → (tag_of card-type.the_type r ≡ 0) ⊎ (tag_of card-type.the_type r ≡ 2)
+    → (tag_of card_type.the_type r ≡ 0) ⊎ (tag_of card_type.the_type r ≡ 2)
     → FsSaid 2 (no_selection key) (fs_first (cards_in (drop from deck))) (record { noted = t.0; unread = 0; column = 0 }) t.1
 other deck from key t card at g (UAt start end next) h k = selecting_u deck from key t card at g (start - at) start end next h
 other deck from key t card at g (FsAt start end next) h k = absurd (⊎_elim (λ e. omega arith) (λ e. omega arith) k)

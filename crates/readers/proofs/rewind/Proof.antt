@@ -5,7 +5,7 @@ use mathlib.Core.Logic.{⊎_elim}
 use borrow.Author.Rules.{rules}
 use lib.ListN.{length, get_or}
 use native.Mathlib.Omega.{arith}
-use Rattle.rules.specs.Grammar.{rewindIn, rewindOut}
+use Rattle.rules.specs.Grammar.{rewind_in, rewind_out}
 use Rattle.rules.proofs.Grammar.ChoiceLaws.{Ending, byte_inside, parameter_i_letter, parameter_o_letter, parameter_rewind_else}
 use Rattle.readers.proofs.Parameters.{ending_inside}
 use Rattle.readers.proofs.TextPlaces.{alone}
@@ -26,7 +26,7 @@ returns : tie.Need-returns
 returns c =
     let s = c.before.before.before.before.before.args.s.now in
     let e = ending c.before in
-    alone s 2 rewindIn (λ k. refl) (ending_inside s e, parameter_i_letter s (sym c.before.before.before.peek.ensures ∙ c.if1.true) e)
+    alone s 2 rewind_in (λ k. refl) (ending_inside s e, parameter_i_letter s (sym c.before.before.before.peek.ensures ∙ c.if1.true) e)
 
 returns-2 : tie.Need-returns-2
 returns-2 c =
@@ -34,7 +34,7 @@ returns-2 c =
     let s = b.args.s.now in
     let e = ending c.before in
     let o = ⊎_elim (λ z. absurd (c.if1.false (c.before.before.before.peek.ensures ∙ z))) (λ z. z) b.requires in
-    alone s 2 rewindOut (λ k. refl) (ending_inside s e, parameter_o_letter s o e)
+    alone s 2 rewind_out (λ k. refl) (ending_inside s e, parameter_o_letter s o e)
 
 returns-3 : tie.Need-returns-3
 returns-3 c =
