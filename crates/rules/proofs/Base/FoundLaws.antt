@@ -41,6 +41,7 @@ module _ {A : Type 0} (P : A → Type 0) where
   drop_found zero i p xs l f = rw add-zero f
   drop_found (suc k) i p (x ∷ xs) l (here e f) = absurd (omega arith)
   drop_found (suc k) i p (x ∷ xs) l (later f) = rw (let z : i + suc k ≡ suc i + k = omega arith in z) (drop_found k (suc i) p xs (omega arith) f)
+  drop_found (suc k) i p [] l f = elim f [ ]
 
 -- a test at each element
 module _ {A : Type 0} (h : A → Bool) where

@@ -33,6 +33,7 @@ record_most f (one g) w = omega arith
 
 pub size_least : (f : Format) (s : Size) → SizeWithin f s → IsTwo s → 1 ≤ record_length s
 size_least f (two n m) w two_numbers = w.0.0
+size_least f (one _) w x3 = elim x3 [ ]
 
 pub least_selects : (p : Plan) → selects p.mode ≡ true → least_data p ≡ record_length p.input
 unfolding least_data

@@ -84,11 +84,13 @@ alike_again : (x : Parameter) (seen : List Parameter) → Some (λ y. y ≡ x) s
     → (c : ℕ) × Again Alike c seen b ws
 alike_again x seen s b (w ∷ ws) (this a) = (b, this_one refl (some_map (λ y e. subst (λ (z : Parameter). Alike z w.value) (sym e) a) s))
 alike_again x seen s b (w ∷ ws) (that t) = let h = alike_again x (w.value ∷ seen) (that s) (b + suc (length w.text)) ws t in (h.0, later_one h.1)
+alike_again x seen s b [] x3 = elim x3 [ ]
 
 pub twice_again : (seen : List Parameter) (b : ℕ) (ws : List (Worded Parameter)) → Twice (values_of ws) → (c : ℕ) × Again Alike c seen b ws
 twice_again seen b (w ∷ ws) (again s) =
     let h = alike_again w.value (w.value ∷ seen) (this refl) (b + suc (length w.text)) ws s in (h.0, later_one h.1)
 twice_again seen b (w ∷ ws) (after t) = let h = twice_again (w.value ∷ seen) (b + suc (length w.text)) ws t in (h.0, later_one h.1)
+twice_again seen b [] x' = elim x' [ ]
 
 -- ---- CV
 
@@ -104,6 +106,8 @@ some_cv (y ∷ seen) x (this a) = go y x a
   where
     go : (y x : Item) → BothCV y x → (1 ≤ cvs (y ∷ seen)) × (x ≡ cv)
     go cv cv both_cv = (omega arith, refl)
+    go _ _ z = elim z [ ]
+some_cv [] x x3 = elim x3 [ ]
 
 pub same_cv_lem : (x : Item) (seen : List Item) → (same_cv x seen ≡ true) ↔ Some (λ y. BothCV y x) seen
 same_cv_lem (field f) seen = (λ e. absurd (false≢true e), λ s. let e = (some_cv seen (field f) s).1 in let z : ◌≡◌ {A = ℕ} 0 1 = cc in absurd (omega arith))
@@ -143,6 +147,8 @@ of_words {cards = cards} b = both_maps fs_words (λ ws. ws) fs_parts b ∙ map-i
 pub cv_column_lem : (seen : List Item) (i : ℕ) (fs : List (List ℕ)) (cards : List (List Item)) → Both FsText fs cards → cvs seen ≤ 1 → (r : Refusal)
     → up_to 4 1 cvs (cvs seen) i cards ≡ refuse r → (r.number ≡ 4) × Lowest (λ c. CVOn r.place c seen i (map fs_words fs)) (cv_column seen i fs r.place)
 cv_column_lem seen i [] [] none_left h r e = let z : ◌≡◌ {A = ℕ} 0 1 = cc in absurd (omega arith)
+cv_column_lem seen i [] (is ∷ cs) z h r e = elim z [ ]
+cv_column_lem seen i (o ∷ os) [] z h r e = elim z [ ]
 cv_column_lem seen i (o ∷ os) (is ∷ cs) (both t b) h r e =
     go (λ h f. cv_column_lem (values_of (fs_words o) ++ seen) (suc i) os cs b h r f) (leb (cvs seen + cvs is) 1) refl
   where

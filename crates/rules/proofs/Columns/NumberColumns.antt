@@ -159,7 +159,7 @@ runs_item {y = y} ItemText.CV e = refl
 
 -- lists of them
 module _ {A : Type 0} (mark : String) (m : ℕ) (only : ascii mark ≡ m ∷ []) (plain : is_digit m ≡ false) (letter : eqb 70 m ≡ false) (ItemIs : List ℕ → A → Type 0)
-    (numbers : A → List Limit) (item-runs : (x : List ℕ) (a : A) (y : List ℕ) → ItemIs x a → Ends y → run_values false (x ++ y) ≡ values (numbers a) ++ run_values false y) where
+    (numbers : A → List Limit) (item_runs : (x : List ℕ) (a : A) (y : List ℕ) → ItemIs x a → Ends y → run_values false (x ++ y) ≡ values (numbers a) ++ run_values false y) where
   rest_ends : (y : List ℕ) (more : List A) → RestText mark ItemIs y more → Ends y
   rest_ends _ _ RestText.nothing = at_end
   rest_ends _ _ (RestText.marked {y = y} l) = rw only (before plain letter)
@@ -168,7 +168,7 @@ module _ {A : Type 0} (mark : String) (m : ℕ) (only : ascii mark ≡ m ∷ [])
   list_runs t =
       elim t as (λ s xs t. run_values false s ≡ values (joined (map numbers xs))) (λ s xs t. run_values false s ≡ values (joined (map numbers xs))) [
         | ListText.item {x = x} {y = y} {a = a} {more = more} i (r → h) ↦
-            item-runs x a y i (rest_ends y more r) ∙ ap (λ (l : List ℕ). values (numbers a) ++ l) h ∙ sym (values_append (numbers a) (joined (map numbers more)))
+            item_runs x a y i (rest_ends y more r) ∙ ap (λ (l : List ℕ). values (numbers a) ++ l) h ∙ sym (values_append (numbers a) (joined (map numbers more)))
         | RestText.nothing ↦ refl
         | RestText.marked {y = y} {more = more} (l → h) ↦ ap (λ (z : List ℕ). run_values false (z ++ y)) only ∙ rw plain h
       ]
@@ -224,6 +224,7 @@ rising t c (b ∷ s) = go (is_digit b && not t) (rising (is_digit b) (suc c) s)
 outside_low : {b d : ℕ} {cs : List ℕ} {ls : List Limit} → Rising b cs → Outside d cs ls → b ≤ d
 outside_low (next h r) (this_number e n) = omega arith
 outside_low (next h r) (later_number o) = let z = outside_low r o in omega arith
+outside_low {d = d} {ls = ls} (no_more_lem {b = b}) x4 = elim x4 [ ]
 
 -- it is found, or all are within their limits
 outside_found : (b : ℕ) (cs : List ℕ) (ls : List Limit) → Rising b cs → length cs ≡ length ls
@@ -263,6 +264,7 @@ pub parameter_meets : (f : Format) (x : Parameter) (us : List Parameter) → Som
 parameter_meets f x (u ∷ us) (this e) a =
     subst (λ (z : Parameter). Limited (parameter_numbers f z)) e (all_left (parameter_numbers f u) (joined (map (parameter_numbers f) us)) a)
 parameter_meets f x (u ∷ us) (that s) a = parameter_meets f x us s (all_right (parameter_numbers f u) (joined (map (parameter_numbers f) us)) a)
+parameter_meets f x [] x3 a = elim x3 [ ]
 
 -- R's number stands on the card or is 1
 pub utility_meets : (us : List Parameter) (u : Utility) → Complete us u → Limited (joined (map (parameter_numbers u.format) us)) → utility_limits u ≡ true
@@ -295,6 +297,8 @@ pub field_column_lem : (i : ℕ) (fs : List (List ℕ)) (cards : List (List Item
     → (r.number ≡ 7) × Lowest (λ c. NumberOn r.place c i fs cards) (field_column i fs cards r.place)
 unfolding each
 field_column_lem i [] [] none_left r e = let z : ◌≡◌ {A = ℕ} 0 1 = cc in absurd (omega arith)
+field_column_lem i [] (is ∷ cs) z r e = elim z [ ]
+field_column_lem i (o ∷ os) [] z r e = elim z [ ]
 field_column_lem i (o ∷ os) (is ∷ cs) (both t b) r e = go (λ f. field_column_lem (suc i) os cs b r f) (every field_limits (fields_of is)) refl
   where
     later : Lowest (λ c. NumberOn r.place c (suc i) os cs) (field_column (suc i) os cs r.place)

@@ -7,7 +7,7 @@ use mathlib.Core.List.{List, [], ◌∷◌, map}
 use Prim.Native.Nat.{ℕ}
 use Rattle.rules.specs.Base.{every, joined}
 use Rattle.rules.specs.Places.{no_more, Some, this, that}
-use Rattle.rules.specs.Grammar.{Format, Size, two, one, Input, plain, keyed, Parameter, mode_is, format_is, input_is, output_is, rewindIn, rewindOut, first_is, Item, field, cv}
+use Rattle.rules.specs.Grammar.{Format, Size, two, one, Input, plain, keyed, Parameter, mode_is, format_is, input_is, output_is, rewind_in, rewind_out, first_is, Item, field, cv}
 use Rattle.rules.specs.Words.{limit, within_limits}
 use Rattle.rules.specs.Asked.{Utility, least, utility_limits, field_limits, parameter_numbers, item_numbers}
 use Rattle.rules.specs.Rows.{Twice, Complete}
@@ -57,8 +57,8 @@ module _ (us : List Parameter) (u : Utility) (single : Twice us → ⊥) (full :
       go (format_is f) s = no_more
       go (input_is z) s = of (input_is z) (this (ap input_is (the_input z s)))
       go (output_is z) s = of (output_is z) (that (this (ap output_is (the_output z s))))
-      go rewindIn s = no_more
-      go rewindOut s = no_more
+      go rewind_in s = no_more
+      go rewind_out s = no_more
       go (first_is n) s = of (first_is n) (that (that (this (ap first_is (the_first n s)))))
 
   pub utility_exactly : utility_limits u ≡ every within_limits (joined (map (parameter_numbers u.format) us))
@@ -78,8 +78,8 @@ numbers_least f g e (input_is (plain (one k))) = ap (λ (l : ℕ). limit l 32760
 numbers_least f g e (input_is (keyed k d)) = refl
 numbers_least f g e (output_is (two n m)) = refl
 numbers_least f g e (output_is (one k)) = ap (λ (l : ℕ). limit l 32760 k ∷ []) e
-numbers_least f g e rewindIn = refl
-numbers_least f g e rewindOut = refl
+numbers_least f g e rewind_in = refl
+numbers_least f g e rewind_out = refl
 numbers_least f g e (first_is n) = refl
 
 -- ---- an item

@@ -174,12 +174,12 @@ pub equal_refl : (a : Size) → equal a a ≡ true
 equal_refl (two n m) = rw (eq-eqb n n refl, eq-eqb m m refl)
 equal_refl (one g) = eq-eqb g g refl
 
-module _ (t : Mode) (f : Format) (a b : Size) (first : ℕ) (anyFS : Bool) where
+module _ (t : Mode) (f : Format) (a b : Size) (first : ℕ) (any_fs : Bool) where
   abbrev Combinations : Type 0
-  Combinations = All (λ holds. holds ≡ true) (combinations t f a b first anyFS)
+  Combinations = All (λ holds. holds ≡ true) (combinations t f a b first any_fs)
 
   -- each line of the test gives the sentences that it stands for
-  required_of : Combinations → Required t f a b first × (selects t ≡ true → anyFS ≡ true)
+  required_of : Combinations → Required t f a b first × (selects t ≡ true → any_fs ≡ true)
   unfolding combinations
   required_of c1 =
       let c0 = all_tail c1 in
@@ -191,10 +191,10 @@ module _ (t : Mode) (f : Format) (a b : Size) (first : ℕ) (anyFS : Bool) where
       let c7 = all_tail c6 in
       let c8 = all_tail c7 in
       let c9 = all_tail c8 in
-      let count-a = eqb-true (numbers a) (wanted t f) (and_left (eqb (numbers a) (wanted t f)) _ (all_head c3)) in
-      let count-b = eqb-true (numbers b) (wanted t f) (and_right (eqb (numbers a) (wanted t f)) _ (all_head c3)) in
-      let counts : (k : ℕ) → wanted t f ≡ k → (numbers a ≡ k) × (numbers b ≡ k) = λ k e. (count-a ∙ e, count-b ∙ e) in
-      let fv-wanted : (k : Bool) → f ≡ fv → selects t ≡ k → wanted t f ≡ cond k 2 1 = λ k q s. rw (q, s) in (
+      let count_a = eqb-true (numbers a) (wanted t f) (and_left (eqb (numbers a) (wanted t f)) _ (all_head c3)) in
+      let count_b = eqb-true (numbers b) (wanted t f) (and_right (eqb (numbers a) (wanted t f)) _ (all_head c3)) in
+      let counts : (k : ℕ) → wanted t f ≡ k → (numbers a ≡ k) × (numbers b ≡ k) = λ k e. (count_a ∙ e, count_b ∙ e) in
+      let fv_wanted : (k : Bool) → f ≡ fv → selects t ≡ k → wanted t f ≡ cond k 2 1 = λ k q s. rw (q, s) in (
         record {
           fu_with_tc = λ q. is_tc_lem t (asked (is_fu f) _ (all_head c1) (ap is_fu q));
           fs_with = λ q. not-true (selects t) (asked (is_fs f) _ (all_head c0) (ap is_fs q));
@@ -202,8 +202,8 @@ module _ (t : Mode) (f : Format) (a b : Size) (first : ℕ) (anyFS : Bool) where
           ff_two = λ q. let w = counts 2 (ap (wanted t) q) in (two_of a w.0, two_of b w.1);
           fu_one = λ q. let w = counts 1 (ap (wanted t) q) in (one_of a w.0, one_of b w.1);
           fs_one = λ q. let w = counts 1 (ap (wanted t) q) in (one_of a w.0, one_of b w.1);
-          fv_two = λ q s. let w = counts 2 (fv-wanted true q s) in (two_of a w.0, two_of b w.1);
-          fv_one = λ q s. let w = counts 1 (fv-wanted false q s) in (one_of a w.0, one_of b w.1);
+          fv_two = λ q s. let w = counts 2 (fv_wanted true q s) in (two_of a w.0, two_of b w.1);
+          fv_one = λ q s. let w = counts 1 (fv_wanted false q s) in (one_of a w.0, one_of b w.1);
           ff_multiple = λ q. let w = asked (is_ff f) _ (all_head c4) (ap is_ff q) in (eqb-true _ 0 (and_left (whole a) _ w), eqb-true _ 0 (and_right (whole a) _ w));
           tc_equal = λ q. equal_same a b (asked (is_tc t) _ (all_head c5) (ap is_tc q));
           tr_equal = λ q k. eqb-true _ _ (asked (is_tr t && is_ff f) _ (all_head c6) (and_both (ap is_tr q) (ap is_ff k)));
@@ -222,7 +222,7 @@ module _ (t : Mode) (f : Format) (a b : Size) (first : ℕ) (anyFS : Bool) where
   counted r fv q true s = let w = r.fv_two q s in rw (q, s) (of_two w.0, of_two w.1)
   counted r fv q false s = let w = r.fv_one q s in rw (q, s) (of_one w.0, of_one w.1)
 
-  of_required : Required t f a b first → (selects t ≡ true → anyFS ≡ true) → Combinations
+  of_required : Required t f a b first → (selects t ≡ true → any_fs ≡ true) → Combinations
   unfolding combinations
   of_required r need =
       let w = counted r f refl (selects t) refl in
@@ -239,12 +239,12 @@ module _ (t : Mode) (f : Format) (a b : Size) (first : ℕ) (anyFS : Bool) where
       (asks (is_fv f && eqb (numbers b) 2) _ (λ e. le-leb _ _ (r.fv_room_b (is_fv_lem f (and_left (is_fv f) _ e)) (two_of b (eqb-true (numbers b) 2 (and_right (is_fv f) _ e)))))))
       (also (asks (selects t) _ need) no_more)))))))))
 
-pub required_exactly : (p : Plan) (anyFS : Bool)
-    → (sound p anyFS ≡ true) ↔ (Required p.mode p.format p.input p.output p.first × (selects p.mode ≡ true → anyFS ≡ true))
+pub required_exactly : (p : Plan) (any_fs : Bool)
+    → (sound p any_fs ≡ true) ↔ (Required p.mode p.format p.input p.output p.first × (selects p.mode ≡ true → any_fs ≡ true))
 unfolding sound
-required_exactly p anyFS = (
-  λ e. required_of p.mode p.format p.input p.output p.first anyFS (every_all (λ holds. holds) (combinations p.mode p.format p.input p.output p.first anyFS) e),
-  λ w. all_every (λ holds. holds) (of_required p.mode p.format p.input p.output p.first anyFS w.0 w.1),
+required_exactly p any_fs = (
+  λ e. required_of p.mode p.format p.input p.output p.first any_fs (every_all (λ holds. holds) (combinations p.mode p.format p.input p.output p.first any_fs) e),
+  λ w. all_every (λ holds. holds) (of_required p.mode p.format p.input p.output p.first any_fs w.0 w.1),
 )
 
 pub no_keys : (s : Size) → IsKeyed (plain s) → ⊥

@@ -13,12 +13,12 @@ use lib.Seq.{drop-drop, get_or-drop}
 use borrow.Author.Tests.{eq-eqb, ne_eqb, eqb-true, eqb-false, le-leb, lt-leb}
 use Rattle.rules.specs.Reader.{Read, read, stopped, Reader, pure, onward, ◌>>=◌, ◌>>◌, after, text, is_digit, digits, number}
 use Rattle.rules.specs.Halves.{Kind, copy, pack, unpack}
-use Rattle.rules.specs.Grammar.{inData, inKey, tc, tf, tr, trf, ff, fv, fu, fsp, Size, two, one, plain, keyed, mode_is, format_is, input_is, output_is, rewindIn, rewindOut, first_is, cv, start, size_reader, input_reader, mode_reader, parameter, kind_reader, item}
+use Rattle.rules.specs.Grammar.{in_data, in_key, tc, tf, tr, trf, ff, fv, fu, fsp, Size, two, one, plain, keyed, mode_is, format_is, input_is, output_is, rewind_in, rewind_out, first_is, cv, start, size_reader, input_reader, mode_reader, parameter, kind_reader, item}
 use Rattle.rules.specs.TextParts.{number_then, size_behind, data_behind, keyed_behind, key_then, sizes_behind, field_behind}
 use Rattle.rules.proofs.Grammar.ReaderLaws.{inside_behind, within_pure, within_text_then, within_number_then, first_alone, both_stopped}
 use Rattle.rules.proofs.Grammar.NumberLaws.{Reading, NoDigit, number_end}
 use Rattle.rules.proofs.Grammar.ParameterLaws.{parameter_t, parameter_f, parameter_a, parameter_b, parameter_i, parameter_o, parameter_r, parameter_not, parameter_end}
-use Rattle.rules.proofs.Grammar.LetterLaws.{mode_c, mode_f, mode_rf, mode_r, mode_r_end, mode_other, mode_short, format_f, format_v, format_u, format_s, format_other, format_short, sizes_a, sizes_b, sizes_other, sizes_short, rewind_ir, rewind_in, rewind_iu, rewind_or, rewind_on, rewind_ou, rewind_other, rewind_short, size_stop, size_not, size_end, input_key, input_other, input_not, input_short}
+use Rattle.rules.proofs.Grammar.LetterLaws.{mode_c, mode_f, mode_rf, mode_r, mode_r_end, mode_other, mode_short, format_f, format_v, format_u, format_s, format_other, format_short, sizes_a, sizes_b, sizes_other, sizes_short, rewind_ir, rewind_in_lem, rewind_iu, rewind_or, rewind_on, rewind_ou, rewind_other, rewind_short, size_stop, size_not, size_end, input_key, input_other, input_not, input_short}
 use Rattle.rules.proofs.Grammar.ItemLaws.{two_behind, kind_number_lem, kind_p, kind_u, kind_other, kind_p_other, kind_u_other, kind_short, start_key, start_data, item_number, item_cv, item_c_other, item_short}
 
 -- ---- the byte at a place
@@ -164,12 +164,12 @@ parameter_sizes_else (a ∷ (b ∷ s)) (inr t) h = ap (λ (x : ℕ). parameter (
 abbrev pub Ending : ℕ → Type 0
 Ending b = (b ≡ 78) ⊎ ((b ≡ 82) ⊎ (b ≡ 85))
 
-pub parameter_i_letter : (s : List ℕ) → get_or s 0 256 ≡ 73 → Ending (get_or s 1 256) → parameter s ≡ read rewindIn (drop 2 s)
-parameter_i_letter s t (inl e) = ap parameter (two_front s 73 78 t e (omega arith) (omega arith)) ∙ parameter_i (78 ∷ drop 2 s) ∙ rewind_in (drop 2 s)
+pub parameter_i_letter : (s : List ℕ) → get_or s 0 256 ≡ 73 → Ending (get_or s 1 256) → parameter s ≡ read rewind_in (drop 2 s)
+parameter_i_letter s t (inl e) = ap parameter (two_front s 73 78 t e (omega arith) (omega arith)) ∙ parameter_i (78 ∷ drop 2 s) ∙ rewind_in_lem (drop 2 s)
 parameter_i_letter s t (inr (inl e)) = ap parameter (two_front s 73 82 t e (omega arith) (omega arith)) ∙ parameter_i (82 ∷ drop 2 s) ∙ rewind_ir (drop 2 s)
 parameter_i_letter s t (inr (inr e)) = ap parameter (two_front s 73 85 t e (omega arith) (omega arith)) ∙ parameter_i (85 ∷ drop 2 s) ∙ rewind_iu (drop 2 s)
 
-pub parameter_o_letter : (s : List ℕ) → get_or s 0 256 ≡ 79 → Ending (get_or s 1 256) → parameter s ≡ read rewindOut (drop 2 s)
+pub parameter_o_letter : (s : List ℕ) → get_or s 0 256 ≡ 79 → Ending (get_or s 1 256) → parameter s ≡ read rewind_out (drop 2 s)
 parameter_o_letter s t (inl e) = ap parameter (two_front s 79 78 t e (omega arith) (omega arith)) ∙ parameter_o (78 ∷ drop 2 s) ∙ rewind_on (drop 2 s)
 parameter_o_letter s t (inr (inl e)) = ap parameter (two_front s 79 82 t e (omega arith) (omega arith)) ∙ parameter_o (82 ∷ drop 2 s) ∙ rewind_or (drop 2 s)
 parameter_o_letter s t (inr (inr e)) = ap parameter (two_front s 79 85 t e (omega arith) (omega arith)) ∙ parameter_o (85 ∷ drop 2 s) ∙ rewind_ou (drop 2 s)
@@ -351,32 +351,32 @@ item_c_else (a ∷ []) c h = ap (λ (x : ℕ). item (x ∷ [])) c ∙ item_short
 item_c_else (a ∷ (b ∷ s)) c h = ap (λ (x : ℕ). item (x ∷ b ∷ s)) c ∙ item_c_other b s h
 
 -- `r,`
-pub item_field : (s : List ℕ) → (get_or s 0 256 ≡ 67 → ⊥) → (get_or s 0 256 ≡ 40 → ⊥) → item s ≡ onward (number_then 44 s) (λ r. field_behind (start inData r))
+pub item_field : (s : List ℕ) → (get_or s 0 256 ≡ 67 → ⊥) → (get_or s 0 256 ≡ 40 → ⊥) → item s ≡ onward (number_then 44 s) (λ r. field_behind (start in_data r))
 unfolding number_then field_behind text
 item_field [] h k = item_short.0 ∙ rw number_end refl
-item_field (b ∷ s) h k = item_number b s h ∙ rw (start_data b s k) (go (number (b ∷ s))) ∙ number_then_lem 44 (λ r. field_behind (start inData r)) (b ∷ s)
+item_field (b ∷ s) h k = item_number b s h ∙ rw (start_data b s k) (go (number (b ∷ s))) ∙ number_then_lem 44 (λ r. field_behind (start in_data r)) (b ∷ s)
   where
-    go : (r : Read ℕ) → onward (onward r (λ r. pure (start inData r))) (λ s. after (44 ∷ []) >> field_behind s) ≡ onward r (λ r. after (44 ∷ []) >> field_behind (start inData r))
+    go : (r : Read ℕ) → onward (onward r (λ r. pure (start in_data r))) (λ s. after (44 ∷ []) >> field_behind s) ≡ onward r (λ r. after (44 ∷ []) >> field_behind (start in_data r))
     go (read r left) = refl
     go (stopped left) = refl
 
 -- `(K,r),`
-pub item_key : (s : List ℕ) → get_or s 0 256 ≡ 40 → item s ≡ onward (key_then (drop 1 s)) (λ r. field_behind (start inKey r))
+pub item_key : (s : List ℕ) → get_or s 0 256 ≡ 40 → item s ≡ onward (key_then (drop 1 s)) (λ r. field_behind (start in_key r))
 unfolding key_then field_behind text
 item_key s o = ap item (one_front s 40 o (omega arith)) ∙ item_number 40 x (λ e. omega arith) ∙ rw (start_key x) (go (after (75 ∷ 44 ∷ []) x))
   where
     x : List ℕ
     x = drop 1 s
 
-    last : (r : Read ℕ) → onward (onward r (λ r. pure (start inKey r))) (λ s. after (44 ∷ []) >> field_behind s) ≡ onward (onward r (λ r. after (44 ∷ []) >> pure r)) (λ r. field_behind (start inKey r))
+    last : (r : Read ℕ) → onward (onward r (λ r. pure (start in_key r))) (λ s. after (44 ∷ []) >> field_behind s) ≡ onward (onward r (λ r. after (44 ∷ []) >> pure r)) (λ r. field_behind (start in_key r))
     last (read r left) = ends r (after (44 ∷ []) left)
       where
-        ends : (r : ℕ) (u : Read Unit) → onward u (λ v. field_behind (start inKey r)) ≡ onward (onward u (λ v. pure r)) (λ r. field_behind (start inKey r))
+        ends : (r : ℕ) (u : Read Unit) → onward u (λ v. field_behind (start in_key r)) ≡ onward (onward u (λ v. pure r)) (λ r. field_behind (start in_key r))
         ends r (read v left) = refl
         ends r (stopped left) = refl
     last (stopped left) = refl
 
-    go : (u : Read Unit) → onward (onward u (λ v. number >>= λ r. after (41 ∷ []) >> pure (start inKey r))) (λ s. after (44 ∷ []) >> field_behind s)
-        ≡ onward (onward u (λ v. number_then 41 >>= λ r. after (44 ∷ []) >> pure r)) (λ r. field_behind (start inKey r))
-    go (read v left) = rw (number_then_lem 41 (λ r. pure (start inKey r)) left) (last (number_then 41 left))
+    go : (u : Read Unit) → onward (onward u (λ v. number >>= λ r. after (41 ∷ []) >> pure (start in_key r))) (λ s. after (44 ∷ []) >> field_behind s)
+        ≡ onward (onward u (λ v. number_then 41 >>= λ r. after (44 ∷ []) >> pure r)) (λ r. field_behind (start in_key r))
+    go (read v left) = rw (number_then_lem 41 (λ r. pure (start in_key r)) left) (last (number_then 41 left))
     go (stopped left) = refl

@@ -12,7 +12,7 @@ use borrow.Author.Tests.{eqb-false}
 use Rattle.rules.specs.Base.{ascii}
 use Rattle.rules.specs.Reader.{Read, read, stopped, Reader, pure, onward, ◌>>=◌, ◌>>◌, text, number}
 use Rattle.rules.specs.Halves.{Kind, pack, unpack}
-use Rattle.rules.specs.Grammar.{inData, tr, Size, two, one, Input, Parameter, mode_is, input_is, output_is, first_is, Item, Start, start, start_reader, size_reader, input_reader, mode_reader, parameter, u_operand, sized, kind_reader, item, fs_operand}
+use Rattle.rules.specs.Grammar.{in_data, tr, Size, two, Input, Parameter, mode_is, input_is, output_is, first_is, Item, Start, start, start_reader, size_reader, input_reader, mode_reader, parameter, u_operand, sized, kind_reader, item, fs_operand}
 use Rattle.rules.specs.Texts.{NumberText, SizeText, InputText, ParameterText, UText, StartText, KindText, ItemText, FsText}
 use Rattle.rules.specs.TextParts.{stops}
 use Rattle.rules.specs.Columns.{RightTo}
@@ -24,7 +24,7 @@ use Rattle.rules.proofs.Grammar.PromptList.{prompt_list}
 use Rattle.rules.proofs.Grammar.PromptGrammar.{prompt_item, prompt_parameter}
 use Rattle.rules.proofs.Grammar.ItemLaws.{within_item, start_key, start_data, item_cv}
 use Rattle.rules.proofs.Grammar.ParameterLaws.{within_parameter, parameter_t, parameter_f, parameter_a, parameter_b, parameter_i, parameter_o, parameter_r}
-use Rattle.rules.proofs.Grammar.LetterLaws.{mode_c, mode_f, mode_rf, mode_r, mode_r_end, format_f, format_v, format_u, format_s, sizes_a, sizes_b, rewind_ir, rewind_in, rewind_iu, rewind_or, rewind_on, rewind_ou, size_one, input_key}
+use Rattle.rules.proofs.Grammar.LetterLaws.{mode_c, mode_f, mode_rf, mode_r, mode_r_end, format_f, format_v, format_u, format_s, sizes_a, sizes_b, rewind_ir, rewind_in_lem, rewind_iu, rewind_or, rewind_on, rewind_ou, size_one, input_key}
 use Rattle.rules.proofs.Grammar.NumberLaws.{Ends, at_end, before, comma_ends, slash_ends, close_ends, number_reads, number_stops}
 
 -- ---- `(n,m)`, for any opening and any two numbers that it says
@@ -50,7 +50,7 @@ kind_reads {left = left} (KindText.packs {x = x} {y = y} {n = n} {m = m} a b) e 
 kind_reads {left = left} (KindText.unpacks {x = x} {y = y} {n = n} {m = m} a b) e =
     or_second _ (unpack n m) left (or_stops (bind_stops _ (number_stops 40 _ refl)) (stops _)) (two_reads "(U," unpack a b left)
 
-or_data : {x left : List ℕ} {r : ℕ} → NumberText x r → Ends left → start_reader (x ++ left) ≡ read (start inData r) left
+or_data : {x left : List ℕ} {r : ℕ} → NumberText x r → Ends left → start_reader (x ++ left) ≡ read (start in_data r) left
 or_data {x = []} n e = absurd (omega (arith, n.one))
 or_data {x = b ∷ x} {left = left} n e = start_data b (x ++ left) (digit_not n) ∙ rw (number_reads n e) refl
   where
@@ -130,7 +130,7 @@ parameter_reads {left = l} (ParameterText.A= {x = x} t) e =
 parameter_reads {left = l} (ParameterText.B= {x = x} t) e =
     parameter_b _ ∙ sizes_b (x ++ l) ∙ ap (λ (r : Read Size). onward r (λ z. pure (output_is z))) (size_reads t)
 parameter_reads {left = l} ParameterText.IR e = parameter_i _ ∙ rewind_ir l
-parameter_reads {left = l} ParameterText.IN e = parameter_i _ ∙ rewind_in l
+parameter_reads {left = l} ParameterText.IN e = parameter_i _ ∙ rewind_in_lem l
 parameter_reads {left = l} ParameterText.IU e = parameter_i _ ∙ rewind_iu l
 parameter_reads {left = l} ParameterText.OR e = parameter_o _ ∙ rewind_or l
 parameter_reads {left = l} ParameterText.ON e = parameter_o _ ∙ rewind_on l

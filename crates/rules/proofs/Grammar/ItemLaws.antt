@@ -10,7 +10,7 @@ use borrow.Author.Tests.{ne_eqb}
 use Rattle.rules.specs.Base.{ascii}
 use Rattle.rules.specs.Reader.{read, stopped, Reader, pure, onward, ◌>>=◌, ◌>>◌, text, number}
 use Rattle.rules.specs.Halves.{Kind, copy, pack, unpack}
-use Rattle.rules.specs.Grammar.{inData, inKey, Item, cv, Start, start, start_reader, sized, kind_reader, field_with, item}
+use Rattle.rules.specs.Grammar.{in_data, in_key, Item, cv, Start, start, start_reader, sized, kind_reader, field_with, item}
 use Rattle.rules.proofs.Grammar.ReaderLaws.{Inside, one_on, inside_behind, Within, within_less, within_pure, within_or, within_bind, within_number, within_text_then, within_text_first, within_number_then, first_alone, second_alone, both_stopped}
 use Rattle.rules.proofs.Grammar.NumberLaws.{number_not}
 
@@ -37,16 +37,16 @@ within_kind = within_or 1 _ _ (within_or 1 _ _ within_copy (within_sized pack "(
 
 -- `(K,r)`, and `r`
 abbrev pub key_start : Reader Start
-key_start = do text "(K,"; r ← number; text ")"; pure (start inKey r)
+key_start = do text "(K,"; r ← number; text ")"; pure (start in_key r)
 
 abbrev pub data_start : Reader Start
-data_start = do r ← number; pure (start inData r)
+data_start = do r ← number; pure (start in_data r)
 
 within_key : Within 1 key_start
-within_key = within_text_first "(K," _ (omega arith) (within_number_then _ (λ r. within_text_then ")" _ (within_pure (start inKey r))))
+within_key = within_text_first "(K," _ (omega arith) (within_number_then _ (λ r. within_text_then ")" _ (within_pure (start in_key r))))
 
 within_data : Within 1 data_start
-within_data = within_bind 1 0 number _ within_number (λ r. within_pure (start inData r))
+within_data = within_bind 1 0 number _ within_number (λ r. within_pure (start in_data r))
 
 within_start : Within 1 start_reader
 unfolding start_reader

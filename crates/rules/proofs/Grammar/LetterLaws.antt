@@ -8,7 +8,7 @@ use native.Mathlib.Omega.{arith}
 use lib.Dec.{eqb}
 use borrow.Author.Tests.{ne_eqb}
 use Rattle.rules.specs.Reader.{Read, read, stopped, Reader, pure, onward, ◌>>◌, or_else, ◌or◌, text, number}
-use Rattle.rules.specs.Grammar.{tc, tf, tr, trf, ff, fv, fu, fsp, Size, two, one, Input, plain, Parameter, mode_is, format_is, input_is, output_is, rewindIn, rewindOut, size_reader, input_reader, mode_reader, format_reader, sizes_reader, rewind_reader}
+use Rattle.rules.specs.Grammar.{tc, tf, tr, trf, ff, fv, fu, fsp, Size, two, one, Input, plain, Parameter, mode_is, format_is, input_is, output_is, rewind_in, rewind_out, size_reader, input_reader, mode_reader, format_reader, sizes_reader, rewind_reader}
 use Rattle.rules.specs.TextParts.{stops}
 use Rattle.rules.proofs.Grammar.ReaderLaws.{part_all, Inside, one_on, reads, or_stops, or_first, or_second, inside_behind, within_less, within_pure, within_or, within_bind, within_text_then, within_number_then, first_alone, second_alone, both_stopped}
 use Rattle.rules.proofs.Grammar.NumberLaws.{number_not}
@@ -121,47 +121,47 @@ module _ (s : List ℕ) where
   no_out = let x : List ℕ = 73 ∷ s in both_stopped x (both_stopped x refl refl) refl
 
   -- the letters behind I, or O, decide
-  rewind_i : (t : Read Parameter) → onward (in_letters (73 ∷ s)) (λ u. pure rewindIn) ≡ t → Inside 0 (73 ∷ s) t → rewind_reader (73 ∷ s) ≡ t
+  rewind_i : (t : Read Parameter) → onward (in_letters (73 ∷ s)) (λ u. pure rewind_in) ≡ t → Inside 0 (73 ∷ s) t → rewind_reader (73 ∷ s) ≡ t
   unfolding rewind_reader
-  rewind_i t e i = first_alone (73 ∷ s) e (ap (λ (r : Read Unit). onward r (λ u. pure rewindOut)) no_out) i
+  rewind_i t e i = first_alone (73 ∷ s) e (ap (λ (r : Read Unit). onward r (λ u. pure rewind_out)) no_out) i
 
-  rewind_o : (t : Read Parameter) → onward (out_letters (79 ∷ s)) (λ u. pure rewindOut) ≡ t → Inside 0 (79 ∷ s) t → rewind_reader (79 ∷ s) ≡ t
+  rewind_o : (t : Read Parameter) → onward (out_letters (79 ∷ s)) (λ u. pure rewind_out) ≡ t → Inside 0 (79 ∷ s) t → rewind_reader (79 ∷ s) ≡ t
   unfolding rewind_reader
-  rewind_o t e i = second_alone (79 ∷ s) (ap (λ (r : Read Unit). onward r (λ u. pure rewindIn)) no_in) e i
+  rewind_o t e i = second_alone (79 ∷ s) (ap (λ (r : Read Unit). onward r (λ u. pure rewind_in)) no_in) e i
 
 module _ (s : List ℕ) where
   two_on : (b c : ℕ) (p : Parameter) → Inside 0 (b ∷ c ∷ s) (read p s)
   two_on b c p = inside_behind {d = 0} b (inside_behind {d = 0} c (reads (part_all s)))
 
-  pub rewind_ir : rewind_reader (73 ∷ 82 ∷ s) ≡ read rewindIn s
+  pub rewind_ir : rewind_reader (73 ∷ 82 ∷ s) ≡ read rewind_in s
   unfolding text
-  rewind_ir = rewind_i (82 ∷ s) (read rewindIn s) refl (two_on 73 82 rewindIn)
+  rewind_ir = rewind_i (82 ∷ s) (read rewind_in s) refl (two_on 73 82 rewind_in)
 
-  pub rewind_in : rewind_reader (73 ∷ 78 ∷ s) ≡ read rewindIn s
+  pub rewind_in_lem : rewind_reader (73 ∷ 78 ∷ s) ≡ read rewind_in s
   unfolding text
-  rewind_in = rewind_i (78 ∷ s) (read rewindIn s) refl (two_on 73 78 rewindIn)
+  rewind_in_lem = rewind_i (78 ∷ s) (read rewind_in s) refl (two_on 73 78 rewind_in)
 
-  pub rewind_iu : rewind_reader (73 ∷ 85 ∷ s) ≡ read rewindIn s
+  pub rewind_iu : rewind_reader (73 ∷ 85 ∷ s) ≡ read rewind_in s
   unfolding text
   rewind_iu =
-      rewind_i (85 ∷ s) (read rewindIn s)
-      (ap (λ (r : Read Unit). onward r (λ u. pure rewindIn)) (or_second _ tt s (or_stops (stops (85 ∷ s)) (stops (85 ∷ s))) refl))
-      (two_on 73 85 rewindIn)
+      rewind_i (85 ∷ s) (read rewind_in s)
+      (ap (λ (r : Read Unit). onward r (λ u. pure rewind_in)) (or_second _ tt s (or_stops (stops (85 ∷ s)) (stops (85 ∷ s))) refl))
+      (two_on 73 85 rewind_in)
 
-  pub rewind_or : rewind_reader (79 ∷ 82 ∷ s) ≡ read rewindOut s
+  pub rewind_or : rewind_reader (79 ∷ 82 ∷ s) ≡ read rewind_out s
   unfolding text
-  rewind_or = rewind_o (82 ∷ s) (read rewindOut s) refl (two_on 79 82 rewindOut)
+  rewind_or = rewind_o (82 ∷ s) (read rewind_out s) refl (two_on 79 82 rewind_out)
 
-  pub rewind_on : rewind_reader (79 ∷ 78 ∷ s) ≡ read rewindOut s
+  pub rewind_on : rewind_reader (79 ∷ 78 ∷ s) ≡ read rewind_out s
   unfolding text
-  rewind_on = rewind_o (78 ∷ s) (read rewindOut s) refl (two_on 79 78 rewindOut)
+  rewind_on = rewind_o (78 ∷ s) (read rewind_out s) refl (two_on 79 78 rewind_out)
 
-  pub rewind_ou : rewind_reader (79 ∷ 85 ∷ s) ≡ read rewindOut s
+  pub rewind_ou : rewind_reader (79 ∷ 85 ∷ s) ≡ read rewind_out s
   unfolding text
   rewind_ou =
-      rewind_o (85 ∷ s) (read rewindOut s)
-      (ap (λ (r : Read Unit). onward r (λ u. pure rewindOut)) (or_second _ tt s (or_stops (stops (85 ∷ s)) (stops (85 ∷ s))) refl))
-      (two_on 79 85 rewindOut)
+      rewind_o (85 ∷ s) (read rewind_out s)
+      (ap (λ (r : Read Unit). onward r (λ u. pure rewind_out)) (or_second _ tt s (or_stops (stops (85 ∷ s)) (stops (85 ∷ s))) refl))
+      (two_on 79 85 rewind_out)
 
 -- no R, N or U behind the letter
 pub rewind_other : (b : ℕ) (s : List ℕ) → (b ≡ 82 → ⊥) → (b ≡ 78 → ⊥) → (b ≡ 85 → ⊥)
@@ -173,8 +173,8 @@ rewind_other b s r n u =
     let f : eqb 82 b ≡ false = ne_eqb 82 b (λ e. r (sym e)) in
     let g : eqb 78 b ≡ false = ne_eqb 78 b (λ e. n (sym e)) in
     let h : eqb 85 b ≡ false = ne_eqb 85 b (λ e. u (sym e)) in (
-      rewind_i x (stopped x) (rw (f, g, h) (ap (λ (r : Read Unit). onward r (λ u. pure rewindIn)) e)) (one_on 73 x),
-      rewind_o x (stopped x) (rw (f, g, h) (ap (λ (r : Read Unit). onward r (λ u. pure rewindOut)) e)) (one_on 79 x),
+      rewind_i x (stopped x) (rw (f, g, h) (ap (λ (r : Read Unit). onward r (λ u. pure rewind_in)) e)) (one_on 73 x),
+      rewind_o x (stopped x) (rw (f, g, h) (ap (λ (r : Read Unit). onward r (λ u. pure rewind_out)) e)) (one_on 79 x),
     )
 
 pub rewind_short : (rewind_reader (73 ∷ []) ≡ stopped []) × (rewind_reader (79 ∷ []) ≡ stopped [])

@@ -6,7 +6,7 @@ use Prim.Native.Nat.{ℕ}
 use native.Mathlib.Omega.{arith}
 use borrow.Author.Tests.{ne_eqb}
 use Rattle.rules.specs.Reader.{Read, stopped, Reader, pure, onward, ◌>>=◌, ◌>>◌, or_else, ◌or◌, text, number}
-use Rattle.rules.specs.Grammar.{tc, tf, tr, trf, ff, fv, fu, fsp, two, one, Input, plain, keyed, mode_is, format_is, input_is, output_is, rewindIn, rewindOut, first_is, size_reader, input_reader, mode_reader, format_reader, sizes_reader, rewind_reader, first_reader, parameter}
+use Rattle.rules.specs.Grammar.{tc, tf, tr, trf, ff, fv, fu, fsp, two, one, Input, plain, keyed, mode_is, format_is, input_is, output_is, rewind_in, rewind_out, first_is, size_reader, input_reader, mode_reader, format_reader, sizes_reader, rewind_reader, first_reader, parameter}
 use Rattle.rules.proofs.Grammar.ReaderLaws.{Inside, Within, within_less, within_pure, within_or, within_then, within_bind, within_text, within_text_then, within_text_first, within_number_then, first_alone, second_alone, both_stopped}
 
 -- ---- each takes a byte or more
@@ -62,13 +62,13 @@ unfolding rewind_reader
 within_rewind =
     within_or 1 _ _
     (within_less 2 1 _ (omega arith)
-    (within_then 2 0 (text "IR" or text "IN" or text "IU") (pure rewindIn)
+    (within_then 2 0 (text "IR" or text "IN" or text "IU") (pure rewind_in)
     (within_or 2 _ _ (within_or 2 _ _ (within_text "IR") (within_text "IN")) (within_text "IU"))
-    (within_pure rewindIn)))
+    (within_pure rewind_in)))
     (within_less 2 1 _ (omega arith)
-    (within_then 2 0 (text "OR" or text "ON" or text "OU") (pure rewindOut)
+    (within_then 2 0 (text "OR" or text "ON" or text "OU") (pure rewind_out)
     (within_or 2 _ _ (within_or 2 _ _ (within_text "OR") (within_text "ON")) (within_text "OU"))
-    (within_pure rewindOut)))
+    (within_pure rewind_out)))
 
 pub within_first : Within 1 first_reader
 unfolding first_reader
@@ -105,7 +105,7 @@ module _ (b : ℕ) (s : List ℕ) where
       let x : List ℕ = b ∷ s in
       let e : ◌≡◌ {A = Read Unit} (or_else (or_else (stopped x) (stopped x)) (stopped x)) (stopped x) = both_stopped x (both_stopped x refl refl) refl in
       rw (ne_eqb 73 b (λ e. h (sym e)), ne_eqb 79 b (λ e. k (sym e)))
-      (both_stopped x (ap (λ (r : Read Unit). onward r (λ u. pure rewindIn)) e) (ap (λ (r : Read Unit). onward r (λ u. pure rewindOut)) e))
+      (both_stopped x (ap (λ (r : Read Unit). onward r (λ u. pure rewind_in)) e) (ap (λ (r : Read Unit). onward r (λ u. pure rewind_out)) e))
 
   first_not : (b ≡ 82 → ⊥) → first_reader (b ∷ s) ≡ stopped (b ∷ s)
   unfolding first_reader text

@@ -9,7 +9,7 @@ use lib.ListN.{length}
 use Rattle.rules.specs.Base.{ascii}
 use Rattle.rules.specs.Reader.{read, stopped, Reader, pure, ◌>>=◌, ◌>>◌, ◌or◌, text, number}
 use Rattle.rules.specs.Halves.{copy, pack, unpack}
-use Rattle.rules.specs.Grammar.{inData, inKey, tc, tf, tr, trf, ff, fv, fu, fsp, Size, two, one, plain, keyed, Parameter, mode_is, format_is, input_is, output_is, rewindIn, rewindOut, first_is, cv, Start, start, field_with, size_reader, input_reader, start_reader, mode_reader, format_reader, sizes_reader, rewind_reader, first_reader, parameter, sized, kind_reader, item}
+use Rattle.rules.specs.Grammar.{in_data, in_key, tc, tf, tr, trf, ff, fv, fu, fsp, Size, two, one, plain, keyed, Parameter, mode_is, format_is, input_is, output_is, rewind_in, rewind_out, first_is, cv, Start, start, field_with, size_reader, input_reader, start_reader, mode_reader, format_reader, sizes_reader, rewind_reader, first_reader, parameter, sized, kind_reader, item}
 use Rattle.rules.specs.Texts.{NumberText, SizeText, InputText, ParameterText, StartText, KindText, ItemText}
 use Rattle.rules.proofs.Grammar.ReaderLaws.{read_left, bind_read, text_sound, part_length, within_read}
 use Rattle.rules.proofs.Grammar.ListLaws.{text_other}
@@ -56,12 +56,12 @@ prompt_kind =
     let p = prompt_text KindText "(P," (pair_behind pack) behind_p in
     let u = prompt_text KindText "(U," (pair_behind unpack) behind_u in
     let digit = starts_bind 48 57 number (λ s. pure (copy s)) starts_number in
-    let open-P = starts_bind 40 40 (text "(P,") (λ v. pair_behind pack) (starts_mark "(P," 40 _ refl) in
-    let open-U = starts_bind 40 40 (text "(U,") (λ v. pair_behind unpack) (starts_mark "(U," 40 _ refl) in
+    let open_p = starts_bind 40 40 (text "(P,") (λ v. pair_behind pack) (starts_mark "(P," 40 _ refl) in
+    let open_u = starts_bind 40 40 (text "(U,") (λ v. pair_behind unpack) (starts_mark "(U," 40 _ refl) in
     prompt_or KindText _ _
-    (prompt_or KindText _ _ prompt_copies p (apart KindText 48 57 40 40 _ _ p digit open-P (inr (omega arith))))
+    (prompt_or KindText _ _ prompt_copies p (apart KindText 48 57 40 40 _ _ p digit open_p (inr (omega arith))))
     u
-    (behind_both _ _ _ (apart KindText 48 57 40 40 _ _ u digit open-U (inr (omega arith)))
+    (behind_both _ _ _ (apart KindText 48 57 40 40 _ _ u digit open_u (inr (omega arith)))
     (texts_behind _ "(P," "(U," (pair_behind pack) (pair_behind unpack) (omega arith) behind_u (λ v w x e f. clash v w e)))
   where
     clash : (v w : List ℕ) → ascii "(P," ++ v ≡ ascii "(U," ++ w → ⊥
@@ -69,15 +69,15 @@ prompt_kind =
 
 -- behind `(K,`
 abbrev key_behind : Reader Start
-key_behind = do r ← number; text ")"; pure (start inKey r)
+key_behind = do r ← number; text ")"; pure (start in_key r)
 
 prompt_start : Prompt StartText start_reader
 unfolding start_reader
 prompt_start =
     let behind : Prompt (λ y s. StartText (ascii "(K," ++ y) s) key_behind = prompt_bind NumberText _ number _ prompt_number
-    (λ x r a. prompt_text _ ")" _ (prompt_pure _ (start inKey r) (StartText.of_key a))) in
-    let numbers : Prompt StartText (number >>= λ r. pure (start inData r)) = prompt_bind NumberText StartText number (λ r. pure (start inData r)) prompt_number
-    (λ x r a. prompt_pure _ (start inData r) (subst (λ (l : List ℕ). StartText l (start inData r)) (sym (append-nil x)) (StartText.of_data a))) in
+    (λ x r a. prompt_text _ ")" _ (prompt_pure _ (start in_key r) (StartText.of_key a))) in
+    let numbers : Prompt StartText (number >>= λ r. pure (start in_data r)) = prompt_bind NumberText StartText number (λ r. pure (start in_data r)) prompt_number
+    (λ x r a. prompt_pure _ (start in_data r) (subst (λ (l : List ℕ). StartText l (start in_data r)) (sym (append-nil x)) (StartText.of_data a))) in
     prompt_or StartText _ _ (prompt_text StartText "(K," key_behind behind) numbers
     (apart StartText 40 40 48 57 _ _ numbers (starts_bind 40 40 (text "(K,") _ (starts_mark "(K," 40 _ refl)) (starts_bind 48 57 number _ starts_number) (inl (omega arith)))
 
@@ -230,9 +230,9 @@ three_starts p c r s t x y z a b d =
 prompt_rewind : Prompt ParameterText rewind_reader
 unfolding rewind_reader
 prompt_rewind =
-    let o = prompt_three rewindOut "OR" "ON" "OU" ParameterText.OR ParameterText.ON ParameterText.OU (omega arith) (omega arith) (omega arith) in
-    prompt_or ParameterText _ _ (prompt_three rewindIn "IR" "IN" "IU" ParameterText.IR ParameterText.IN ParameterText.IU (omega arith) (omega arith) (omega arith)) o
-    (apart ParameterText 73 73 79 79 _ _ o (three_starts rewindIn 73 "IR" "IN" "IU" _ _ _ refl refl refl) (three_starts rewindOut 79 "OR" "ON" "OU" _ _ _ refl refl refl) (inl (omega arith)))
+    let o = prompt_three rewind_out "OR" "ON" "OU" ParameterText.OR ParameterText.ON ParameterText.OU (omega arith) (omega arith) (omega arith) in
+    prompt_or ParameterText _ _ (prompt_three rewind_in "IR" "IN" "IU" ParameterText.IR ParameterText.IN ParameterText.IU (omega arith) (omega arith) (omega arith)) o
+    (apart ParameterText 73 73 79 79 _ _ o (three_starts rewind_in 73 "IR" "IN" "IU" _ _ _ refl refl refl) (three_starts rewind_out 79 "OR" "ON" "OU" _ _ _ refl refl refl) (inl (omega arith)))
 
 prompt_first : Prompt ParameterText first_reader
 unfolding first_reader
@@ -271,7 +271,7 @@ sizes_starts =
 rewind_starts : Starts 73 79 rewind_reader
 unfolding rewind_reader
 rewind_starts =
-    starts_or 73 73 79 79 _ _ (omega arith) (omega arith) (three_starts rewindIn 73 "IR" "IN" "IU" _ _ _ refl refl refl) (three_starts rewindOut 79 "OR" "ON" "OU" _ _ _ refl refl refl)
+    starts_or 73 73 79 79 _ _ (omega arith) (omega arith) (three_starts rewind_in 73 "IR" "IN" "IU" _ _ _ refl refl refl) (three_starts rewind_out 79 "OR" "ON" "OU" _ _ _ refl refl refl)
 
 first_starts : Starts 82 82 first_reader
 unfolding first_reader

@@ -12,12 +12,12 @@ use borrow.Author.Tests.{ltb-true, ltb-false}
 use Rattle.rules.specs.Base.{joined}
 use Rattle.rules.specs.Answer.{Refusal, Answer, fine, refuse, refused_at, ◌>>=◌, ◌>>◌, unless}
 use Rattle.rules.specs.Places.{All, Some, Found, Byte}
-use Rattle.rules.specs.Grammar.{Mode, tc, tf, tr, trf, fv, inKey}
+use Rattle.rules.specs.Grammar.{Mode, tc, tf, tr, trf, fv, in_key}
 use Rattle.rules.specs.Asked.{Asked, asked_of, fields_of, cvs}
 use Rattle.rules.specs.Reel.{is_reel, blocks_of}
 use Rattle.rules.specs.Plan.{Plan, plan_of, selects, joined_size, combined, assembled}
 use Rattle.rules.specs.Run.{conversion, run_of}
-use Rattle.rules.specs.Rows.{Required, IsKeyed, KeyFits, Asks, Row8, PlanRows, ◌⊳◌, No, Done, GivenBy}
+use Rattle.rules.specs.Rows.{Required, IsKeyed, KeyFits, Asks, Row8, Row9, Row10, PlanRows, ◌⊳◌, No, Done, GivenBy}
 use Rattle.rules.specs.RunRows.{BadIn, Row11, Row12, Row13, Row14, RowRun}
 use Rattle.rules.specs.ColumnRows.{Column, Lowest}
 use Rattle.rules.specs.Accepted.{Accepted}
@@ -132,7 +132,7 @@ Sentences deck r p =
     ⊎ (((p ≡ 1) × (selects r.3.mode ≡ true) × (r.1 ≡ []))
     ⊎ (((p ≡ 2) × (selects r.3.mode ≡ false) × (r.1 ≡ [] → ⊥))
     ⊎ (((r.3.format ≡ fv → ⊥) × Found (λ c. 1 ≤ cvs c) p 2 r.1)
-    ⊎ ((IsKeyed r.3.input → ⊥) × Found (λ c. Some (λ f. f.part ≡ inKey) (fields_of c)) p 2 r.1))))
+    ⊎ ((IsKeyed r.3.input → ⊥) × Found (λ c. Some (λ f. f.part ≡ in_key) (fields_of c)) p 2 r.1))))
 
 -- no place of 8 is below 1
 eight_low : (deck : List ℕ) (q : ℕ) → q < 1 → Row8 deck q ⊎ RowMode deck q → ⊥
@@ -269,7 +269,7 @@ module _ (zone : ℕ) (half : zone < 16) (deck ours theirs : List ℕ) (bytes : 
   upto_deck : Upto Rows 11 0 (plan_to_judge zone deck)
   unfolding plan_to_judge
   upto_deck =
-      upto_bind Rows 8 0 11 0 (asked_of deck) _ (upto_asked deck _) (λ a e1 c1.
+      upto_bind Rows 8 0 11 0 (asked_of deck) _ (upto_asked deck ((λ p. Row8 deck p ⊎ RowMode deck p) ⊳ Row9 deck ⊳ Row10 zone deck ⊳ Further)) (λ a e1 c1.
       upto_then Rows 8 0 11 0 _ _ (upto_mode a e1 c1) (λ e2 c2. upto_same row_plain (plain_row a e1 (unless_fine _ 8 1 e2)) 11 0 (plan_of zone deck) (upto_plan zone deck Further)))
 
   upto_judged : (p : Plan) → plan_to_judge zone deck ≡ fine p → Upto Rows 19 0 (judgement p ours theirs)

@@ -13,7 +13,6 @@ use Rattle.rules.specs.Base.{every, pairs}
 use Rattle.rules.specs.Places.{All, Byte, Half}
 use Rattle.rules.specs.Grammar.{Format, ff, fv, fu, fsp, Size}
 use Rattle.rules.specs.Halves.{halves, out_halves, value, value_in, sources}
-use Rattle.rules.specs.Permitted.{permitted}
 use Rattle.rules.specs.Plan.{Plan, selects, is_fv, is_fs, record_length, block_length, input_halves, allowed, sources_of}
 use Rattle.rules.specs.Output.{may_be, permits, selected, out_record, cost, fits, fits_b, may_hold, converts}
 use Rattle.rules.specs.Accepted.{Accepted}

@@ -7,38 +7,39 @@ use Prim.Native.Nat.{ℕ, ◌≤◌}
 use native.Mathlib.Omega.{arith}
 use Rattle.rules.specs.Places.{All, no_more, also, Some, this, that}
 use Rattle.rules.specs.Halves.{input_size, Field}
-use Rattle.rules.specs.Grammar.{Format, Input, plain, keyed, Part, inData, inKey, CardField}
+use Rattle.rules.specs.Grammar.{Format, Input, plain, keyed, Part, in_data, in_key, CardField}
 use Rattle.rules.specs.Plan.{record_length, joined_size, key_length, part_length, bytes_before, through, is_keyed, is_key, key_fields}
 use Rattle.rules.specs.Rows.{SizeWithin, InputWithin, FieldWithin, IsKeyed, with_key, Inside}
 use Rattle.rules.proofs.Halves.RecordLaws.{sizes_low}
 
 -- ---- fields taken from the key
 
-pub key_is : (q : Part) → is_key q ≡ true → q ≡ inKey
-key_is inData e = absurd (false≢true e)
-key_is inKey e = refl
+pub key_is : (q : Part) → is_key q ≡ true → q ≡ in_key
+key_is in_data e = absurd (false≢true e)
+key_is in_key e = refl
 
-not_key : (q : Part) → is_key q ≡ false → q ≡ inData
-not_key inData e = refl
-not_key inKey e = absurd (true≢false e)
+not_key : (q : Part) → is_key q ≡ false → q ≡ in_data
+not_key in_data e = refl
+not_key in_key e = absurd (true≢false e)
 
-pub some_key : (fs : List CardField) → (key_fields fs ≡ 0 → ⊥) → Some (λ f. f.part ≡ inKey) fs
+pub some_key : (fs : List CardField) → (key_fields fs ≡ 0 → ⊥) → Some (λ f. f.part ≡ in_key) fs
 some_key [] h = absurd (h refl)
 some_key (f ∷ fs) h = go (λ k. some_key fs k) (is_key f.part) refl
   where
-    go : ((key_fields fs ≡ 0 → ⊥) → Some (λ f. f.part ≡ inKey) fs) → (t : Bool) → is_key f.part ≡ t → Some (λ f. f.part ≡ inKey) (f ∷ fs)
+    go : ((key_fields fs ≡ 0 → ⊥) → Some (λ f. f.part ≡ in_key) fs) → (t : Bool) → is_key f.part ≡ t → Some (λ f. f.part ≡ in_key) (f ∷ fs)
     go ih true t = this (key_is f.part t)
     go ih false t = that (ih (λ z. h (rw t (omega arith))))
 
-pub key_some : (fs : List CardField) → Some (λ f. f.part ≡ inKey) fs → key_fields fs ≡ 0 → ⊥
+pub key_some : (fs : List CardField) → Some (λ f. f.part ≡ in_key) fs → key_fields fs ≡ 0 → ⊥
 key_some (f ∷ fs) (this e) z = let k : is_key f.part ≡ true = ap is_key e in omega (arith, (rw k at z))
 key_some (f ∷ fs) (that s) z = key_some fs s (omega arith)
+key_some [] x'' z = elim x'' [ ]
 
-pub no_key_field : (fs : List CardField) → key_fields fs ≡ 0 → All (λ f. f.part ≡ inData) fs
+pub no_key_field : (fs : List CardField) → key_fields fs ≡ 0 → All (λ f. f.part ≡ in_data) fs
 no_key_field [] z = no_more
 no_key_field (f ∷ fs) z = go (no_key_field fs (omega arith)) (is_key f.part) refl
   where
-    go : All (λ f. f.part ≡ inData) fs → (t : Bool) → is_key f.part ≡ t → All (λ f. f.part ≡ inData) (f ∷ fs)
+    go : All (λ f. f.part ≡ in_data) fs → (t : Bool) → is_key f.part ≡ t → All (λ f. f.part ≡ in_data) (f ∷ fs)
     go ih true t = absurd (omega (arith, (rw t at z)))
     go ih false t = also (not_key f.part t) ih
 
@@ -64,7 +65,7 @@ pub record Joined (i : Input) (b : ℕ) (f : Field) : Type 0 where
 
 -- with keys a field reads what it says; without them all fields read data
 abbrev pub Named : Input → CardField → Type 0
-Named i f = is_keyed i ≡ false → f.part ≡ inData
+Named i f = is_keyed i ≡ false → f.part ≡ in_data
 
 pub through_joined : (f : Format) (i : Input) (b : ℕ) (x : CardField) → InputWithin f i → FieldWithin x.field → Inside (part_length i x.part) b x.field → Named i x
     → Joined i b (through (key_length i) x)
@@ -80,14 +81,14 @@ through_joined f (keyed k d) b x w l a n = go x.part refl
     low = (sizes_low x.field.kind l.kind).0
 
     go : (q : Part) → x.part ≡ q → Joined (keyed k d) b (through k x)
-    go inData e =
+    go in_data e =
         let z : bytes_before k x.part ≡ k = ap (bytes_before k) e in
         let p : part_length (keyed k d) x.part ≡ d = ap (part_length (keyed k d)) e in
         record {
           within = record { r = (omega (arith, z, l.r.0), omega (arith, z, p, a.input, low, w.2)); kind = l.kind; t = l.t };
           inside = record { input = omega (arith, z, p, a.input, low, l.r.0); output = a.output };
         }
-    go inKey e =
+    go in_key e =
         let z : bytes_before k x.part ≡ 0 = ap (bytes_before k) e in
         let p : part_length (keyed k d) x.part ≡ k = ap (part_length (keyed k d)) e in
         record {

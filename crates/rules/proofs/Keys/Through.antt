@@ -13,7 +13,7 @@ use borrow.Author.Tests.{eq-eqb}
 use Rattle.rules.specs.Base.{is_empty, joined}
 use Rattle.rules.specs.Places.{All}
 use Rattle.rules.specs.Answer.{fine}
-use Rattle.rules.specs.Grammar.{Mode, tf, Format, ff, Size, two, Input, plain, keyed, Part, inData, inKey, CardField, Item, field, cv}
+use Rattle.rules.specs.Grammar.{Mode, tf, Format, ff, Size, two, Input, plain, keyed, Part, in_data, in_key, CardField, Item, field, cv}
 use Rattle.rules.specs.Halves.{input_size}
 use Rattle.rules.specs.Asked.{Asked, asked_of, fields_of, cvs}
 use Rattle.rules.specs.Plan.{record_length, block_length, joined_size, key_length, part_length, bytes_before, through, Plan, assembled, is_fv, sound, is_keyed, key_fits, is_key, key_fields, card_fits, inside, inside_part, combined, plan_of}
@@ -58,15 +58,15 @@ counts_through zone a =
 -- ---- a field reads its own part
 
 -- bytes of a part are bytes of the record, behind what stands before the part
-part_read : (k s j : ℕ) (q : Part) (r : List ℕ) → 1 ≤ j → (q ≡ inKey → j + s - 1 ≤ k) → take s (drop (bytes_before k q + j - 1) r) ≡ take s (drop (j - 1) (part_bytes k q r))
-part_read k s j inData r l h = ap (take s) (ap (λ (i : ℕ). drop i r) (let z : k + j - 1 ≡ k + (j - 1) = omega arith in z) ∙ sym (drop-drop (j - 1) k r))
-part_read k s j inKey r l h =
+part_read : (k s j : ℕ) (q : Part) (r : List ℕ) → 1 ≤ j → (q ≡ in_key → j + s - 1 ≤ k) → take s (drop (bytes_before k q + j - 1) r) ≡ take s (drop (j - 1) (part_bytes k q r))
+part_read k s j in_data r l h = ap (take s) (ap (λ (i : ℕ). drop i r) (let z : k + j - 1 ≡ k + (j - 1) = omega arith in z) ∙ sym (drop-drop (j - 1) k r))
+part_read k s j in_key r l h =
     ap (λ (i : ℕ). take s (drop i r)) (let z : 0 + j - 1 ≡ j - 1 = omega arith in z) ∙ sym (take_drop s (j - 1) k r (omega (arith, h refl)))
 
 -- a field of the key ends in it
-key_end : (i : Input) (q : Part) (x : ℕ) → x ≤ part_length i q → (is_keyed i ≡ false → q ≡ inData) → q ≡ inKey → x ≤ key_length i
-key_end (keyed k d) inKey x l n e = l
-key_end (keyed k d) inData x l n e = absurd (true≢false (sym (ap is_key e)))
+key_end : (i : Input) (q : Part) (x : ℕ) → x ≤ part_length i q → (is_keyed i ≡ false → q ≡ in_data) → q ≡ in_key → x ≤ key_length i
+key_end (keyed k d) in_key x l n e = l
+key_end (keyed k d) in_data x l n e = absurd (true≢false (sym (ap is_key e)))
 key_end (plain s) q x l n e = absurd (true≢false (sym (ap is_key e) ∙ ap is_key (n refl)))
 
 -- a field inside its part, and taken from the key only with keys: counting through it reads just what it reads, as it stands on its card, of its own part

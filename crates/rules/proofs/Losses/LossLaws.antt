@@ -34,7 +34,7 @@ module _ (zone many h : ℕ) where
   reason_low : (x : ℕ) (fs : List Field) → 1 ≤ x → 1 ≤ reason_by zone many h x fs
   unfolding reason_of
   reason_low x [] l = l
-  reason_low x (f ∷ fs) l = reason_low _ fs (some_reason (reads f h) (shows zone many h f) x l)
+  reason_low x (f ∷ fs) l = reason_low (cond (reads f h) (cond (shows zone many h f) 3 2) x) fs (some_reason (reads f h) (shows zone many h f) x l)
 
 module _ (p : Plan) where
   abbrev why_lost : ℕ → ℕ

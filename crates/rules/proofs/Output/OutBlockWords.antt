@@ -33,6 +33,7 @@ module _ (p : Plan) (ok : Accepted p) where
   long_enough ff e r w t = omega (arith, w)
   long_enough fv e r w t = w.1 t
   long_enough fu e r w t = absurd (false≢true (sym (ap selects (ok.required.fu_with_tc e)) ∙ t))
+  long_enough Rattle.rules.specs.Grammar.fsp e r w t = elim w [ ]
 
   whole_records : {rs : List (List ℕ)} → All (RecordIs p.format p) rs → All (All Byte) rs → All (Whole p) rs
   whole_records ws bs = all_imply (λ r w. record { bytes = w.1; long = long_enough p.format refl r w.0 }) (all_with ws bs)
@@ -70,8 +71,8 @@ module _ (p : Plan) (z : p.zone < 16) (ok : Accepted p) where
       go : outs ≡ left (i + length rs) more → (ts : List (List ℕ)) → drop (p.first - i) rs ≡ ts → os ∷ outs ≡ left i (rs ∷ more)
       go ih [] e = absurd (n e)
       go ih (t ∷ ts) e =
-          let os-are : os ≡ map (out_record p) (t ∷ ts) = outputs_once p z ok (all_drop (p.first - i) w) o ∙ ap (map (out_record p)) e in
-          rw (e, next i rs more) (ap₂ ◌∷◌ os-are ih)
+          let os_are : os ≡ map (out_record p) (t ∷ ts) = outputs_once p z ok (all_drop (p.first - i) w) o ∙ ap (map (out_record p)) e in
+          rw (e, next i rs more) (ap₂ ◌∷◌ os_are ih)
 
   -- ---- TR and TRF
 

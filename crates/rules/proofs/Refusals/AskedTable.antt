@@ -67,10 +67,10 @@ says_same deck us us' cards cards' s t =
 abbrev pub AsksFor : List ℕ → Asked → Type 0
 AsksFor deck a = (us : List Parameter) × Says deck us a.cards × Complete us a.utility
 
-abbrev pub Asks-once : List ℕ → Asked → Type 0
-Asks-once deck a = (us : List Parameter) × Says deck us a.cards × Complete us a.utility × (Twice us → ⊥)
+abbrev pub AsksOnce : List ℕ → Asked → Type 0
+AsksOnce deck a = (us : List Parameter) × Says deck us a.cards × Complete us a.utility × (Twice us → ⊥)
 
-pub asked_once : (deck : List ℕ) (a b : Asked) → AsksFor deck a → Asks-once deck b → a ≡ b
+pub asked_once : (deck : List ℕ) (a b : Asked) → AsksFor deck a → AsksOnce deck b → a ≡ b
 asked_once deck a b (us, s, f) (us', t, g, once) =
     let w = says_same deck us us' a.cards b.cards s t in
     let e = complete_same us' a.utility b.utility once (subst (λ (z : List Parameter). Complete z a.utility) w.0 f) g in
@@ -253,7 +253,7 @@ module _ (deck : List ℕ) (more : ℕ → ℕ → Type 0) where
       upto_then Rows 8 0 8 0 _ _ (upto_limits c.parameters c.items s u f (not_twice os c e3) os c4) (λ e5 c5. c5)))))
 
   -- what is asked is what the deck says
-  pub asked_says : (a : Asked) → asked_of deck ≡ fine a → Asks-once deck a
+  pub asked_says : (a : Asked) → asked_of deck ≡ fine a → AsksOnce deck a
   unfolding asked_of
   asked_says a e =
       let s1 = bind_fine (operands_of deck) _ a e in
@@ -263,4 +263,4 @@ module _ (deck : List ℕ) (more : ℕ → ℕ → Type 0) where
       let s5 = then_fine (limits s1.0 s2.0 s4.0) _ a s4.2 in
       let s = says_of s1.0 (operands_of_lem s1.0 s1.1) s2.0 s2.1 in
       let f = complete_fine s2.0.parameters s4.0 s4.1 in
-      subst (Asks-once deck) (fine_same _ a s5.1) (s2.0.parameters, s, f, not_twice s1.0 s2.0 s3.0)
+      subst (AsksOnce deck) (fine_same _ a s5.1) (s2.0.parameters, s, f, not_twice s1.0 s2.0 s3.0)

@@ -161,3 +161,4 @@ every_some q (x ∷ xs) e = go (λ e'. every_some q xs e') (q x) refl
 pub some_every : {A : Type 0} (q : A → Bool) (xs : List A) → Some (λ x. q x ≡ false) xs → every q xs ≡ false
 some_every q (x ∷ xs) (this e) = rw e
 some_every q (x ∷ xs) (that s) = rw (some_every q xs s) (and-false (q x))
+some_every {A = A} q [] x' = elim x' [ ]

@@ -10,7 +10,7 @@ use lib.Dec.{eqb}
 use borrow.Author.Tests.{eqb-true, eqb-false, eq-eqb}
 use Rattle.rules.specs.Answer.{fine, ◌>>=◌}
 use Rattle.rules.specs.Places.{Some, this, that}
-use Rattle.rules.specs.Grammar.{Mode, Format, Size, Input, Parameter, mode_is, format_is, input_is, output_is, rewindIn, rewindOut, first_is}
+use Rattle.rules.specs.Grammar.{Mode, Format, Size, Input, Parameter, mode_is, format_is, input_is, output_is, rewind_in, rewind_out, first_is}
 use Rattle.rules.specs.Asked.{letter, among, distinct, GivenParameters, note, given, need, Utility, complete}
 use Rattle.rules.specs.Rows.{Alike, both_t, both_f, both_a, both_b, both_i, both_o, both_r, Twice, again, after, IsT, a_t, IsF, an_f, IsA, an_a, IsB, a_b, IsR, an_r, Missing, Complete}
 use Rattle.rules.proofs.Refusals.AnswerLaws.{not_fine, fine_same, bind_fine}
@@ -19,10 +19,10 @@ use Rattle.rules.proofs.Refusals.Given.{Outcome, outcome_same, some_long, some_m
 -- ---- parameters of one letter
 
 pub data IsI : Parameter → Type 0 where
-  an_i : IsI rewindIn
+  an_i : IsI rewind_in
 
 pub data IsO : Parameter → Type 0 where
-  an_o : IsO rewindOut
+  an_o : IsO rewind_out
 
 -- a parameter of this letter
 abbrev pub Of : ℕ → Parameter → Type 0
@@ -39,8 +39,8 @@ of_own (mode_is m) = a_t
 of_own (format_is f) = an_f
 of_own (input_is s) = an_a
 of_own (output_is s) = a_b
-of_own rewindIn = an_i
-of_own rewindOut = an_o
+of_own rewind_in = an_i
+of_own rewind_out = an_o
 of_own (first_is n) = an_r
 
 pub of_letter : (k : ℕ) (x : Parameter) → letter x ≡ k → Of k x
@@ -48,36 +48,43 @@ of_letter k x e = subst (λ (i : ℕ). Of i x) e (of_own x)
 
 letter_t : (x : Parameter) → IsT x → letter x ≡ 0
 letter_t (mode_is m) a_t = refl
+letter_t _ z = elim z [ ]
 
 letter_f : (x : Parameter) → IsF x → letter x ≡ 1
 letter_f (format_is f) an_f = refl
+letter_f _ z = elim z [ ]
 
 letter_a : (x : Parameter) → IsA x → letter x ≡ 2
 letter_a (input_is s) an_a = refl
+letter_a _ z = elim z [ ]
 
 letter_b : (x : Parameter) → IsB x → letter x ≡ 3
 letter_b (output_is s) a_b = refl
+letter_b _ z = elim z [ ]
 
 letter_r : (x : Parameter) → IsR x → letter x ≡ 6
 letter_r (first_is n) an_r = refl
+letter_r _ z = elim z [ ]
 
 pub alike_letter : (x y : Parameter) → Alike x y → letter y ≡ letter x
 alike_letter (mode_is m) (mode_is m') both_t = refl
 alike_letter (format_is f) (format_is f') both_f = refl
 alike_letter (input_is s) (input_is s') both_a = refl
 alike_letter (output_is s) (output_is s') both_b = refl
-alike_letter rewindIn rewindIn both_i = refl
-alike_letter rewindOut rewindOut both_o = refl
+alike_letter rewind_in rewind_in both_i = refl
+alike_letter rewind_out rewind_out both_o = refl
 alike_letter (first_is n) (first_is n') both_r = refl
+alike_letter _ _ z = elim z [ ]
 
 pub alike_of : (x y : Parameter) → Of (letter x) y → Alike x y
 alike_of (mode_is m) (mode_is m') a_t = both_t
 alike_of (format_is f) (format_is f') an_f = both_f
 alike_of (input_is s) (input_is s') an_a = both_a
 alike_of (output_is s) (output_is s') a_b = both_b
-alike_of rewindIn rewindIn an_i = both_i
-alike_of rewindOut rewindOut an_o = both_o
+alike_of rewind_in rewind_in an_i = both_i
+alike_of rewind_out rewind_out an_o = both_o
 alike_of (first_is n) (first_is n') an_r = both_r
+alike_of _ _ z = elim z [ ]
 
 -- ---- refusal 4: a parameter stands twice
 
@@ -105,6 +112,7 @@ twice_of (u ∷ us) e = go (λ e'. twice_of us e') (among (letter u) (map letter
 pub of_twice : (us : List Parameter) → Twice us → distinct (map letter us) ≡ false
 of_twice (u ∷ us) (again s) = rw (some_among (letter u) us (some_map (λ y e. alike_letter u y e) s))
 of_twice (u ∷ us) (after t) = rw (of_twice us t) (and-false (not (among (letter u) (map letter us))))
+of_twice [] x' = elim x' [ ]
 
 -- ---- refusal 5: T, F, A or B is missing
 
@@ -142,8 +150,8 @@ passes (mode_is m) g = record { mode = λ h. absurd (h refl); format = λ h. ref
 passes (format_is f) g = record { mode = λ h. refl; format = λ h. absurd (h refl); input = λ h. refl; output = λ h. refl; first = λ h. refl }
 passes (input_is s) g = record { mode = λ h. refl; format = λ h. refl; input = λ h. absurd (h refl); output = λ h. refl; first = λ h. refl }
 passes (output_is s) g = record { mode = λ h. refl; format = λ h. refl; input = λ h. refl; output = λ h. absurd (h refl); first = λ h. refl }
-passes rewindIn g = record { mode = λ h. refl; format = λ h. refl; input = λ h. refl; output = λ h. refl; first = λ h. refl }
-passes rewindOut g = record { mode = λ h. refl; format = λ h. refl; input = λ h. refl; output = λ h. refl; first = λ h. refl }
+passes rewind_in g = record { mode = λ h. refl; format = λ h. refl; input = λ h. refl; output = λ h. refl; first = λ h. refl }
+passes rewind_out g = record { mode = λ h. refl; format = λ h. refl; input = λ h. refl; output = λ h. refl; first = λ h. refl }
 passes (first_is n) g = record { mode = λ h. refl; format = λ h. refl; input = λ h. refl; output = λ h. refl; first = λ h. absurd (h refl) }
 
 -- a part of what is given, by the parameters of its letter k; Is says that a parameter has the letter
@@ -156,6 +164,7 @@ module _ {A B : Type 0} (k : ℕ) (part : GivenParameters → B) (is : A → Par
   part_said own says a (u ∷ us) once (that s) =
       passed u (given us) (λ e. once (again (some_map (λ y q. alike_of u y (of_letter (letter u) y (ap letter q ∙ own a ∙ sym e))) s)))
       ∙ part_said own says a us (λ t. once (after t)) s
+  part_said own says a [] once x'' = elim x'' [ ]
 
   -- where none of them stands there
   part_unsaid : (us : List Parameter) → (Some Is us → ⊥) → part (given us) ≡ part (given [])
@@ -191,34 +200,44 @@ module _ {A B : Type 0} (k : ℕ) (part : GivenParameters → B) (is : A → Par
         go : (part (given us) ≡ b → ⊥) → (t : Bool) → eqb (letter u) k ≡ t → ⊥
         go ih true t = notes u (given us) (of u (eqb-true (letter u) k t)) e
         go ih false t = ih (sym (passed u (given us) (eqb-false (letter u) k t)) ∙ e)
+    part_missing b notes [] e x'' = elim x'' [ ]
 
 -- what a parameter of each letter notes
 notes_t : (x : Parameter) (m : Mode) (g : GivenParameters) → IsT x → (note x g).mode ≡ some m → x ≡ mode_is m
 notes_t (mode_is n) m g a_t e = ap mode_is (some-injective n m e)
+notes_t _ _ _ z _ = elim z [ ]
 
 notes_f : (x : Parameter) (f : Format) (g : GivenParameters) → IsF x → (note x g).format ≡ some f → x ≡ format_is f
 notes_f (format_is n) f g an_f e = ap format_is (some-injective n f e)
+notes_f _ _ _ z _ = elim z [ ]
 
 notes_a : (x : Parameter) (s : Input) (g : GivenParameters) → IsA x → (note x g).input ≡ some s → x ≡ input_is s
 notes_a (input_is n) s g an_a e = ap input_is (some-injective n s e)
+notes_a _ _ _ z _ = elim z [ ]
 
 notes_b : (x : Parameter) (s : Size) (g : GivenParameters) → IsB x → (note x g).output ≡ some s → x ≡ output_is s
 notes_b (output_is n) s g a_b e = ap output_is (some-injective n s e)
+notes_b _ _ _ z _ = elim z [ ]
 
 notes_r : (x : Parameter) (n : ℕ) (g : GivenParameters) → IsR x → (note x g).first ≡ n → x ≡ first_is n
 notes_r (first_is m) n g an_r e = ap first_is e
+notes_r _ _ _ z _ = elim z [ ]
 
 some_t : (x : Parameter) (g : GivenParameters) → IsT x → (note x g).mode ≡ none → ⊥
 some_t (mode_is m) g a_t e = none-ne-some m (sym e)
+some_t _ _ z _ = elim z [ ]
 
 some_f : (x : Parameter) (g : GivenParameters) → IsF x → (note x g).format ≡ none → ⊥
 some_f (format_is f) g an_f e = none-ne-some f (sym e)
+some_f _ _ z _ = elim z [ ]
 
 some_a : (x : Parameter) (g : GivenParameters) → IsA x → (note x g).input ≡ none → ⊥
 some_a (input_is s) g an_a e = none-ne-some s (sym e)
+some_a _ _ z _ = elim z [ ]
 
 some_b : (x : Parameter) (g : GivenParameters) → IsB x → (note x g).output ≡ none → ⊥
 some_b (output_is s) g a_b e = none-ne-some s (sym e)
+some_b _ _ z _ = elim z [ ]
 
 lacks_missing : (us : List Parameter) → Lacks (given us) → Missing us
 lacks_missing us (inl e) = inl (part_missing 0 (λ g. g.mode) mode_is some (λ x g. (passes x g).mode) IsT (of_letter 0) letter_t none some_t us e)

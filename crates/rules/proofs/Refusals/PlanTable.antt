@@ -12,7 +12,7 @@ use borrow.Author.Tests.{ltb-true, ltb-false, leb-false, eqb-false, ne_eqb, lt-l
 use Rattle.rules.specs.Base.{is_empty, joined}
 use Rattle.rules.specs.Answer.{fine, refused_at, unless, each}
 use Rattle.rules.specs.Places.{Some, Found}
-use Rattle.rules.specs.Grammar.{Format, fv, Input, inKey, CardField, Item}
+use Rattle.rules.specs.Grammar.{Format, fv, Input, in_key, CardField, Item}
 use Rattle.rules.specs.Asked.{Asked, asked_of, fields_of, cvs}
 use Rattle.rules.specs.Plan.{Plan, plan_of, assembled, sound, combined, selects, is_fv, record_length, joined_size, part_length, is_keyed, key_fields, key_fits, card_fits, inside_part, input_halves, barren_half}
 use Rattle.rules.specs.InWords.{MayBe}
@@ -26,7 +26,7 @@ use Rattle.rules.proofs.Keys.KeyLaws.{some_key, key_some, is_keyed_lem, keyed_is
 use Rattle.rules.proofs.Base.Tests.{and_left, and_right, and_both, never_true, fails, failing}
 use Rattle.rules.proofs.Refusals.Given.{found_low, found_map, found_either, found_some, unless_outcome, each_outcome, Clear, clear_next, Upto, stage, stage_to, upto_bind, upto_then, given_exactly, fine_exactly}
 use Rattle.rules.proofs.Refusals.BarrenOutcome.{barren_outcome}
-use Rattle.rules.proofs.Refusals.AskedTable.{Asks-once, asked_once, upto_asked, asked_says}
+use Rattle.rules.proofs.Refusals.AskedTable.{AsksOnce, asked_once, upto_asked, asked_says}
 
 -- ---- refusal 8
 
@@ -56,7 +56,7 @@ Broken p a =
     ⊎ (((p ≡ 1) × (selects a.utility.mode ≡ true) × (a.cards ≡ []))
     ⊎ (((p ≡ 2) × (selects a.utility.mode ≡ false) × (a.cards ≡ [] → ⊥))
     ⊎ (((a.utility.format ≡ fv → ⊥) × Found (λ c. 1 ≤ cvs c) p 2 a.cards)
-    ⊎ ((IsKeyed a.utility.input → ⊥) × Found (λ c. Some (λ f. f.part ≡ inKey) (fields_of c)) p 2 a.cards))))
+    ⊎ ((IsKeyed a.utility.input → ⊥) × Found (λ c. Some (λ f. f.part ≡ in_key) (fields_of c)) p 2 a.cards))))
 
 abbrev Beyond : ℕ → Asked → Type 0
 Beyond p a = Found (λ f. Inside (part_length a.utility.input f.part) (record_length a.utility.output) f.field → ⊥) p 1 (fields_of (joined a.cards))
@@ -65,7 +65,7 @@ module _ (zone : ℕ) (deck : List ℕ) (more : ℕ → ℕ → Type 0) where
   abbrev Rows : ℕ → ℕ → Type 0
   Rows = PlanRows zone deck more
 
-  module _ (a : Asked) (w : Asks-once deck a) where
+  module _ (a : Asked) (w : AsksOnce deck a) where
     row8 : (p : ℕ) → Row8 deck p → Broken p a
     row8 p r = subst (Broken p) (asked_once deck (record { utility = r.3; cards = r.1 }) a (r.0, r.2, r.4) w) r.5
 
@@ -144,7 +144,7 @@ module _ (zone : ℕ) (deck : List ℕ) (more : ℕ → ℕ → Type 0) where
         none false n e = (refl, eqb-false n 0 e)
 
         to : (p : ℕ) → Found (λ c. cv_fits c ≡ false) p 2 a.cards ⊎ Found (λ c. keys_fit c ≡ false) p 2 a.cards
-            → ((f ≡ fv → ⊥) × Found (λ c. 1 ≤ cvs c) p 2 a.cards) ⊎ ((IsKeyed i → ⊥) × Found (λ c. Some (λ f. f.part ≡ inKey) (fields_of c)) p 2 a.cards)
+            → ((f ≡ fv → ⊥) × Found (λ c. 1 ≤ cvs c) p 2 a.cards) ⊎ ((IsKeyed i → ⊥) × Found (λ c. Some (λ f. f.part ≡ in_key) (fields_of c)) p 2 a.cards)
         to p (inl x) =
             let c = found_some x in
             inl (λ q. true≢false (sym (ap is_fv q) ∙ (none (is_fv f) (cvs c.0) c.1).0), found_map (λ c e. let d = (none (is_fv f) (cvs c) e).1 in omega arith) x)

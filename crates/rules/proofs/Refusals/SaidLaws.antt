@@ -13,7 +13,7 @@ use Rattle.rules.specs.Answer.{Refusal, Answer, fine, refuse, refused_at, refusa
 use Rattle.rules.specs.Places.{All, Both, Byte}
 use Rattle.rules.specs.Halves.{Kind, copy, pack, unpack, input_size, output_size}
 use Rattle.rules.specs.Base.{joined}
-use Rattle.rules.specs.Grammar.{Parameter, Part, inData, inKey, CardField, Item}
+use Rattle.rules.specs.Grammar.{Parameter, Part, in_data, in_key, CardField, Item}
 use Rattle.rules.specs.Asked.{Asked, fields_of, asked_of}
 use Rattle.rules.specs.Plan.{Plan, is_tc, is_fs, block_length, combined, assembled, plan_of, plan_answer}
 use Rattle.rules.specs.Output.{block_of}
@@ -46,13 +46,13 @@ use Rattle.rules.proofs.Keeping.Demand3.{demand3_of}
 -- an answer that is refused as a table says is answered by it
 pub answered : {A : Type 0} (rows : ℕ → ℕ → Type 0) (deck : List ℕ) (x : Answer A) → ((n p c : ℕ) → (x ≡ refused_at n p c) ↔ (GivenBy rows n p × Lowest (Column deck p n) c))
     → ((a : A) × (x ≡ fine a)) ↔ ((n p : ℕ) → rows n p → ⊥) → ((p : ℕ) → rows 0 p → ⊥) → Answered rows deck (refusal_of x) (place_of x) (column_of x)
-answered {A} rows deck (fine a) table made no-0 =
+answered {A} rows deck (fine a) table made no_0 =
     record {
       given = λ n p c l. (λ e. absurd (omega (arith, e.0)), λ g. absurd (not_fine _ a (sym ((table n p c).1 g))));
       none = (λ e. made.0 (a, refl), λ h. refl);
       at_0 = λ e. (refl, refl);
     }
-answered {A} rows deck (refuse r) table made no-0 =
+answered {A} rows deck (refuse r) table made no_0 =
     record {
       given = λ n p c l. (λ e. given n p c e, λ g. let q = refuse_same r _ ((table n p c).1 g) in (ap (λ (z : Refusal). z.number) q, ap (λ (z : Refusal). z.place) q, ap (λ (z : Refusal). z.column) q));
       none = (λ e. absurd (never e), λ h. absurd (h r.number r.place own.0.0));
@@ -66,7 +66,7 @@ answered {A} rows deck (refuse r) table made no-0 =
     given n p c (d, e, f) = (table n p c).0 (λ i. refuse (record { number = d i; place = e i; column = f i }))
 
     never : r.number ≡ 0 → ⊥
-    never e = no-0 r.place (subst (λ (m : ℕ). rows m r.place) e own.0.0)
+    never e = no_0 r.place (subst (λ (m : ℕ). rows m r.place) e own.0.0)
 
 -- ---- a plan
 
@@ -74,15 +74,15 @@ answered {A} rows deck (refuse r) table made no-0 =
 plan_says_of : (deck : List ℕ) (rows : ℕ → ℕ → Type 0) (x : Answer Plan) → ((n p c : ℕ) → (x ≡ refused_at n p c) ↔ (GivenBy rows n p × Lowest (Column deck p n) c))
     → ((a : Plan) × (x ≡ fine a)) ↔ ((n p : ℕ) → rows n p → ⊥) → ((p : ℕ) → rows 0 p → ⊥) → ((p : Plan) → x ≡ fine p → plan_of zone_f deck ≡ fine p)
     → PlanSays rows deck (plan_answer x)
-plan_says_of deck rows (fine p) table made no-0 is =
+plan_says_of deck rows (fine p) table made no_0 is =
     let e = is p refl in
     record {
-      table = answered rows deck (fine p) table made no-0;
+      table = answered rows deck (fine p) table made no_0;
       refused = λ n. absurd (n refl);
       made = λ z. (p, plan_asks zone_f deck Done p e, demand3_of p (rw (zone_of zone_f deck p e) (omega arith)) (accepted zone_f deck p e), refl);
     }
-plan_says_of deck rows (refuse r) table made no-0 is =
-    let a = answered {A = Plan} rows deck (refuse r) table made no-0 in
+plan_says_of deck rows (refuse r) table made no_0 is =
+    let a = answered {A = Plan} rows deck (refuse r) table made no_0 in
     record {
       table = a;
       refused = λ n. (refl, refl, refl);
@@ -110,8 +110,8 @@ kind_is (pack n m) = (refl, refl, refl)
 kind_is (unpack n m) = (refl, refl, refl)
 
 part_is : (q : Part) → PartIs q (part_number q)
-part_is inData = refl
-part_is inKey = refl
+part_is in_data = refl
+part_is in_key = refl
 
 entries_are : (fs : List CardField) → Both EntryIs fs (map entry_of fs)
 entries_are fs = both_made entry_of (all_of (λ f. record { kind = kind_is f.field.kind; part = part_is f.part; r = refl; t = refl }) fs)

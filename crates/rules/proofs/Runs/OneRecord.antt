@@ -16,7 +16,7 @@ use Rattle.rules.specs.Grammar.{Mode, tc, tf, tr, trf, Format, ff}
 use Rattle.rules.specs.Reel.{is_reel, blocks_of, reel_of}
 use Rattle.rules.specs.Plan.{Plan, is_fs, plan_of, record_length, block_length}
 use Rattle.rules.specs.Blocks.{records_in, records_from, taken_from}
-use Rattle.rules.specs.Output.{permits, out_record, block_of, cost, fits, fits_b, filled_b, blocked, may_hold, converts}
+use Rattle.rules.specs.Output.{permits, out_record, block_of, cost, fits_b, filled_b, blocked, may_hold, converts}
 use Rattle.rules.specs.Run.{fitting, RunOutput, out_blocks, ran_of, housed, convert, run_of}
 use Rattle.rules.specs.RunRows.{RecordIs}
 use Rattle.rules.specs.Accepted.{Accepted}

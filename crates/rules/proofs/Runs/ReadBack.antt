@@ -22,7 +22,7 @@ use Rattle.rules.specs.RunRows.{ReelIs, RecordIs, BlockIs, Holds, Gives}
 use Rattle.rules.specs.ShortBlocks.{Under}
 use Rattle.rules.specs.Judge.{under_b}
 use Rattle.rules.specs.Accepted.{Accepted}
-use Rattle.rules.specs.InWords.{Packed, no_block as no-packed, last_block, full_block}
+use Rattle.rules.specs.InWords.{Packed, no_block as no_packed, last_block, full_block}
 use Rattle.rules.proofs.Base.Lists.{length_full}
 use Rattle.rules.proofs.Base.AllLaws.{all_left, all_right, all_imply, both_second, made_both, all_map, all_with, all_unmap}
 use Rattle.rules.proofs.Deck.AcceptedLaws.{accepted}
@@ -85,7 +85,7 @@ module _ (p : Plan) where
       one_of b l f = (λ e. let z : length b ≡ 0 = ap length e in omega arith, omega (arith, length_block p.format b))
 
       go : {bs : List (List (List ℕ))} → Packed m c c bs → All (λ b. (b ≡ [] → ⊥) × (length (block_of p.format b) ≤ m)) bs
-      go no-packed = no_more
+      go no_packed = no_more
       go (last_block {b = b} l f) = also (one_of b l f) no_more
       go (full_block {b = b} l f o h) = also (one_of b l f) (go h)
 

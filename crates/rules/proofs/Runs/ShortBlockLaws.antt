@@ -51,6 +51,7 @@ module _ (p : Plan) where
 among_all : {A : Type 0} {P : A → Type 0} {bs : List A} → All P bs → (c : A) → Some (λ b. b ≡ c) bs → P c
 among_all {P = P} (also h a) c (this e) = subst P e h
 among_all (also h a) c (that s) = among_all a c s
+among_all {A = A} {P = P} no_more c x3 = elim x3 [ ]
 
 -- ---- one by one
 

@@ -167,6 +167,7 @@ module _ (g : ℕ) where
         let some : 1 ≤ length r = all_head (joined_data j (fills_data w)) in
         let e = fill_once k (g - 4) false w (r ∷ rs') j (omega (arith, length-append d r, length-append (d ++ r) (joined rs'), length-append r (joined rs'))) in
         fill_left k left fresh (d ++ r) rs' (omega arith) ∙ placed_part k left fresh d r rs' c some ∙ ap (λ (x : Parts g). (segment fresh false d ∷ [], x.0 ∷ x.1)) e
+    fill_once (suc k) _ fresh (at_end {left = left}) (r ∷ rs) j l = elim j [ ]
 
     -- the words allow one list of blocks, and the filling gives it
     pub spanned_once : (bs : List (List Segment)) (rs : List (List ℕ)) → Spanned g bs rs → bs ≡ segmented g rs

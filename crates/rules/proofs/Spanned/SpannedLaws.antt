@@ -117,10 +117,10 @@ module _ (zone : ℕ) (deck : List ℕ) (p : Plan) (e : plan_of zone deck ≡ fi
           TR = back_tr;
           only = λ m rs g. gives_once B (high' zone deck p e t) x.reel rs taken g (back_tr m);
           back = back;
-          refilled = λ m deck' q e' u m' one in-B room' l.
+          refilled = λ m deck' q e' u m' one in_b room' l.
               let is : x ≡ spanned_ran (map span_of (segmented B taken)) taken = w.writes ∙ ap (λ (m : Mode). spanned_ran (spanned_out (is_tc m) B (blocks_of s) taken) taken) m in
               the_span zone room' deck' x.reel q e' (still q u)
-              ∙ alike (is_tc q.mode) (block_length q.input) (block_length q.output) q.first room' false (ap is_tc m') u.most in-B one
+              ∙ alike (is_tc q.mode) (block_length q.input) (block_length q.output) q.first room' false (ap is_tc m') u.most in_b one
               ∙ written_by taken (back_tr m) room' l false is;
         }
       where
@@ -170,9 +170,9 @@ module _ (zone : ℕ) (deck : List ℕ) (p : Plan) (e : plan_of zone deck ≡ fi
       most_15 room s a q c d = go ((run_table zone z deck s a room 15 q).0 (c, d)).0
         where
           go : Row15 zone deck s room q → q ≤ 851560
-          go (pl, asks, blocks, n, w, q-is, l) =
+          go (pl, asks, blocks, n, w, q_is, l) =
               let w' = subst (λ (v : Plan). RunWrites v s blocks n) (asks_once zone deck NoMore p pl e asks) w in
-              omega (arith, q-is, long blocks n w')
+              omega (arith, q_is, long blocks n w')
             where
               long : (blocks : List (List ℕ)) (n : ℕ) → RunWrites p s blocks n → length (reel_of blocks) ≤ 851560
               long blocks n (in_blocks o g b) = absurd (true≢false (sym t ∙ o))

@@ -29,9 +29,9 @@ module _ (R : List ℕ → List Segment → Type 0) where
   spread : {now : Option (List ℕ)} {bs : List (List ℕ)} {sss : List (List Segment)} → Both R bs sss → {rs : List (List ℕ)} → Turns now (joined sss) rs none
       → (recs : List (List (List ℕ))) × Held now bs recs × (joined recs ≡ rs)
   spread none_left no_turn = ([], no_more_lem, refl)
-  spread (both {y = ss} v h) w =
-      let k = turns_split ss w in
-      let m = spread h k.second in
+  spread {now = now} (both {y = ss} {ys = ys} v h) w =
+      let k = turns_split ss {ts = joined {A = Segment} ys} w in
+      let m = spread {now = k.mid} h k.second in
       (k.front ∷ m.0, one_more v k.first m.1, ap (k.front ++◌) m.2 ∙ sym k.is)
 
   -- and back

@@ -57,6 +57,7 @@ module _ (h : ℕ) where
   all_last : {P : Field → Type 0} {fs : List Field} {f : Field} {after : List Field} → All P fs → LastReader h fs f after → P f
   all_last (also p ps) (this_field r n) = p
   all_last (also p ps) (later_field l) = all_last ps l
+  all_last {P = P} {f = f} {after = after} no_more x3 = elim x3 [ ]
 
   -- the fields before it
   split_at : {fs : List Field} {f : Field} {after : List Field} → LastReader h fs f after → (before : List Field) × (fs ≡ before ++ (f ∷ after))
