@@ -289,6 +289,8 @@ outside_seek column (w ∷ ws) = ap (first_column (outside_in item_numbers colum
 outside_at : (i : ℕ) (os : List (List ℕ)) (cs : List (List Item)) → Both FsText os cs → (p : ℕ)
     → column_at outside outside_keeps find_outside (λ u w. u) Inner (λ n s c. c) outside_item tt i os p ≡ field_column i os cs p
 outside_at i [] [] none_left p = refl
+outside_at i [] (_ ∷ _) z p = elim z [ ]
+outside_at i (_ ∷ _) [] z p = elim z [ ]
 outside_at i (o ∷ os) (is ∷ cs) (both t b) p =
     let w = fs_worded o is t in
     let found : outside_among item_numbers (suc before_fs) (fs_words o) ≡ outside_column (number_columns false (suc before_fs) o) (joined (map item_numbers is))

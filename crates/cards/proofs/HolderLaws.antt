@@ -1,12 +1,10 @@
 -- How the card of a field is sought, card by card: as many fields are counted as the cards so far hold, so that the first card with which they are more than the
 -- field's place is the one it stands on. An accepted deck holds at most 64 fields, so that none of them is left out of the count.
 use mathlib.Core.Path.{◌≡◌, refl, ap, sym, ◌∙◌}
-use mathlib.Core.Logic.{◌⊎◌}
 use mathlib.Core.List.{List, [], ◌∷◌}
 use mathlib.Core.Option.{Option}
 use Prim.Native.Nat.{ℕ, suc, ◌+◌, ◌-◌, ◌≤◌, ◌<◌, min}
 use native.Mathlib.Omega.{arith}
-use denote.Enum.Declared.{tag_of}
 use lib.ListN.{length, drop, get_or, replicate, length-append, length-replicate, get_or-replicate, get_or-append}
 use lib.Seq.{slice, get_or-append-add}
 use Rattle.rules.specs.Base.{joined}
@@ -25,11 +23,11 @@ use Rattle.terms.specs.Meaning.{field_cards}
 use Rattle.lines.specs.Meaning.{IsCard}
 use Rattle.cards.specs.declared.ListRead.{ListRead}
 use Rattle.cards.specs.declared.CardAt.{CardAt}
+use Rattle.cards.specs.declared.CardAt.TheVariants.{UAt}
 use Rattle.cards.specs.declared.DeckRead.{DeckRead}
 use Rattle.cards.specs.Selected.{NotedRow, ListSays, with_words}
 use Rattle.cards.specs.Deck.{cards_in, fs_first, OperandAt, Operandless, CardAtSays, FsFine}
 use Rattle.cards.specs.Promise.{Accepts, DeckSays, InOrder, card_of_field}
-use Rattle.cards.specs.contracts.CardAt as card_type
 use Rattle.cards.proofs.NotedLaws.{all_fields, many_fields}
 use Rattle.cards.proofs.RowLaws.{words_key, words_many}
 use Rattle.cards.proofs.DeckLaws.{no_more_lem}
@@ -204,7 +202,7 @@ module _ (deck : List ℕ) (r : DeckRead) (row : List ℕ) (h : DeckSays deck r 
     pub accepted_cards : All IsCard (cards_in deck)
     accepted_cards = all_cards deck order.0 order.1
 
-    pub accepted_first : (x : CardAt) → CardAtSays deck 0 x → (tag_of card_type.the_type x ≡ 1) ⊎ (tag_of card_type.the_type x ≡ 2) → ⊥
+    pub accepted_first : (x : CardAt) → CardAtSays deck 0 x → ((start end next : ℕ) → x ≡ UAt start end next → ⊥) → ⊥
     accepted_first x k t = first_known deck order.0 order.1 x k t
 
     module _ (start end next : ℕ) (u : OperandAt (u_card (start - 0)) deck 0 start end next) where

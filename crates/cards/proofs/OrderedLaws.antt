@@ -1,12 +1,10 @@
 -- What a deck whose cards are in order says, by what was read of its U card and of its FS cards: refusal 3 at the first that could not be read, or what
 -- refusals 4 to 7 leave. The cards of an accepted deck are in order, and what it asks for was read of them.
 use mathlib.Core.Path.{◌≡◌, refl, ap, sym, ◌∙◌, subst}
-use mathlib.Core.Logic.{◌⊎◌, ⊎_elim}
 use mathlib.Core.List.{List, [], ◌∷◌, ◌++◌, map, map-map, map-id}
 use mathlib.Core.Option.{some}
 use Prim.Native.Nat.{ℕ, suc, ◌+◌, ◌-◌, ◌≤◌}
 use native.Mathlib.Omega.{arith}
-use denote.Enum.Declared.{tag_of}
 use lib.ListN.{length, drop}
 use lib.Seq.{slice}
 use Rattle.rules.specs.Places.{All, no_more, also, Found, Both}
@@ -38,7 +36,6 @@ use Rattle.cards.specs.Parameters.{UListed}
 use Rattle.cards.specs.Deck.{cards_in, fs_first, OperandAt, Operandless, CardAtSays, FsRead, FsSaid}
 use Rattle.cards.specs.CardRefusals.{judged_as}
 use Rattle.cards.specs.Promise.{refused_deck, DeckAnswered, DeckReads, InOrder}
-use Rattle.cards.specs.contracts.CardAt as card_type
 use Rattle.cards.proofs.RowLaws.{Fair, Holds, holds_cards}
 use Rattle.cards.proofs.ListedLaws.{words_fair}
 use Rattle.cards.proofs.DeckLaws.{fs_all, cards_ordered}
@@ -117,8 +114,8 @@ module _ (deck : List ℕ) (fs : ℕ) (order : InOrder deck fs) where
       omega arith
 
   -- so that what was read of it has the number of `UAt`
-  pub first_known : (r : CardAt) → CardAtSays deck 0 r → (tag_of card_type.the_type r ≡ 1) ⊎ (tag_of card_type.the_type r ≡ 2) → ⊥
-  first_known (UAt start end next) h k = ⊎_elim (λ e. omega arith) (λ e. omega arith) k
+  pub first_known : (r : CardAt) → CardAtSays deck 0 r → ((start end next : ℕ) → r ≡ UAt start end next → ⊥) → ⊥
+  first_known (UAt start end next) h k = k start end next refl
   first_known (FsAt start end next) h k = first_not_fs start end next h
   first_known NoOperand h k = first_u h
 

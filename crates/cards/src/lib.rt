@@ -1,4 +1,6 @@
 // From a deck's bytes to what its cards ask for (document 01, "The deck"): refusals 1 to 7.
+#![tactic(auto)]
+
 ghost use Rattle.std.specs.Prelude.{◌≡◌, List, [], ◌+◌, ◌≤◌, length, drop, get_or};
 ghost use Rattle.rules.specs.Places.{All};
 ghost use Rattle.rules.specs.Answer.{fine};
@@ -34,7 +36,7 @@ const FIELDS: usize = 64;
 
 // What is noted of the FS cards so far: how long the key is; how many fields are kept; the cards of the 65th field, of CV and of the first field that is taken
 // from the key; the card and column of the second CV and of the first number outside its limits. 0 is none.
-#[derive(Drop)]
+#[derive(Clone, Copy)]
 struct Noted {
     key: usize,
     count: usize,
@@ -135,7 +137,7 @@ fn keep(row: &mut [u16; 320], count: usize, field: Field, outside: usize)
 }
 
 // What a list gives beside the row: what is noted, and the column at which it stopped, or 0 where all of it was read.
-#[derive(Drop)]
+#[derive(Clone, Copy)]
 struct ListRead {
     noted: Noted,
     unread: usize,
@@ -194,7 +196,7 @@ fn rest(operand: &[u8], card: usize, column: usize, noted: Noted, row: &mut [u16
 
 // What the parameters of the U card have said so far: T, F, A, B and R, which of the letters T, F, A, B, I, O and R have stood, and the column of the
 // first parameter whose letter stood before, or 0.
-#[derive(Drop)]
+#[derive(Clone, Copy)]
 struct Parameters {
     mode: Mode,
     format: Format,
@@ -346,7 +348,7 @@ fn with_parameter(state: Parameters, parameter: UParameter, column: usize) -> Pa
 }
 
 // The column of the first number outside its limits, or 0: where F is not FV, and where it is. F may stand behind A and B.
-#[derive(Drop)]
+#[derive(Clone, Copy)]
 struct OutsideColumns {
     plain: usize,
     variable: usize,
@@ -384,7 +386,7 @@ fn with_numbers(
 }
 
 // What the parameters of a U card say, and the column at which it stopped, or 0 where all of it was read.
-#[derive(Drop)]
+#[derive(Clone, Copy)]
 struct URead {
     state: Parameters,
     outside: OutsideColumns,
@@ -438,7 +440,7 @@ fn u_card(operand: &[u8], column: usize) -> URead
 // ---- the cards of a deck
 
 // The card that begins at a place of a deck: its operand, and where the next line begins.
-#[derive(Drop)]
+#[derive(Clone, Copy)]
 enum CardAt {
     UAt {
         start: usize,
@@ -497,7 +499,7 @@ fn card_at(deck: &[u8], at: usize) -> CardAt
 }
 
 // What the FS cards say beside the row, and the first card that could not be read with the column at which it stopped, or 0 and 0.
-#[derive(Drop)]
+#[derive(Clone, Copy)]
 struct FsCards {
     noted: Noted,
     unread: usize,
@@ -570,7 +572,7 @@ fn u_outside(format: Format, outside: OutsideColumns) -> usize
 }
 
 // A refusal, its place and its column; number 0 for none.
-#[derive(Drop)]
+#[derive(Clone, Copy)]
 struct CardRefusal {
     number: usize,
     place: usize,
@@ -646,7 +648,7 @@ fn refusal_on(parameters: Parameters, outside: OutsideColumns, noted: Noted) -> 
 // ---- decks
 
 // What a deck says beside its fields: a refusal of 1 to 7 with its place and column, or 0 and what the cards ask for.
-#[derive(Drop)]
+#[derive(Clone, Copy)]
 pub struct DeckRead {
     pub refusal: usize,
     pub place: usize,

@@ -1,4 +1,6 @@
 // Refusals 11 to 15 of a run, in their order and each over the whole reel, before anything is written: document 01, "Refusal numbers".
+#![tactic(auto)]
+
 ghost use Rattle.std.specs.Prelude.{◌≡◌};
 ghost use Rattle.measures.specs.Promise.{Selected, FirstUnpermitted};
 ghost use Rattle.checks.specs.Promise.{SomePlanGiven, ReadBy, PermittedRun, MeasuredRun, CheckedRun, Checked};

@@ -1,4 +1,6 @@
 // The combinations that document 01 requires of the parameters, and that every field lies inside its records: refusals 8 and 9.
+#![tactic(auto)]
+
 ghost use Rattle.std.specs.Prelude.{◌≡◌, true, ◌&&◌, ◌||◌, ◌+◌, ◌≤◌, leb, eqb};
 ghost use Rattle.rules.specs.Plan.{selects as ruleSelects, numbers as ruleNumbers, wanted as ruleWanted, inside};
 ghost use Rattle.terms.specs.Meaning.{mode_of, format_of, size_of, field_of};
@@ -267,7 +269,7 @@ fn first_outside(fields: &[u16], a: usize, b: usize) -> usize
 }
 
 // What refusals 8 and 9 say of what a deck asks for.
-#[derive(Drop)]
+#[derive(Clone, Copy)]
 pub enum Combined {
     Sound,
     Broken { place: usize },

@@ -1,11 +1,13 @@
 // How a record is cut into segments that fill blocks of m bytes, by numbers alone. Document 02, order 6.
+#![tactic(auto)]
+
 ghost use Rattle.std.specs.Prelude.{◌≡◌};
 ghost use Rattle.cuts.specs.Cutting.{CutSmall, opened_of, cut_of, behind_record, full_of};
 
 use fillings::Tally;
 
 // What a cut takes of a record: so many bytes of data, and the tally with the segment that they make.
-#[derive(Drop)]
+#[derive(Clone, Copy)]
 pub struct CutTaken {
     pub size: usize,
     pub tally: Tally,

@@ -1,5 +1,7 @@
 // Filling output blocks record by record: what is known along the way are three numbers, and they say whether a record opens a block. Measuring and writing both
 // go by these steps. Document 01, "Blocks and records".
+#![tactic(auto)]
+
 ghost use Rattle.std.specs.Prelude.{◌≡◌, length};
 ghost use Rattle.fillings.specs.Tallying.{overfills_of, opens_of, tally_of, Small};
 ghost use Rattle.fillings.specs.Offsets.{offset_put, OffsetFits};
@@ -7,7 +9,7 @@ ghost use Rattle.fillings.specs.Offsets.{offset_put, OffsetFits};
 use terms::{Mode, Task};
 
 // What is tallied of the output along the way: so many blocks, the size of the last, and the bytes of all.
-#[derive(Drop)]
+#[derive(Clone, Copy)]
 pub struct Tally {
     pub blocks: usize,
     pub size: usize,

@@ -1,5 +1,7 @@
 // Writing the blocks of FF: the records taken stand one behind the other, through all input blocks, and so do their outputs, through all output blocks. So no
 // record is walked to. Document 01, "The reel" and "Blocks and records".
+#![tactic(auto)]
+
 ghost use Rattle.std.specs.Prelude.{◌≡◌, ◌+◌, ◌*◌, length};
 ghost use Rattle.fixed.specs.Promise.{Lent, BodyPut};
 ghost use Rattle.fixed.specs.Fixed.{OutputsFit, OutputsPut, BytesFit, BytesPut, EndsFit, EndsPut};

@@ -1,4 +1,6 @@
 // Pack and unpack fields of 1 to 16 bytes (document 01, "Half bytes").
+#![tactic(auto)]
+
 ghost use Rattle.std.specs.Prelude.{◌≡◌, ◌+◌, ◌*◌, ◌-◌, ◌/◌, ◌%◌, ◌≤◌, ◌<◌, length, get_or};
 ghost use Rattle.rules.specs.Base.{within};
 ghost use Rattle.rules.specs.Halves.{halves, pack_bytes, unpack_bytes};

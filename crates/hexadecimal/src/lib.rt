@@ -1,4 +1,6 @@
 // A byte as people are shown it: two hexadecimal digits.
+#![tactic(auto)]
+
 ghost use Rattle.std.specs.Prelude.{◌≡◌, ◌%◌};
 ghost use Rattle.rules.specs.Base.{digit_of};
 ghost use Rattle.hexadecimal.specs.Promise.{HexadecimalDigit, ShowsByte};

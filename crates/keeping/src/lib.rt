@@ -1,4 +1,6 @@
 // Whether the fields of a plan leave every half byte a permitted value, and whether they keep every half byte (document 01, "Half bytes").
+#![tactic(auto)]
+
 ghost use Rattle.std.specs.Prelude.{◌≡◌, false, not, ◌&&◌, List, ℕ, ◌*◌, ◌≤◌, ◌<◌, ltb, eqb, length, get_or};
 ghost use Rattle.rules.specs.Base.{every};
 ghost use Rattle.rules.specs.Halves.{Source, sources as sourcesBy};
@@ -31,7 +33,7 @@ const ZONE_MARK: u8 = 3;
 const BLOCK: usize = 64;
 
 // What a plan's fields do to its records: no value of a half would do for all of them; every half is kept; or some half is lost.
-#[derive(Drop)]
+#[derive(Clone, Copy)]
 pub enum Weighed {
     Barren { half: usize },
     Kept,

@@ -1,4 +1,6 @@
 // Key and data of a record, joined (document 02, order 5): what A is then, how long the key is, and where a field stands that counts through both.
+#![tactic(auto)]
+
 ghost use Rattle.std.specs.Prelude.{◌≡◌};
 ghost use Rattle.terms.specs.Meaning.{field_of, part_of, card_field, laid_at, laid as laidField};
 ghost use Rattle.keys.specs.Keys.{together, joined_of, key_of, Layable};

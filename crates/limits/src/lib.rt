@@ -1,4 +1,6 @@
 // The limits of numbers on cards: which number is the first outside its own, by its column. Refusal 7 of document 01, with the columns of document 02, order 1.
+#![tactic(auto)]
+
 ghost use Rattle.std.specs.Prelude.{◌≡◌, cond, ◌-◌, ◌≤◌};
 ghost use Rattle.rules.specs.Base.{within};
 ghost use Rattle.rules.specs.Words.{outside_column, first_column};

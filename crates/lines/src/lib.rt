@@ -1,4 +1,6 @@
 // The lines of a deck, what card a line is, and the order of the cards (document 01, "The deck"): refusals 1 and 2.
+#![tactic(auto)]
+
 ghost use Rattle.std.specs.Prelude.{◌≡◌, true, ◌≤◌, length};
 ghost use Rattle.rules.specs.Base.{ascii, within, every};
 ghost use Rattle.rules.specs.Deck.{tidy, card_of};
@@ -91,7 +93,7 @@ fn operand_end(line: &[u8], start: usize) -> usize
 }
 
 // What a line is: a card, with where its operand starts and ends, or no card.
-#[derive(Drop)]
+#[derive(Clone, Copy)]
 pub enum CardRead {
     UCard { start: usize, end: usize },
     FsCard { start: usize, end: usize },
@@ -100,7 +102,7 @@ pub enum CardRead {
 }
 
 // Which card a line is.
-#[derive(Drop)]
+#[derive(Clone, Copy)]
 pub enum CardKind {
     Utility,
     Select,
@@ -198,7 +200,7 @@ pub fn card(line: &[u8]) -> CardRead
 }
 
 // A line of a deck: where it ends, and where the next one begins.
-#[derive(Drop)]
+#[derive(Clone, Copy)]
 pub enum LineRead {
     Line { end: usize, next: usize },
     NoLine,
@@ -253,7 +255,7 @@ pub fn line(deck: &[u8], at: usize) -> LineRead
 }
 
 // What the lines that have ended come to.
-#[derive(Drop)]
+#[derive(Clone, Copy)]
 pub struct LinesSeen {
     // How many there are.
     pub lines: usize,
@@ -266,7 +268,7 @@ pub struct LinesSeen {
 }
 
 // What the lines of a deck come to: a refusal, or cards in order.
-#[derive(Drop)]
+#[derive(Clone, Copy)]
 pub enum OrderRead {
     Refused { number: usize, place: usize },
     Ordered { cards: usize },

@@ -1,5 +1,7 @@
 // Each loss of a plan, where its answer names the lowest alone: why a half of an input record is lost, whether the tail is, and which field is the last that reads
 // a half or writes a position.
+#![tactic(auto)]
+
 ghost use Rattle.std.specs.Prelude.{◌≡◌, List, ◌≤◌, length};
 ghost use Rattle.rules.specs.Halves.{Field as RuleField};
 ghost use Rattle.rules.specs.Plan.{record_length};

@@ -1,5 +1,7 @@
 // The two passes over the records that are taken, before anything is written: whether the halves of each are permitted (refusal 13), and whether the output of
 // each fits (refusal 14) with what the output reel measures. Document 01, "Blocks and records" and "Refusal numbers".
+#![tactic(auto)]
+
 ghost use Rattle.std.specs.Prelude.{◌≡◌, true, ◌+◌, ◌-◌, ◌/◌, ◌≤◌};
 ghost use Rattle.rules.specs.Reel.{is_reel, offsets};
 ghost use Rattle.rules.specs.EvenRecords.{count_behind};
@@ -10,7 +12,7 @@ use terms::{Format, Mode, Task};
 use walks::RecordRead;
 
 // The number of the first record whose output does not fit; or, where each fits, how many blocks, records and bytes the output reel has.
-#[derive(Drop)]
+#[derive(Clone, Copy)]
 pub enum Measured {
     TooLong {
         record: usize,

@@ -1,5 +1,7 @@
 // The offsets of the blocks of FF: as records have one length, and their outputs another, where a block ends follows by counting. Document 01, "The reel" and
 // "Blocks and records".
+#![tactic(auto)]
+
 ghost use Rattle.std.specs.Prelude.{◌≡◌, true, [], ◌∷◌, ◌++◌, ◌+◌, ◌-◌, ◌≤◌, length};
 ghost use Rattle.rules.specs.Halves.{over};
 ghost use Rattle.rules.specs.Reel.{word, is_reel, offsets};

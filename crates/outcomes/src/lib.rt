@@ -1,4 +1,6 @@
 // What a run answers: that it is refused, or the reel that it writes; and refusal 15, the last one of every run. Document 01, "Refusal numbers".
+#![tactic(auto)]
+
 ghost use Rattle.std.specs.Prelude.{◌≡◌};
 ghost use Rattle.outcomes.specs.Promise.{refused_run, housed_run};
 
@@ -8,7 +10,7 @@ const MOST: usize = 65536;
 // What a run answers: refusal, place, column, or 0 of each; the length of the output reel, and how many records and blocks are written. For 11 to 15 no byte of a
 // card is at fault, so these have no column. In C it lies as it stands here.
 #[repr(C)]
-#[derive(Drop)]
+#[derive(Clone, Copy)]
 pub struct Ran {
     pub refusal: usize,
     pub place: usize,

@@ -1,5 +1,7 @@
 // The records of two reels in pairs, one after the other: the first that disagrees or lacks a partner. Document 02, order 7; not in FS, where no record is in a
 // block by itself. No record of ours is built: the fields are written over a copy of their bytes, and where that changes nothing the two agree.
+#![tactic(auto)]
+
 ghost use Rattle.std.specs.Prelude.{◌≤◌, length};
 ghost use Rattle.rows.specs.Flat.{Fielded};
 ghost use Rattle.walks.specs.Promise.{Standing};

@@ -1,5 +1,7 @@
 // The pieces of a block, and words in and out.
 // Document 01, "The reel" and "Blocks and records". Document 02, order 6: a segment's word differs from a record's in its third byte alone.
+#![tactic(auto)]
+
 ghost use Rattle.std.specs.Prelude.{◌≡◌, [], ◌∷◌, ◌+◌, ◌≤◌, ◌<◌, length, drop};
 ghost use Rattle.rules.specs.Halves.{over};
 ghost use Rattle.rules.specs.Output.{length_word};
@@ -24,7 +26,7 @@ pub fn word(s: &[u8], at: usize) -> usize
 
 // What a plan asks of blocks: the format, A's n, A's m or g, and whether fields are selected, by TF or TRF: then a record has A's n of data or more, else a byte
 // or more.
-#[derive(Drop)]
+#[derive(Clone, Copy)]
 pub struct Form {
     pub format: Format,
     pub n: usize,
@@ -33,20 +35,20 @@ pub struct Form {
 }
 
 // A place in a block.
-#[derive(Drop)]
+#[derive(Clone, Copy)]
 pub struct Cursor {
     pub at: usize,
 }
 
 // Where the pieces of a block begin, or that the block's own word is bad.
-#[derive(Drop)]
+#[derive(Clone, Copy)]
 pub enum StartRead {
     From { cursor: Cursor },
     NoStart,
 }
 
 // What stands at a place of a block: a piece and the place behind it, the end, or what is no piece.
-#[derive(Drop)]
+#[derive(Clone, Copy)]
 pub enum PieceRead {
     Piece {
         place: usize,
@@ -59,7 +61,7 @@ pub enum PieceRead {
 }
 
 // The length that a word says, or that it is no word.
-#[derive(Drop)]
+#[derive(Clone, Copy)]
 enum LengthRead {
     Length { length: usize },
     NoLength,

@@ -1,4 +1,6 @@
 // From a deck to its plan: refusals 1 to 10, keeping and the lost place.
+#![tactic(auto)]
+
 mod verdict;
 
 ghost use Rattle.std.specs.Prelude.{◌≡◌, [], ◌*◌, ◌≤◌, length, take};
@@ -12,7 +14,7 @@ pub use verdict::tail_kept;
 
 // What a plan answers: refusal, place, column, 1 for keeping or 0, lost place or 0, field count. In C it lies as it stands here.
 #[repr(C)]
-#[derive(Drop)]
+#[derive(Clone, Copy)]
 pub struct Planned {
     pub refusal: usize,
     pub place: usize,
@@ -39,7 +41,7 @@ pub fn refused(number: usize, place: usize, column: usize) -> Planned
 // ---- the plan of a deck
 
 // What a plan answers, and the plan but for its fields, which stand in a row: what the deck asks for, or nothing where it is refused.
-#[derive(Drop)]
+#[derive(Clone, Copy)]
 pub struct DeckPlan {
     pub answer: Planned,
     pub asked: Asked,

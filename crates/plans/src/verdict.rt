@@ -10,7 +10,7 @@ use combinations::Combined;
 use keeping::Weighed;
 use terms::{Asked, Format};
 
-#[derive(Drop)]
+#[derive(Clone, Copy)]
 pub(crate) enum Verdict {
     Refused { number: usize, place: usize },
     Keeping,

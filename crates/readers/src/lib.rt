@@ -1,6 +1,8 @@
 // From the text at the front of a slice to a value: numbers, parameters of the U card, items of the FS card.
 // Document 01, "The deck". Each answer also says how many bytes were taken, or the first byte at which no continuation could be right. What a card's
 // limits ask of a number is refused at the number's column (document 02, order 1), so that the answers say where the numbers begin too.
+#![tactic(auto)]
+
 ghost use Rattle.std.specs.Prelude.{◌⊎◌, ◌≡◌, true, false, ◌≤◌, length, get_or};
 ghost use Rattle.rules.specs.Reader.{number as ruleNumber};
 ghost use Rattle.rules.specs.Grammar.{size_reader, input_reader, start, kind_reader};
@@ -50,14 +52,14 @@ const LETTER_U: usize = b'U' as usize;
 const LETTER_V: usize = b'V' as usize;
 
 // A number and how many bytes it took, or the byte at which it stops; the other answers likewise.
-#[derive(Drop)]
+#[derive(Clone, Copy)]
 enum NumberRead {
     IsNumber { value: usize, used: usize },
     NoNumber { at: usize },
 }
 
 // A size of A or B, the place of its second number (0 where it has none), and the place behind it.
-#[derive(Drop)]
+#[derive(Clone, Copy)]
 enum SizeRead {
     IsSize {
         size: Size,
@@ -70,7 +72,7 @@ enum SizeRead {
 }
 
 // What A says, likewise.
-#[derive(Drop)]
+#[derive(Clone, Copy)]
 enum InputRead {
     IsInput {
         input: Input,
@@ -83,7 +85,7 @@ enum InputRead {
 }
 
 // The middle of an item, the places of its two sizes (for a copy both are s), and the place behind it.
-#[derive(Drop)]
+#[derive(Clone, Copy)]
 enum KindRead {
     IsKind {
         kind: Kind,
@@ -99,7 +101,7 @@ enum KindRead {
 }
 
 // A parameter of the U card. The letters of I and O are read and ignored.
-#[derive(Drop)]
+#[derive(Clone, Copy)]
 pub enum UParameter {
     ModeIs(Mode),
     FormatIs(Format),
@@ -111,7 +113,7 @@ pub enum UParameter {
 }
 
 // A parameter, the place where its second number begins (0 where it has none), and how many bytes it took; or the byte at which it stops.
-#[derive(Drop)]
+#[derive(Clone, Copy)]
 pub enum ParameterRead {
     IsParameter {
         parameter: UParameter,
@@ -124,7 +126,7 @@ pub enum ParameterRead {
 }
 
 // Where the numbers of a field begin: r, its input size, its output size (for a copy both are s) and t.
-#[derive(Drop)]
+#[derive(Clone, Copy)]
 pub struct Places {
     pub r: usize,
     pub input: usize,
@@ -133,7 +135,7 @@ pub struct Places {
 }
 
 // An item of an FS card: a field, r counting in its part, or CV. Places count from 0 at the item's first byte, like what was taken.
-#[derive(Drop)]
+#[derive(Clone, Copy)]
 pub enum ItemRead {
     IsField {
         part: Part,

@@ -1,4 +1,6 @@
 // Why a half of an input record is lost: by the last field that reads it (document 02, order 3).
+#![tactic(auto)]
+
 ghost use Rattle.std.specs.Prelude.{◌≡◌, true, ℕ, ◌+◌, ◌*◌, ◌≤◌};
 ghost use Rattle.rules.specs.Halves.{reads_from, reads_many};
 ghost use Rattle.rules.specs.Permitted.{reads as readsBy};

@@ -1,5 +1,7 @@
 // Writing the output of one record. Document 01, "Blocks and records" and "Half bytes". The fields of a plan are lent for every
 // record as a row of numbers, five to a field, so that no record copies the plan.
+#![tactic(auto)]
+
 ghost use Rattle.std.specs.Prelude.{◌≡◌, cond, ◌+◌, ◌-◌, ◌≤◌, ◌<◌, length, replicate};
 ghost use Rattle.rules.specs.Halves.{output_size};
 ghost use Rattle.rules.specs.Lent.{zone_f};

@@ -1,5 +1,7 @@
 // The header of a reel, its blocks, and whether each obeys its rule.
 // Document 01, "The reel" and "Blocks and records"; refusals 11 and 12.
+#![tactic(auto)]
+
 ghost use Rattle.std.specs.Prelude.{◌≡◌, ◌≤◌, length};
 ghost use Rattle.rules.specs.Blocks.{least_data};
 ghost use Rattle.pieces.specs.Form.{plan_by};
@@ -10,7 +12,7 @@ use pieces::{Cursor, Form, PieceRead, StartRead};
 use terms::Format;
 
 // What a header says: a reel of so many blocks, or no reel.
-#[derive(Drop)]
+#[derive(Clone, Copy)]
 pub enum HeaderRead {
     Reel { blocks: usize },
     NoReel,
@@ -74,14 +76,14 @@ pub fn block(reel: &[u8], i: usize) -> &[u8]
 }
 
 // What a block is read as: so many records, or it breaks its rule.
-#[derive(Drop)]
+#[derive(Clone, Copy)]
 enum BlockRead {
     Records { count: usize },
     Breaks,
 }
 
 // What a reel is read as: so many blocks and records; no reel; or the number, from 1, of the first block that breaks its rule.
-#[derive(Drop)]
+#[derive(Clone, Copy)]
 pub enum ReelRead {
     Read { blocks: usize, records: usize },
     NotReel,

@@ -1,4 +1,6 @@
 // The fields of a plan as a row of numbers, five to a field: 64 fields are 320 numbers of 16 bits, a quarter of what 64 fields take as structs.
+#![tactic(auto)]
+
 ghost use Rattle.std.specs.Prelude.{◌≡◌, [], ◌∷◌, ◌+◌, ◌*◌, ◌≤◌, ◌<◌, length};
 ghost use Rattle.rules.specs.Halves.{output_size, over};
 ghost use Rattle.terms.specs.Meaning.{field_of};

@@ -1,5 +1,7 @@
 // The run of an accepted plan over a reel, into a lent output: nothing is written before everything is checked. Document 01, "Blocks and records" and
 // "Refusal numbers".
+#![tactic(auto)]
+
 ghost use Rattle.std.specs.Prelude.{◌≡◌, length};
 ghost use Rattle.rules.specs.Run.{conversion};
 ghost use Rattle.rules.specs.Lent.{zone_f, run_answer, output_after};

@@ -135,7 +135,7 @@ held_step {x} {st} b h = go (eqb b 0x0A) refl
 pub held_piece : {x : List ℕ} {st : Scanner} (y : List ℕ) → Held x st → Held (x ++ y) (scan_from st y)
 held_piece {x} {st} [] h = subst (λ (l : List ℕ). Held l st) (sym (append-nil x)) h
 held_piece {x} {st} (b ∷ y) h =
-    subst (λ (l : List ℕ). Held l (scan_from (step_of st b) y)) (append_assoc x (b ∷ []) y) (held_piece y (held_step b h))
+    subst (λ (l : List ℕ). Held l (scan_from (step_of st b) y)) (append_assoc x (b ∷ []) y) (held_piece {x = x ++ (b ∷ [])} y (held_step b h))
 
 -- ---- what a scan comes to
 

@@ -2,15 +2,14 @@
 -- card is none where it ends. By going along the bytes.
 use mathlib.Core.Path.{◌≡◌, refl, ap, sym, ◌∙◌}
 use mathlib.Core.Logic.{◌⊎◌, inl, inr}
-use mathlib.Core.Bool.{Bool, true, false, cond}
+use mathlib.Core.Bool.{Bool, true, false}
 use mathlib.Core.List.{List, [], ◌∷◌}
-use Prim.Native.Nat.{ℕ, ◌+◌, ◌≤◌, ◌<◌}
+use Prim.Native.Nat.{ℕ, ◌≤◌, ◌<◌}
 use native.Mathlib.Omega.{arith}
 use lib.Dec.{ltb, leb, eqb}
 use borrow.Author.Tests.{eqb-true, eqb-false, leb-true, leb-false, ltb-true, ltb-false}
-use Rattle.rules.specs.Answer.{Answer, refused}
-use Rattle.lines.specs.Ordering.{most, one_more, first_marked, is_other, with_line, order_of}
-use Rattle.lines.specs.declared.CardKind.{CardKind}
+use Rattle.rules.specs.Answer.{refused}
+use Rattle.lines.specs.Ordering.{most, one_more, first_marked, is_other, order_of}
 use Rattle.lines.proofs.SeenSteps.{one_more_below, one_more_most, first_stays, first_place, order_bad}
 use Rattle.scans.specs.Scanning.{begun_kind, seen_of, line_ended, with_byte, step_of, scan_from, scanned_of, settled}
 use Rattle.scans.specs.declared.Scanner.{Scanner}

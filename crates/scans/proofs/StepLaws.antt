@@ -1,5 +1,5 @@
 -- A step of a scan, for code that takes it: what each way through the code answers is what the scan's definition says. By the tests on the way.
-use mathlib.Core.Path.{◌≡◌, refl}
+use mathlib.Core.Path.{◌≡◌}
 use mathlib.Core.Bool.{true}
 use mathlib.Core.List.{List}
 use Prim.Native.Nat.{ℕ, ◌+◌, ◌≤◌, ◌<◌}

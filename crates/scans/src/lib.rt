@@ -1,4 +1,6 @@
 // A deck scanned piece by piece, as it is read: what its cards' order comes to, whatever its length (document 01, "The deck"): refusals 1 and 2.
+#![tactic(auto)]
+
 ghost use Rattle.std.specs.Prelude.{◌≡◌};
 ghost use Rattle.lines.specs.Ordering.{answer_of};
 ghost use Rattle.scans.specs.Scanning.{begun_kind, seen_of, line_ended, with_byte, step_of, no_bytes, scan_from, scanned_of, settled};
@@ -6,7 +8,7 @@ ghost use Rattle.scans.specs.Scanning.{begun_kind, seen_of, line_ended, with_byt
 use lines::{CardKind, LINE_END, LONGEST, LinesSeen, OrderRead};
 
 // How far a scan has come: what it must know of the bytes before to go on with the next. A deck can so be scanned piece by piece.
-#[derive(Drop)]
+#[derive(Clone, Copy)]
 pub struct Scanner {
     // How many lines have ended.
     pub lines: usize,

@@ -66,6 +66,7 @@ stands_first g s e sss all = go (ltb 0 (block_count s)) refl
           behind = w;
           is = refl;
         }
+    split [] x = elim x [ ]
 
     -- a reel of no block has no part
     nothing : blocks_of s ≡ [] → length (block_part s 0) ≤ 4 → (sss : List (List Segment)) → Both (Reads g) [] sss → SpotStands g s first_spot (joined sss)
@@ -81,6 +82,7 @@ stands_first g s e sss all = go (ltb 0 (block_count s)) refl
           behind = subst (λ (bs : List (List ℕ)). Both (Reads g) (drop 1 bs) []) (sym z) none_left;
           is = refl;
         }
+    nothing z n (_ ∷ _) x = elim x [ ]
 
     go : (t : Bool) → ltb 0 (block_count s) ≡ t → SpotStands g s first_spot (joined sss)
     go true t = split sss (subst (λ (bs : List (List ℕ)). Both (Reads g) bs sss) (part_step s 0 e (ltb-true 0 (block_count s) t)) all)

@@ -86,9 +86,11 @@ module _ (g : ℕ) (s : List ℕ) (e : is_reel s ≡ true) where
     where
       split : (later : List (List Segment)) → block < block_count s → Both (Reads g) (block_part s block ∷ drop (suc block) (blocks_of s)) later → Step g s (read_at s block 4) (joined later)
       split (here ∷ later) m (both v w) = let k = read_from g (block_part s block) here v in step_here block 4 (omega arith) k.1 here k.0 later w
+      split [] m x = elim x [ ]
 
       none_behind : (later : List (List Segment)) → Both (Reads g) [] later → length (joined later) ≡ 0
       none_behind [] none_left = refl
+      none_behind (_ ∷ _) x = elim x [ ]
 
       go : (t : Bool) → ltb block (block_count s) ≡ t → Step g s (read_at s block 4) (joined later)
       go true t =

@@ -1,5 +1,7 @@
 // The segments of a good reel one after the other, through all its blocks: the length of each record, and the data copied or compared straight from where it lies.
 // Document 02, order 6. The header and the rule of each block were asked when the reel was read, so that each segment is there and no answer says that one is not.
+#![tactic(auto)]
+
 ghost use Rattle.std.specs.Prelude.{◌≡◌, ◌↔◌, true, ◌+◌, ◌≤◌, min, length, take, drop};
 ghost use Rattle.rules.specs.Halves.{over};
 ghost use Rattle.reels.specs.Header.{block_part};
@@ -10,7 +12,7 @@ use pieces::{Cursor, PieceRead};
 
 // A place in the data of a reel: bytes `from` to `to` of block `block` (from 0) are left of the segment read last, and the next segment's word stands at `to`,
 // or, where `to` is the block's end, at place 4 of the next block.
-#[derive(Drop)]
+#[derive(Clone, Copy)]
 pub struct Spot {
     pub block: usize,
     pub from: usize,
@@ -18,14 +20,14 @@ pub struct Spot {
 }
 
 // A record's length, and the spot behind it.
-#[derive(Drop)]
+#[derive(Clone, Copy)]
 pub struct RecordAhead {
     pub size: usize,
     pub behind: Spot,
 }
 
 // A segment, all of whose data is left, and whether it ends its record.
-#[derive(Drop)]
+#[derive(Clone, Copy)]
 struct SegmentRead {
     spot: Spot,
     ends: bool,

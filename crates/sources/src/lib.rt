@@ -1,4 +1,6 @@
 // Where each half byte of an output record is taken from (document 01, "Half bytes").
+#![tactic(auto)]
+
 ghost use Rattle.std.specs.Prelude.{◌≡◌, ℕ, ◌*◌, ◌<◌, length};
 ghost use Rattle.rules.specs.Halves.{sources as sourcesBy};
 ghost use Rattle.rules.specs.Lent.{zone_f};

@@ -1,5 +1,7 @@
 // The records of two reels in FS in pairs, one after the other: the first that disagrees or lacks a partner. Document 02, order 7. TR carries records unchanged, so that
 // records agree where they have the same bytes, however each reel cuts them into segments.
+#![tactic(auto)]
+
 ghost use Rattle.span_pairs.specs.Promise.{BothSpanned, SpannedApartAt};
 
 // The number, from 1 in the output, of the first record that disagrees or lacks a partner, or 0: so many records of ours are passed over, so many are left, and theirs

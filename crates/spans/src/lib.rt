@@ -1,5 +1,7 @@
 // A run in FS. In TR the records from R on fill blocks of B: each is cut where a block is full, and goes from its segments in the input straight into those of the
 // output. TC leaves the blocks. Document 02, order 6.
+#![tactic(auto)]
+
 ghost use Rattle.std.specs.Prelude.{◌≡◌, ◌≤◌, ◌<◌, length};
 ghost use Rattle.rules.specs.Spanned.{code_of};
 ghost use Rattle.rules.specs.Run.{spanned_run};

@@ -1,4 +1,6 @@
 // The plan of a deck as entries for a lent table, each field with its part again; refusal 15.
+#![tactic(auto)]
+
 ghost use Rattle.std.specs.Prelude.{◌≡◌, List, [], map, ℕ, ◌≤◌, length};
 ghost use Rattle.rules.specs.Lent.{entry_of, plan_into};
 ghost use Rattle.terms.specs.Meaning.{field_of, entry_for};
@@ -84,7 +86,7 @@ fn entries(fields: &[u16], key: usize) -> [Entry; 64]
 // ---- the plan for a lent table
 
 // What a plan answers, and the entries for a lent table: so many of them are to be stored, none where the deck is refused.
-#[derive(Drop)]
+#[derive(Clone, Copy)]
 pub struct TablePlan {
     pub answer: Planned,
     pub entries: [Entry; 64],

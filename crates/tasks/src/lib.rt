@@ -1,4 +1,6 @@
 // The numbers of a plan, and what they say of a run: what is asked of input blocks, and how long the output of a record is. Document 01, "Blocks and records".
+#![tactic(auto)]
+
 ghost use Rattle.std.specs.Prelude.{◌≡◌, not, List, ◌≤◌, eqb};
 ghost use Rattle.rules.specs.Halves.{Field as RuleField};
 ghost use Rattle.rules.specs.Lent.{zone_f};

@@ -1,4 +1,6 @@
 // What cards name, as types that every floor above shares, and what their cases say: each floor asks it by the same function.
+#![tactic(auto)]
+
 ghost use Rattle.std.specs.Prelude.{◌≡◌, ◌<◌};
 ghost use Rattle.rules.specs.Plan.{is_tc, selects as ruleSelects, is_ff, is_fv, is_fu, is_fs, record_length, block_length};
 ghost use Rattle.rules.specs.Output.{cost as costOf};
@@ -6,7 +8,7 @@ ghost use Rattle.rules.specs.Lent.{kind_number};
 ghost use Rattle.terms.specs.Meaning.{mode_of, format_of, size_of, kind_of};
 
 // T: copy, field select, reblock, both.
-#[derive(Drop)]
+#[derive(Clone, Copy)]
 pub enum Mode {
     TC,
     TF,
@@ -15,7 +17,7 @@ pub enum Mode {
 }
 
 // F: fixed, variable, undefined, spanned.
-#[derive(Drop)]
+#[derive(Clone, Copy)]
 pub enum Format {
     FF,
     FV,
@@ -24,28 +26,28 @@ pub enum Format {
 }
 
 // A or B: (n,m) or (g).
-#[derive(Drop)]
+#[derive(Clone, Copy)]
 pub enum Size {
     Two { n: usize, m: usize },
     One { g: usize },
 }
 
 // A: a size, or the lengths of key and data (document 02, order 5).
-#[derive(Drop)]
+#[derive(Clone, Copy)]
 pub enum Input {
     Plain(Size),
     Keyed { key: usize, data: usize },
 }
 
 // The part of a record that a field reads: without a key there are data alone.
-#[derive(Drop)]
+#[derive(Clone, Copy)]
 pub enum Part {
     Data,
     Key,
 }
 
 // What a field does.
-#[derive(Drop)]
+#[derive(Clone, Copy)]
 pub enum Kind {
     Copy,
     Pack,
@@ -54,7 +56,7 @@ pub enum Kind {
 
 // A field: so many input bytes from position r on give so many output bytes from position t on; for a copy both are s. Where a record has a key, r counts
 // through key and data.
-#[derive(Drop)]
+#[derive(Clone, Copy)]
 pub struct Field {
     pub kind: Kind,
     pub r: usize,
@@ -66,7 +68,7 @@ pub struct Field {
 // What the cards of a deck ask for beside the fields: the parameters of the U card, R being 1 where it is not given, and A being that of key and data joined;
 // how long the key is, or 0; how many fields there are, which stand in a row that is lent; how many FS cards there are; the card of CV, or 0; and the first
 // card with a field that is taken from the key, or 0.
-#[derive(Drop)]
+#[derive(Clone, Copy)]
 pub struct Asked {
     pub mode: Mode,
     pub format: Format,
@@ -82,7 +84,7 @@ pub struct Asked {
 
 // What a run needs of a plan, as numbers: A's n and A's m (or g), B's n as the width of an output record, B's m (or g), what a block and each record
 // of it take besides the data, R, and whether CV is given.
-#[derive(Drop)]
+#[derive(Clone, Copy)]
 pub struct Task {
     pub mode: Mode,
     pub format: Format,
@@ -101,7 +103,7 @@ pub const ZONE: u8 = 15;
 // A field as it stands in a lent table: 0, 1 or 2 for copy, pack or unpack, 0 or 1 for one that reads data or the key, and its numbers, r as on the card and
 // for a copy its size in both places.
 #[repr(C)]
-#[derive(Drop)]
+#[derive(Clone, Copy)]
 pub struct Entry {
     pub kind: u8,
     pub part: u8,

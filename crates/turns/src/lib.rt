@@ -1,5 +1,7 @@
 // What a reel in FS is read as: its blocks are blocks of segments, which make records in turn. Document 02, order 6; refusals 11 and 12.
 // Of a record that is open only its length is held: which bytes it has does not matter for the rule.
+#![tactic(auto)]
+
 ghost use Rattle.std.specs.Prelude.{◌≡◌, ◌+◌, ◌≤◌, ◌<◌, length};
 ghost use Rattle.reels.specs.Header.{header_of};
 ghost use Rattle.turns.specs.Turns.{in_turn_of, counts_taken, Walked, Ruled};
@@ -9,14 +11,14 @@ use pieces::{Cursor, PieceRead, StartRead};
 use reels::{HeaderRead, ReelRead};
 
 // The records that ended so far, and how many bytes the open record has: 0 where none is open, since each segment has a byte or more.
-#[derive(Drop)]
+#[derive(Clone, Copy)]
 struct Counts {
     records: usize,
     held: usize,
 }
 
 // What a block is read as: the counts behind it, or it breaks its rule.
-#[derive(Drop)]
+#[derive(Clone, Copy)]
 enum TurnsRead {
     InTurn { counts: Counts },
     Breaks,

@@ -1,4 +1,6 @@
 // The two records that are shown of a plan that loses, from the lowest values of its halves (document 02, order 3).
+#![tactic(auto)]
+
 ghost use Rattle.std.specs.Prelude.{◌≡◌, ◌+◌, ◌*◌, ◌≤◌, ◌<◌, length};
 ghost use Rattle.rules.specs.Halves.{bytes};
 ghost use Rattle.rules.specs.Twins.{listed};

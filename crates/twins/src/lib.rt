@@ -1,4 +1,6 @@
 // For a deck whose plan loses, two input records that it makes one, and the reason (document 02, order 3).
+#![tactic(auto)]
+
 ghost use Rattle.std.specs.Prelude.{◌≡◌};
 ghost use Rattle.rules.specs.Plan.{lost_at};
 ghost use Rattle.rules.specs.Lent.{zone_f};
@@ -12,7 +14,7 @@ use terms::Asked;
 
 // What is answered: refusal, place, column, the reason, and how many bytes were written. In C it lies as it stands here.
 #[repr(C)]
-#[derive(Drop)]
+#[derive(Clone, Copy)]
 pub struct Twins {
     pub refusal: usize,
     pub place: usize,

@@ -1,4 +1,6 @@
 // Permitted values: whether a record's halves have them (refusal 13), and whether the fields of a plan ask for any. Document 01, "Half bytes".
+#![tactic(auto)]
+
 ghost use Rattle.std.specs.Prelude.{◌≡◌, ◌&&◌, ℕ, ◌+◌, ◌-◌, ◌*◌, ◌/◌, ◌%◌, ◌≤◌, eqb, length};
 ghost use Rattle.rules.specs.Halves.{pack, unpack, halves};
 ghost use Rattle.rules.specs.Permitted.{digit, sign, kind_allows};

@@ -1,5 +1,7 @@
 // Is a reel from elsewhere a true conversion of ours? Refusals 1 to 14 as for a run, with TC and TF under 8, then 17 and 18 of the foreign reel, and then the first record
 // that disagrees or lacks a partner. Document 02, order 7. Nothing is lent but to read, and no reel is built.
+#![tactic(auto)]
+
 ghost use Rattle.std.specs.Prelude.{◌≡◌, true, ◌≤◌, ◌<◌};
 ghost use Rattle.rules.specs.Asked.{asked_of};
 ghost use Rattle.rules.specs.Judge.{is_filling, judge, judge_answer, judgement};
@@ -17,7 +19,7 @@ use terms::{Asked, Mode, Task};
 // What is answered: refusal, place and column; 1 for a true conversion or 0, and the number, from 1 in the output, of the first record that disagrees or lacks a
 // partner, or 0. In C it lies as it stands here.
 #[repr(C)]
-#[derive(Drop)]
+#[derive(Clone, Copy)]
 pub struct Judged {
     pub refusal: usize,
     pub place: usize,

@@ -1,6 +1,8 @@
 // The records of a reel one after the other, through all its blocks: a walk that goes by value, so that a pass over the records is one loop. Not in FS, where no
 // record is in a block by itself.
 // Document 01, "Blocks and records". The header and the rule of each block were asked when the reel was read: nothing is asked again here.
+#![tactic(auto)]
+
 ghost use Rattle.std.specs.Prelude.{◌≡◌, ◌+◌, ◌≤◌, ◌<◌, length, drop};
 ghost use Rattle.rules.specs.Output.{cost};
 ghost use Rattle.terms.specs.Meaning.{format_of};
@@ -12,7 +14,7 @@ use terms::Format;
 
 // A place before a record of a reel: where the offset stands at which its block ends, the place itself, that end, and whether the record is the first of its
 // block (or the first that is taken).
-#[derive(Drop)]
+#[derive(Clone, Copy)]
 pub struct Walk {
     pub word: usize,
     pub at: usize,
@@ -21,7 +23,7 @@ pub struct Walk {
 }
 
 // A record and the walk behind it: where its data starts in the reel, the length of the data, and whether it is the first of its block.
-#[derive(Drop)]
+#[derive(Clone, Copy)]
 pub enum RecordRead {
     Record {
         start: usize,

@@ -6,7 +6,7 @@ use Prim.Native.Nat.{ℕ, ◌+◌, ◌-◌, ◌*◌, ◌≤◌}
 use native.Mathlib.Omega.{arith}
 use lib.ListN.{length}
 use Rattle.rules.specs.Base.{joined}
-use Rattle.rules.specs.Halves.{over, bytes}
+use Rattle.rules.specs.Halves.{over}
 use Rattle.rules.specs.Grammar.{Format}
 use Rattle.rules.specs.Reel.{word, offset_words, reel_of}
 use Rattle.rules.specs.Plan.{Plan, selects}

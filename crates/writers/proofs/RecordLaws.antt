@@ -6,7 +6,7 @@ use Prim.Native.Nat.{ℕ, ◌+◌, ◌-◌, ◌≤◌}
 use native.Mathlib.Omega.{arith}
 use lib.ListN.{length, take, drop}
 use borrow.Rule.Slice.PartMut.{put_mid}
-use Rattle.rules.specs.Halves.{Field, over, bytes}
+use Rattle.rules.specs.Halves.{Field, over}
 use Rattle.rules.specs.Plan.{selects}
 use Rattle.rules.specs.Output.{cost}
 use Rattle.rules.proofs.Halves.SizeLaws.{length_over}

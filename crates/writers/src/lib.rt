@@ -1,5 +1,7 @@
 // Writing a reel: the block count, then the offsets and the blocks, in FV in one pass along the records, in FF (`fixed`) without a walk. Document 01, "The reel" and
 // "Blocks and records".
+#![tactic(auto)]
+
 ghost use Rattle.std.specs.Prelude.{◌≡◌, ◌+◌, ◌≤◌, length};
 ghost use Rattle.rules.specs.Output.{cost};
 ghost use Rattle.records.specs.Promise.{Covers};

@@ -1,0 +1,12 @@
+-- `cards::field_counted` meets its contract: each way through its test notes what the rule notes.
+use borrow.Author.Tests.{lt-ltb, le-ltb}
+use Rattle.cards.specs.Selected.{field_counted}
+use Rattle.cards.proofs.counted.Goals as goal
+
+pub returns-then-count-lt-FIELDS : goal.returns-then-count-lt-FIELDS
+unfolding field_counted
+returns-then-count-lt-FIELDS c = rw (lt-ltb _ 64 c.if-count-lt-FIELDS.true)
+
+pub returns : goal.returns
+unfolding field_counted
+returns c = rw (le-ltb _ 64 c.if-count-lt-FIELDS.false, c.first_of.ensures)

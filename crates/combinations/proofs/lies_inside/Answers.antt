@@ -1,0 +1,21 @@
+-- The end of the input is compared, and then that of the output: the sizes that stand in the field are those of its kind, since a copy has one size.
+use borrow.Author.Tests.{lt-leb, le-leb}
+use Prim.Native.Nat.{◌+◌, ◌-◌}
+use native.Mathlib.Omega.{arith}
+use Rattle.rules.specs.Plan.{inside}
+use Rattle.terms.specs.Meaning.{field_of}
+use Rattle.terms.proofs.FieldLaws.{input_size_lem, output_size_lem}
+use Rattle.combinations.proofs.lies_inside.Goals as goal
+
+pub returns-then-a-f : goal.returns-then-a-f
+unfolding inside field_of
+returns-then-a-f c =
+    let a = c.args in
+    let f = a.f in
+    rw (input_size_lem f.kind f.input f.output, lt-leb (f.r + f.input - 1) a.a (omega arith))
+
+pub returns : goal.returns
+unfolding inside field_of
+returns c =
+    let f = c.args.f in
+    rw (input_size_lem f.kind f.input f.output, output_size_lem f.kind f.input f.output c.requires.one_size, le-leb (f.r + f.input - 1) c.args.a (omega arith))

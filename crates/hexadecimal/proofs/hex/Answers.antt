@@ -1,0 +1,6 @@
+-- `hexadecimal::hex` meets its contract: a byte's high half is under 16, so that its own low half is all of it.
+use Rattle.hexadecimal.proofs.DigitLaws.{both}
+use Rattle.hexadecimal.proofs.hex.Goals as goal
+
+pub returns : goal.returns
+returns c = both _ _ _ c.ranges.byte.fits c.digit.ensures c.digit-2.ensures
