@@ -1,5 +1,3 @@
-pub mod EntryArrays
-pub mod Rows
 pub mod PlanLaws
 pub mod RunLaws
 pub mod Demands

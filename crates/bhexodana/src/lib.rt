@@ -1,5 +1,7 @@
 // What users call: the plan of a deck, the plan into a table that the caller lends, the run of a deck over a reel, the twins of a deck, and whether a reel from
-// elsewhere is a true conversion. Exported for C and Fortran.
+// elsewhere is a true conversion. The crate bhexodana_c exports them for C and Fortran.
+#![tactic(auto)]
+
 ghost use Rattle.std.specs.Prelude.{◌≡◌, ◌++◌, ◌≤◌, length, take, drop};
 ghost use Rattle.bhexodana.specs.Promise.{PlanOf, PlannedInto, RanInto, TwinsInto, JudgedAs};
 
@@ -22,8 +24,7 @@ fn store(table: &mut [Entry], entries: [Entry; 64], count: usize)
 }
 
 // The plan of a deck.
-#[unsafe(no_mangle)]
-pub extern "C" fn bhx_plan(deck: &[u8]) -> Planned
+pub fn bhx_plan(deck: &[u8]) -> Planned
     ensures { PlanOf deck.now result }
 {
     let mut row = [0u16; 320];
@@ -32,8 +33,7 @@ pub extern "C" fn bhx_plan(deck: &[u8]) -> Planned
 }
 
 // The plan of a deck, stored into a table that the caller lends. A refusal changes no entry.
-#[unsafe(no_mangle)]
-pub extern "C" fn bhx_plan_into(deck: &[u8], table: &mut [Entry]) -> Planned
+pub fn bhx_plan_into(deck: &[u8], table: &mut [Entry]) -> Planned
     ensures { PlannedInto deck.now table.old result table.new }
 {
     let p = tables::plan_for(deck, table.len());
@@ -43,8 +43,7 @@ pub extern "C" fn bhx_plan_into(deck: &[u8], table: &mut [Entry]) -> Planned
 }
 
 // The run of a deck over a reel, into an output that the caller lends. A refusal changes no byte.
-#[unsafe(no_mangle)]
-pub extern "C" fn bhx_run(deck: &[u8], reel: &[u8], out: &mut [u8]) -> Ran
+pub fn bhx_run(deck: &[u8], reel: &[u8], out: &mut [u8]) -> Ran
     ensures { RanInto deck.now reel.now out.old result out.new }
 {
     let mut row = [0u16; 320];
@@ -58,16 +57,14 @@ pub extern "C" fn bhx_run(deck: &[u8], reel: &[u8], out: &mut [u8]) -> Ran
 }
 
 // For a deck whose plan loses, two input records that it makes one, into an output that the caller lends. A refusal changes no byte.
-#[unsafe(no_mangle)]
-pub extern "C" fn bhx_twins(deck: &[u8], out: &mut [u8]) -> Twins
+pub fn bhx_twins(deck: &[u8], out: &mut [u8]) -> Twins
     ensures { TwinsInto deck.now out.old result out.new }
 {
     twins::twins_of(deck, out)
 }
 
 // Whether theirs is a true conversion of ours by a deck of TR or TRF. Nothing is lent but to read.
-#[unsafe(no_mangle)]
-pub extern "C" fn bhx_judge(deck: &[u8], ours: &[u8], theirs: &[u8]) -> Judged
+pub fn bhx_judge(deck: &[u8], ours: &[u8], theirs: &[u8]) -> Judged
     ensures { JudgedAs deck.now ours.now theirs.now result }
 {
     verdicts::judge_deck(deck, ours, theirs)
