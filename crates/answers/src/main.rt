@@ -12,6 +12,9 @@
 //                                     lent; and the two records, `..` where they have over 64 bytes, `-` where the call was refused
 //   NAME judge DECK OURS THEIRS       refusal, place, column, yes and number
 // Bytes are hex digits, or xCOUNT:HH for COUNT bytes HH, in parts joined by `+`; `-` is no byte.
+#![tactic(auto)]
+
+mod alike;
 mod asked;
 mod digest;
 mod judge;
@@ -20,11 +23,13 @@ mod reel;
 mod run;
 mod say;
 mod text;
-mod twin_records;
 
 ghost use Rattle.std.specs.Prelude.{◌≡◌, length};
 
 use check::same;
+use inputs::Source;
+use std::fs::File;
+use std::io::{Error, ErrorKind, Print, Result};
 
 // Room for a whole file of cases.
 fn file_room() -> [u8; 262144]
@@ -50,59 +55,59 @@ fn half_into(step: &[u8], src: &[u8], dst: &mut [u8]) {
 }
 
 // What all of dst holds once src was packed or unpacked into it.
-fn say_half(step: &[u8], src: &[u8], dst: &mut [u8]) {
+fn say_half(to: &impl Print, step: &[u8], src: &[u8], dst: &mut [u8]) {
     half_into(step, src, dst);
-    say::bytes(dst);
+    say::bytes(to, dst);
 }
 
-fn half(words: &[u8]) {
+fn half(to: &impl Print, words: &[u8]) {
     let step = text::before(words, b' ');
     let rest = text::after(words, b' ');
     let mut src = io::buffer();
     let n = text::decode(text::before(rest, b' '), &mut src);
     let mut dst = [0x5Au8; 64];
     let m = text::count(text::after(rest, b' '), &dst);
-    say_half(step, &src[..n], &mut dst[..m]);
+    say_half(to, step, &src[..n], &mut dst[..m]);
 }
 
-fn deck(words: &[u8]) {
+fn deck(to: &impl Print, words: &[u8]) {
     let mut bytes = room();
     let n = text::decode(words, &mut bytes);
     let mut row = [0u16; 320];
     let read = cards::read_deck(&bytes[..n], &mut row);
-    say::refusal(read.refusal, read.place, read.column);
+    say::refusal(to, read.refusal, read.place, read.column);
     if read.refusal == 0 {
         let asked = read.asked;
         let end = 5 * asked.count;
-        asked::tell(&bytes[..n], asked, &row[..end]);
+        asked::tell(to, &bytes[..n], asked, &row[..end]);
     }
 }
 
-fn deck_and_reel(words: &[u8]) {
+fn deck_and_reel(to: &impl Print, words: &[u8]) {
     let mut bytes = room();
     let n = text::decode(text::before(words, b' '), &mut bytes);
     let mut row = [0u16; 320];
     let read = cards::read_deck(&bytes[..n], &mut row);
     if read.refusal != 0 {
-        say::refusal(read.refusal, read.place, read.column);
+        say::refusal(to, read.refusal, read.place, read.column);
         return;
     }
     let m = text::decode(text::after(words, b' '), &mut bytes);
-    reel::tell(reel::form_of(read.asked), &bytes[..m]);
+    reel::tell(to, reel::form_of(read.asked), &bytes[..m]);
 }
 
-fn deck_and_table(words: &[u8]) {
+fn deck_and_table(to: &impl Print, words: &[u8]) {
     let mut bytes = room();
     let n = text::decode(text::before(words, b' '), &mut bytes);
     let entries = text::after(words, b' ');
     if same(entries, b"-") {
-        plan::tell(&bytes[..n]);
+        plan::tell(to, &bytes[..n]);
         return;
     }
-    plan::tell_into(&bytes[..n], text::at_most(entries, 70));
+    plan::tell_into(to, &bytes[..n], text::at_most(entries, 70));
 }
 
-fn deck_and_output(words: &[u8]) {
+fn deck_and_output(to: &impl Print, words: &[u8]) {
     let rest = text::after(words, b' ');
     let mut deck = room();
     let n = text::decode(text::before(words, b' '), &mut deck);
@@ -111,19 +116,19 @@ fn deck_and_output(words: &[u8]) {
     let mut out = room();
     run::mark(&mut out);
     let lent = text::count(text::after(rest, b' '), &out);
-    run::tell(&deck[..n], &reel[..m], &mut out, lent);
+    run::tell(to, &deck[..n], &reel[..m], &mut out, lent);
 }
 
-fn deck_and_records(words: &[u8]) {
+fn deck_and_records(to: &impl Print, words: &[u8]) {
     let mut deck = room();
     let n = text::decode(text::before(words, b' '), &mut deck);
     let mut out = room();
     run::mark(&mut out);
     let lent = text::count(text::after(words, b' '), &out);
-    twin_records::tell(&deck[..n], &mut out, lent);
+    alike::tell(to, &deck[..n], &mut out, lent);
 }
 
-fn deck_and_two_reels(words: &[u8]) {
+fn deck_and_two_reels(to: &impl Print, words: &[u8]) {
     let rest = text::after(words, b' ');
     let mut deck = room();
     let n = text::decode(text::before(words, b' '), &mut deck);
@@ -131,33 +136,33 @@ fn deck_and_two_reels(words: &[u8]) {
     let m = text::decode(text::before(rest, b' '), &mut ours);
     let mut theirs = room();
     let k = text::decode(text::after(rest, b' '), &mut theirs);
-    judge::tell(&deck[..n], &ours[..m], &theirs[..k]);
+    judge::tell(to, &deck[..n], &ours[..m], &theirs[..k]);
 }
 
-fn case(line: &[u8]) {
-    say::words(text::before(line, b' '));
-    say::words(b" ");
+fn case(to: &impl Print, line: &[u8]) {
+    say::words(to, text::before(line, b' '));
+    say::words(to, b" ");
     let rest = text::after(line, b' ');
     let subject = text::before(rest, b' ');
     let words = text::after(rest, b' ');
     if same(subject, b"half") {
-        half(words);
+        half(to, words);
     } else if same(subject, b"deck") {
-        deck(words);
+        deck(to, words);
     } else if same(subject, b"reel") {
-        deck_and_reel(words);
+        deck_and_reel(to, words);
     } else if same(subject, b"plan") {
-        deck_and_table(words);
+        deck_and_table(to, words);
     } else if same(subject, b"run") {
-        deck_and_output(words);
+        deck_and_output(to, words);
     } else if same(subject, b"twins") {
-        deck_and_records(words);
+        deck_and_records(to, words);
     } else if same(subject, b"judge") {
-        deck_and_two_reels(words);
+        deck_and_two_reels(to, words);
     } else {
-        say::words(b"is no case");
+        say::words(to, b"is no case");
     }
-    say::words(b"\n");
+    say::words(to, b"\n");
 }
 
 fn is_comment(line: &[u8]) -> bool {
@@ -167,44 +172,51 @@ fn is_comment(line: &[u8]) -> bool {
     line[0] == b'#'
 }
 
-fn line(line: &[u8]) {
+fn line(to: &impl Print, line: &[u8]) {
     if !is_comment(line) {
-        case(line);
+        case(to, line);
     }
 }
 
-fn lines(all: &[u8]) {
+fn lines(to: &impl Print, all: &[u8]) {
     let mut at = 0;
     while at < all.len() {
         let rest = &all[at..];
         let end = text::find(rest, b'\n');
-        line(&rest[..end]);
+        line(to, &rest[..end]);
         at += end + 1;
     }
 }
 
-fn file(argument: usize) {
-    let mut path = io::buffer();
-    let length = os::arg(argument, &mut path);
-    let fd = os::open_read(&path[..length]);
-    if fd < 0 {
-        os::fail(&path[..length]);
-        return;
+// The file, open to read. A name that is no text names none.
+fn open(rt: &HostRuntime, path: &[u8]) -> Result<File> {
+    match std::str::from_utf8(path) {
+        Ok(text) => File::open(rt, text),
+        Err(_) => Err(Error::from(ErrorKind::InvalidInput)),
     }
-    let mut all = file_room();
-    let n = io::read_full(fd, &mut all);
-    lines(&all[..n]);
-    if n == 262144 {
-        say::words(b"a file of cases is too long\n");
-    }
-    libc::close(fd);
 }
 
-fn main() {
-    let count = os::arg_count();
-    let mut i = 1;
-    while i < count {
-        file(i);
-        i += 1;
+// The cases of a file, as many as its room takes.
+fn cases(rt: &HostRuntime, file: File) {
+    let mut all = file_room();
+    let n = inputs::fill(&mut Source::new(file), &mut all).length;
+    lines(rt, &all[..n]);
+    if n == 262144 {
+        say::words(rt, b"a file of cases is too long\n");
+    }
+}
+
+fn file(rt: &HostRuntime, argument: usize) {
+    let mut path = io::buffer();
+    let length = inputs::argument(rt, argument, &mut path);
+    match open(rt, &path[..length]) {
+        Ok(file) => cases(rt, file),
+        Err(why) => words::fail(&rt.stderr(), &path[..length], why),
+    }
+}
+
+fn main(rt: HostRuntime) {
+    for i in 1..inputs::argument_count(&rt) {
+        file(&rt, i);
     }
 }

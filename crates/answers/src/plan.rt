@@ -4,10 +4,11 @@ ghost use Rattle.bhexodana.specs.Promise.{PlannedInto};
 
 use crate::{digest, say};
 use plans::Planned;
+use std::io::Print;
 use terms::Entry;
 
 // What a plan answers, and the whole table after it.
-#[derive(Drop)]
+#[derive(Clone, Copy)]
 struct Lent {
     answer: Planned,
     table: [Entry; 70],
@@ -75,26 +76,26 @@ fn digest_of(table: [Entry; 70]) -> usize {
     digest
 }
 
-fn tell_answer(answer: Planned) {
-    say::refusal(answer.refusal, answer.place, answer.column);
-    say::labelled(b" ", answer.keeping);
-    say::labelled(b" ", answer.lost);
-    say::labelled(b" ", answer.fields);
+fn tell_answer(to: &impl Print, answer: Planned) {
+    say::refusal(to, answer.refusal, answer.place, answer.column);
+    say::labelled(to, b" ", answer.keeping);
+    say::labelled(to, b" ", answer.lost);
+    say::labelled(to, b" ", answer.fields);
 }
 
 // The plan of a deck with no table.
-pub(crate) fn tell(deck: &[u8]) {
-    tell_answer(bhexodana::bhx_plan(deck));
-    say::words(b" -");
+pub(crate) fn tell(to: &impl Print, deck: &[u8]) {
+    tell_answer(to, bhexodana::bhx_plan(deck));
+    say::words(to, b" -");
 }
 
 // The plan of a deck into a table of so many entries.
-pub(crate) fn tell_into(deck: &[u8], entries: usize)
+pub(crate) fn tell_into(to: &impl Print, deck: &[u8], entries: usize)
     requires { entries ≤ 70 }
 {
     let after = lend(deck, marks(), entries);
     let answer = after.answer;
     let table = after.table;
-    tell_answer(answer);
-    say::labelled(b" ", digest_of(table));
+    tell_answer(to, answer);
+    say::labelled(to, b" ", digest_of(table));
 }

@@ -2,6 +2,7 @@
 use crate::say;
 use pieces::{Cursor, Form, PieceRead, StartRead};
 use reels::ReelRead;
+use std::io::Print;
 use terms::{Asked, Format};
 
 // What the cards ask of blocks.
@@ -18,7 +19,7 @@ pub(crate) fn form_of(asked: Asked) -> Form {
 }
 
 // What was told of records: whether of any, and how many bytes of the next were read.
-#[derive(Drop)]
+#[derive(Clone, Copy)]
 struct Told {
     any: bool,
     held: usize,
@@ -37,7 +38,7 @@ fn sum(a: usize, b: usize) -> usize {
 
 // What is told behind a piece. Codes 0 and 2 end a record: the length of its data is told, with a comma before each but the first of the reel. In FS alone there
 // are others, and a record is its segments joined.
-fn with_piece(told: Told, length: usize, code: usize) -> Told {
+fn with_piece(to: &impl Print, told: Told, length: usize, code: usize) -> Told {
     let held = sum(told.held, length);
     if code % 2 == 1 {
         return Told {
@@ -46,14 +47,14 @@ fn with_piece(told: Told, length: usize, code: usize) -> Told {
         };
     }
     if told.any {
-        say::words(b",");
+        say::words(to, b",");
     }
-    say::number(held);
+    say::number(to, held);
     Told { any: true, held: 0 }
 }
 
 // The pieces of a block from a place on.
-fn pieces_from(form: Form, block: &[u8], from: Cursor, before: Told) -> Told {
+fn pieces_from(to: &impl Print, form: Form, block: &[u8], from: Cursor, before: Told) -> Told {
     let mut at = from.at;
     let mut told = before;
     loop {
@@ -65,7 +66,7 @@ fn pieces_from(form: Form, block: &[u8], from: Cursor, before: Told) -> Told {
                 third,
                 next,
             } => {
-                told = with_piece(told, length, third);
+                told = with_piece(to, told, length, third);
                 at = next.at;
             }
             PieceRead::End => return told,
@@ -74,16 +75,16 @@ fn pieces_from(form: Form, block: &[u8], from: Cursor, before: Told) -> Told {
     }
 }
 
-fn pieces(form: Form, block: &[u8], before: Told) -> Told {
+fn pieces(to: &impl Print, form: Form, block: &[u8], before: Told) -> Told {
     let start = pieces::start(form, block);
     match start {
-        StartRead::From { cursor } => pieces_from(form, block, cursor, before),
+        StartRead::From { cursor } => pieces_from(to, form, block, cursor, before),
         StartRead::NoStart => before,
     }
 }
 
 // The same in FS.
-fn segments_from(block: &[u8], from: Cursor, before: Told) -> Told {
+fn segments_from(to: &impl Print, block: &[u8], from: Cursor, before: Told) -> Told {
     let mut at = from.at;
     let mut told = before;
     loop {
@@ -95,7 +96,7 @@ fn segments_from(block: &[u8], from: Cursor, before: Told) -> Told {
                 third,
                 next,
             } => {
-                told = with_piece(told, length, third);
+                told = with_piece(to, told, length, third);
                 at = next.at;
             }
             PieceRead::End => return told,
@@ -104,33 +105,33 @@ fn segments_from(block: &[u8], from: Cursor, before: Told) -> Told {
     }
 }
 
-fn segments(block: &[u8], before: Told) -> Told {
+fn segments(to: &impl Print, block: &[u8], before: Told) -> Told {
     let start = pieces::variable_start(block);
     match start {
-        StartRead::From { cursor } => segments_from(block, cursor, before),
+        StartRead::From { cursor } => segments_from(to, block, cursor, before),
         StartRead::NoStart => before,
     }
 }
 
-fn in_block(form: Form, block: &[u8], before: Told) -> Told {
+fn in_block(to: &impl Print, form: Form, block: &[u8], before: Told) -> Told {
     let format = form.format;
     match format {
-        Format::FF => pieces(form, block, before),
-        Format::FV => pieces(form, block, before),
-        Format::FU => pieces(form, block, before),
-        Format::FS => segments(block, before),
+        Format::FF => pieces(to, form, block, before),
+        Format::FV => pieces(to, form, block, before),
+        Format::FU => pieces(to, form, block, before),
+        Format::FS => segments(to, block, before),
     }
 }
 
 // The length of each record, block after block.
-fn lengths(form: Form, reel: &[u8], blocks: usize) {
+fn lengths(to: &impl Print, form: Form, reel: &[u8], blocks: usize) {
     let mut told = Told {
         any: false,
         held: 0,
     };
     let mut i = 0;
     while i < blocks {
-        told = in_block(form, reels::block(reel, i), told);
+        told = in_block(to, form, reels::block(reel, i), told);
         i += 1;
     }
 }
@@ -145,20 +146,20 @@ fn read(form: Form, reel: &[u8]) -> ReelRead {
     }
 }
 
-pub(crate) fn tell(form: Form, reel: &[u8]) {
+pub(crate) fn tell(to: &impl Print, form: Form, reel: &[u8]) {
     let read = read(form, reel);
     match read {
         ReelRead::Read { blocks, records } => {
-            say::refusal(0, 0, 0);
-            say::labelled(b" ", blocks);
-            say::labelled(b" ", records);
-            say::words(b" ");
+            say::refusal(to, 0, 0, 0);
+            say::labelled(to, b" ", blocks);
+            say::labelled(to, b" ", records);
+            say::words(to, b" ");
             if records == 0 {
-                say::words(b"-");
+                say::words(to, b"-");
             }
-            lengths(form, reel, blocks);
+            lengths(to, form, reel, blocks);
         }
-        ReelRead::NotReel => say::refusal(11, 0, 0),
-        ReelRead::BadBlock { block } => say::refusal(12, block, 0),
+        ReelRead::NotReel => say::refusal(to, 11, 0, 0),
+        ReelRead::BadBlock { block } => say::refusal(to, 12, block, 0),
     }
 }

@@ -1,24 +1,24 @@
-// What is written to standard output.
-use libc::STDOUT_FILENO;
+// What is written, which programs take for standard output.
+use std::io::Print;
 
-pub(crate) fn words(s: &[u8]) {
-    io::write_all(STDOUT_FILENO, s);
+pub(crate) fn words(to: &impl Print, s: &[u8]) {
+    let _ = to.write_all(s);
 }
 
-pub(crate) fn number(n: usize) {
-    io::print_decimal(STDOUT_FILENO, n as u64);
+pub(crate) fn number(to: &impl Print, n: usize) {
+    let _ = to.print(n);
 }
 
 // A word of the line, and a number behind it.
-pub(crate) fn labelled(label: &[u8], n: usize) {
-    words(label);
-    number(n);
+pub(crate) fn labelled(to: &impl Print, label: &[u8], n: usize) {
+    words(to, label);
+    number(to, n);
 }
 
-pub(crate) fn refusal(number_of: usize, place: usize, column: usize) {
-    number(number_of);
-    labelled(b" ", place);
-    labelled(b" ", column);
+pub(crate) fn refusal(to: &impl Print, number_of: usize, place: usize, column: usize) {
+    number(to, number_of);
+    labelled(to, b" ", place);
+    labelled(to, b" ", column);
 }
 
 // A hex digit.
@@ -30,32 +30,32 @@ fn digit(half: u8) -> u8 {
     b'A' - 10 + value
 }
 
-fn byte(b: u8) {
+fn byte(to: &impl Print, b: u8) {
     let pair = [digit(b / 16), digit(b)];
-    words(&pair);
+    words(to, &pair);
 }
 
 // Bytes in hex; `-` for none.
-pub(crate) fn bytes(s: &[u8]) {
+pub(crate) fn bytes(to: &impl Print, s: &[u8]) {
     if s.len() == 0 {
-        words(b"-");
+        words(to, b"-");
     }
     let mut i = 0;
     while i < s.len() {
-        byte(s[i]);
+        byte(to, s[i]);
         i += 1;
     }
 }
 
 // What a call wrote, in hex where it is short; `-` where it was refused.
-pub(crate) fn written(refusal: usize, s: &[u8]) {
+pub(crate) fn written(to: &impl Print, refusal: usize, s: &[u8]) {
     if refusal != 0 {
-        words(b"-");
+        words(to, b"-");
         return;
     }
     if s.len() > 64 {
-        words(b"..");
+        words(to, b"..");
         return;
     }
-    bytes(s);
+    bytes(to, s);
 }

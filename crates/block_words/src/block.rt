@@ -1,11 +1,12 @@
 // Refusals 12 and 18: in what a block breaks its rule. Document 01, "Blocks and records".
 use crate::{segment, word};
 use pieces::{Cursor, Form, PieceRead};
+use std::io::Print;
 use terms::Format;
 use words::{many, number, say};
 
 // What A, or B for a reel from elsewhere, asks of blocks: their form, how long the key is, or 0, and whether a single number stands there, g and not n and m.
-#[derive(Drop)]
+#[derive(Clone, Copy)]
 pub struct Asks {
     pub form: Form,
     pub key: usize,
@@ -14,62 +15,62 @@ pub struct Asks {
 }
 
 // Says whose numbers are asked: A's or B's.
-fn say_whose(asks: Asks) {
+fn say_whose(to: &impl Print, asks: Asks) {
     if asks.is_theirs {
-        say(b"B's ");
+        say(to, b"B's ");
     } else {
-        say(b"A's ");
+        say(to, b"A's ");
     }
 }
 
 // What is said where nothing else was found.
-fn say_wrong(asks: Asks) {
-    say(b"this block is not one that the U card's F and ");
+fn say_wrong(to: &impl Print, asks: Asks) {
+    say(to, b"this block is not one that the U card's F and ");
     if asks.is_theirs {
-        say(b"B allow");
+        say(to, b"B allow");
     } else {
-        say(b"A allow");
+        say(to, b"A allow");
     }
 }
 
-fn say_size(b: &[u8]) {
-    say(b"it has ");
-    many(b.len(), b"byte");
+fn say_size(to: &impl Print, b: &[u8]) {
+    say(to, b"it has ");
+    many(to, b.len(), b"byte");
 }
 
 // Whether a block is longer than m, or g, which is then said.
-fn said_too_long(asks: Asks, b: &[u8]) -> bool {
+fn said_too_long(to: &impl Print, asks: Asks, b: &[u8]) -> bool {
     let form = asks.form;
     if b.len() <= form.m {
         return false;
     }
-    say_size(b);
-    say(b", more than ");
-    say_whose(asks);
+    say_size(to, b);
+    say(to, b", more than ");
+    say_whose(to, asks);
     if asks.is_single {
-        say(b"g, ");
+        say(to, b"g, ");
     } else {
-        say(b"m, ");
+        say(to, b"m, ");
     }
-    number(form.m);
+    number(to, form.m);
     true
 }
 
 // In FF: a block that is not too long has no whole records. With keys it is one record.
-fn fixed(asks: Asks, b: &[u8]) {
+fn fixed(to: &impl Print, asks: Asks, b: &[u8]) {
     let form = asks.form;
     if asks.key > 0 {
-        say_size(b);
-        say(b", and key and data have ");
-        number(form.n);
+        say_size(to, b);
+        say(to, b", and key and data have ");
+        number(to, form.n);
         return;
     }
-    if said_too_long(asks, b) {
+    if said_too_long(to, asks, b) {
         return;
     }
-    say_size(b);
-    say(b", which is no multiple of the record length, ");
-    number(form.n);
+    say_size(to, b);
+    say(to, b", which is no multiple of the record length, ");
+    number(to, form.n);
 }
 
 // The least data of a record.
@@ -107,90 +108,90 @@ fn first_wrong(form: Form, b: &[u8]) -> usize {
 }
 
 // Says that a record whose word is right has too few data.
-fn say_few(asks: Asks, b: &[u8], at: usize) {
+fn say_few(to: &impl Print, asks: Asks, b: &[u8], at: usize) {
     let form = asks.form;
     let length = word::length(b, at);
     if length < 4 {
         return;
     }
-    say(b"it has ");
-    many(length - 4, b"byte");
-    say(b" of data, fewer than ");
-    say_whose(asks);
-    say(b"n, ");
-    number(form.n);
+    say(to, b"it has ");
+    many(to, length - 4, b"byte");
+    say(to, b" of data, fewer than ");
+    say_whose(to, asks);
+    say(to, b"n, ");
+    number(to, form.n);
 }
 
 // In FV, of the records of a block whose own word is right.
-fn records(asks: Asks, b: &[u8]) {
+fn records(to: &impl Print, asks: Asks, b: &[u8]) {
     let at = first_wrong(asks.form, b);
     if b.len() <= at {
-        say_wrong(asks);
+        say_wrong(to, asks);
         return;
     }
-    word::say_piece(b"record", at);
-    if !word::said_piece(b"record", b, at, 0) {
-        say_few(asks, b, at);
+    word::say_piece(to, b"record", at);
+    if !word::said_piece(to, b"record", b, at, 0) {
+        say_few(to, asks, b, at);
     }
 }
 
 // Whether a block with words is too long or too short, or its own word is wrong, which is then said.
-fn said_wrong(asks: Asks, name: &[u8], b: &[u8]) -> bool {
-    if said_too_long(asks, b) {
+fn said_wrong(to: &impl Print, asks: Asks, name: &[u8], b: &[u8]) -> bool {
+    if said_too_long(to, asks, b) {
         return true;
     }
     if b.len() < 5 {
-        say_size(b);
-        say(b", and a block has at least 9: its word, that of a ");
-        say(name);
-        say(b", and a byte");
+        say_size(to, b);
+        say(to, b", and a block has at least 9: its word, that of a ");
+        say(to, name);
+        say(to, b", and a byte");
         return true;
     }
-    word::said_wrong(b)
+    word::said_wrong(to, b)
 }
 
-fn variable(asks: Asks, b: &[u8]) {
-    if !said_wrong(asks, b"record", b) {
-        records(asks, b);
+fn variable(to: &impl Print, asks: Asks, b: &[u8]) {
+    if !said_wrong(to, asks, b"record", b) {
+        records(to, asks, b);
     }
 }
 
 // In FU the block is the record.
-fn undefined(asks: Asks, b: &[u8]) {
-    if !said_too_long(asks, b) {
-        say_wrong(asks);
+fn undefined(to: &impl Print, asks: Asks, b: &[u8]) {
+    if !said_too_long(to, asks, b) {
+        say_wrong(to, asks);
     }
 }
 
 // In FS. Blocks count from 0.
-fn spanned(asks: Asks, reel: &[u8], i: usize) {
+fn spanned(to: &impl Print, asks: Asks, reel: &[u8], i: usize) {
     let b = reels::block(reel, i);
-    if said_wrong(asks, b"segment", b) {
+    if said_wrong(to, asks, b"segment", b) {
         return;
     }
-    segment::explain(reel, i);
+    segment::explain(to, reel, i);
 }
 
 // Says the first thing by which the block of a place, from 1, breaks its rule.
-pub fn wrong_block(asks: Asks, reel: &[u8], place: usize) {
-    say(b", at block ");
-    number(place);
+pub fn wrong_block(to: &impl Print, asks: Asks, reel: &[u8], place: usize) {
+    say(to, b", at block ");
+    number(to, place);
     if asks.is_theirs {
-        say(b" of theirs: ");
+        say(to, b" of theirs: ");
     } else {
-        say(b" of the input: ");
+        say(to, b" of the input: ");
     }
     if place == 0 {
-        say_wrong(asks);
+        say_wrong(to, asks);
         return;
     }
     let i = place - 1;
     let form = asks.form;
     let format = form.format;
     match format {
-        Format::FF => fixed(asks, reels::block(reel, i)),
-        Format::FV => variable(asks, reels::block(reel, i)),
-        Format::FU => undefined(asks, reels::block(reel, i)),
-        Format::FS => spanned(asks, reel, i),
+        Format::FF => fixed(to, asks, reels::block(reel, i)),
+        Format::FV => variable(to, asks, reels::block(reel, i)),
+        Format::FU => undefined(to, asks, reels::block(reel, i)),
+        Format::FS => spanned(to, asks, reel, i),
     }
 }

@@ -1,6 +1,7 @@
 // Refusals 11 and 17: in what a file is no reel. Document 01, "The reel".
 ghost use Rattle.std.specs.Prelude.{◌<◌};
 
+use std::io::Print;
 use words::{many, number, say};
 
 // The number at a place of a file, or 0 where the file has ended.
@@ -38,80 +39,80 @@ fn first_fallen(reel: &[u8], count: usize) -> usize {
 }
 
 // Says an offset by its block, or as the last one.
-fn say_offset(reel: &[u8], count: usize, i: usize) {
+fn say_offset(to: &impl Print, reel: &[u8], count: usize, i: usize) {
     if i >= count {
-        say(b"the last offset, the reel's end, is ");
+        say(to, b"the last offset, the reel's end, is ");
     } else {
-        say(b"the offset of block ");
-        number(i + 1);
-        say(b" is ");
+        say(to, b"the offset of block ");
+        number(to, i + 1);
+        say(to, b" is ");
     }
-    number(offset(reel, i));
+    number(to, offset(reel, i));
 }
 
 // Says an offset that is not greater than the one before it, which is that of a block.
-fn say_fallen(reel: &[u8], count: usize, i: usize) {
-    say_offset(reel, count, i);
-    say(b", not greater than that of block ");
-    number(i);
+fn say_fallen(to: &impl Print, reel: &[u8], count: usize, i: usize) {
+    say_offset(to, reel, count, i);
+    say(to, b", not greater than that of block ");
+    number(to, i);
     if i > 0 {
-        say(b", ");
-        number(offset(reel, i - 1));
+        say(to, b", ");
+        number(to, offset(reel, i - 1));
     }
 }
 
 // Says what is wrong with the offsets of so many blocks, which are all there.
-fn offsets(reel: &[u8], count: usize) {
+fn offsets(to: &impl Print, reel: &[u8], count: usize) {
     let first = offset(reel, 0);
     if count < 16384 && first != 4 * count + 8 {
-        say(b"the first offset is ");
-        number(first);
-        say(b", and with ");
-        many(count, b"block");
-        say(b" it has to be ");
-        number(4 * count + 8);
+        say(to, b"the first offset is ");
+        number(to, first);
+        say(to, b", and with ");
+        many(to, count, b"block");
+        say(to, b" it has to be ");
+        number(to, 4 * count + 8);
         return;
     }
     let fallen = first_fallen(reel, count);
     if fallen > 0 {
-        say_fallen(reel, count, fallen);
+        say_fallen(to, reel, count, fallen);
         return;
     }
-    say_offset(reel, count, count);
-    say(b", and the file has ");
-    many(reel.len(), b"byte");
+    say_offset(to, reel, count, count);
+    say(to, b", and the file has ");
+    many(to, reel.len(), b"byte");
 }
 
 // Says what is wrong with a file of 8 bytes or more. The count may be any 32-bit number: it is compared before it is multiplied.
-fn counted(reel: &[u8], left: usize) {
+fn counted(to: &impl Print, reel: &[u8], left: usize) {
     let count = word(reel, 0);
     if count <= left / 4 {
-        offsets(reel, count);
+        offsets(to, reel, count);
         return;
     }
-    say(b"its block count says ");
-    many(count, b"block");
-    say(b", for whose offsets ");
-    number(4 * count + 8);
-    say(b" bytes are needed, and it has ");
-    number(reel.len());
+    say(to, b"its block count says ");
+    many(to, count, b"block");
+    say(to, b", for whose offsets ");
+    number(to, 4 * count + 8);
+    say(to, b" bytes are needed, and it has ");
+    number(to, reel.len());
 }
 
 // Says the first thing by which a file of this name is no reel.
-pub fn no_reel(name: &[u8], reel: &[u8]) {
-    say(b": ");
-    say(name);
-    say(b" is no reel: ");
+pub fn no_reel(to: &impl Print, name: &[u8], reel: &[u8]) {
+    say(to, b": ");
+    say(to, name);
+    say(to, b" is no reel: ");
     let end = reel.len();
     if end > 65536 {
-        say(b"it has more than 65,536 bytes");
+        say(to, b"it has more than 65,536 bytes");
         return;
     }
     if end < 8 {
-        say(b"it has ");
-        many(end, b"byte");
-        say(b", and a reel has at least 8");
+        say(to, b"it has ");
+        many(to, end, b"byte");
+        say(to, b", and a reel has at least 8");
         return;
     }
-    counted(reel, end - 8);
+    counted(to, reel, end - 8);
 }

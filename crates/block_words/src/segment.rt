@@ -1,13 +1,14 @@
 // Refusals 12 and 18 in FS: in what the segments of a block, whose own word is right, are none in turn. Document 02, order 6.
 use crate::word;
 use pieces::{Cursor, PieceRead};
+use std::io::Print;
 use words::{number, say};
 
 // The highest length of a record.
 const LONGEST: usize = 32752;
 
 // A place in a block, and how many bytes the record that is open there has, or 0 where none is open.
-#[derive(Drop)]
+#[derive(Clone, Copy)]
 struct Open {
     at: usize,
     held: usize,
@@ -80,54 +81,55 @@ fn held_before(reel: &[u8], block: usize) -> usize {
     held
 }
 
-fn say_code(code: u8) {
-    say(b"its code is ");
+fn say_code(to: &impl Print, code: u8) {
+    say(to, b"its code is ");
     match code {
-        0 => say(b"0, for a whole record"),
-        1 => say(b"1, for the first segment of a record"),
-        2 => say(b"2, for the last segment of a record"),
-        _ => say(b"3, for a segment between the first and the last"),
+        0 => say(to, b"0, for a whole record"),
+        1 => say(to, b"1, for the first segment of a record"),
+        2 => say(to, b"2, for the last segment of a record"),
+        _ => say(to, b"3, for a segment between the first and the last"),
     }
 }
 
 // Says how long a record is with a segment whose word says this length, behind so many bytes.
-fn say_long(held: usize, length: usize) {
+fn say_long(to: &impl Print, held: usize, length: usize) {
     if length < 4 {
         return;
     }
-    say(b"with it its record has ");
-    number(held_behind(held, 1, length - 4));
-    say(b" bytes, and a record has at most 32,752");
+    say(to, b"with it its record has ");
+    number(to, held_behind(held, 1, length - 4));
+    say(to, b" bytes, and a record has at most 32,752");
 }
 
 // Says why a segment is not in turn whose word is right.
-fn say_turn(b: &[u8], open: Open) {
+fn say_turn(to: &impl Print, b: &[u8], open: Open) {
     let code = word::third(b, open.at);
     if begins(terms::wide(code)) && open.held > 0 {
-        say_code(code);
-        say(b", and the record before it is not finished");
+        say_code(to, code);
+        say(to, b", and the record before it is not finished");
         return;
     }
     if !begins(terms::wide(code)) && open.held == 0 {
-        say_code(code);
-        say(b", and no record is begun");
+        say_code(to, code);
+        say(to, b", and no record is begun");
         return;
     }
-    say_long(open.held, word::length(b, open.at));
+    say_long(to, open.held, word::length(b, open.at));
 }
 
 // Says the first thing that is wrong with the segments of a block, from 0. Where there is none, the reel ends with this block.
-pub(crate) fn explain(reel: &[u8], block: usize) {
+pub(crate) fn explain(to: &impl Print, reel: &[u8], block: usize) {
     let b = reels::block(reel, block);
     let open = first_wrong(b, held_before(reel, block));
     if b.len() <= open.at {
         say(
+            to,
             b"the reel ends here, and its last record is not finished: a segment of code 2 has to follow",
         );
         return;
     }
-    word::say_piece(b"segment", open.at);
-    if !word::said_piece(b"segment", b, open.at, 3) {
-        say_turn(b, open);
+    word::say_piece(to, b"segment", open.at);
+    if !word::said_piece(to, b"segment", b, open.at, 3) {
+        say_turn(to, b, open);
     }
 }

@@ -2,6 +2,7 @@
 // Document 01, "Blocks and records"; document 02, order 6.
 ghost use Rattle.std.specs.Prelude.{◌<◌};
 
+use std::io::Print;
 use words::{many, number, say};
 
 // A byte of a block, from 0, or 0 where the block has ended.
@@ -39,106 +40,106 @@ pub(crate) fn length(b: &[u8], at: usize) -> usize
 }
 
 // Says which byte of a block, from 0, is in its word or in that of a piece, and what it is.
-fn say_byte(b: &[u8], at: usize) {
+fn say_byte(to: &impl Print, b: &[u8], at: usize) {
     if at < b.len() {
-        say(b"byte ");
-        number(at + 1);
-        say(b" of the block, in its word, is hex ");
-        say(&hexadecimal::hex(b[at]));
+        say(to, b"byte ");
+        number(to, at + 1);
+        say(to, b" of the block, in its word, is hex ");
+        say(to, &hexadecimal::hex(b[at]));
     }
 }
 
 // Whether the third byte of a word, which is at most top, or the fourth is wrong, which is then said.
-fn said_flags(b: &[u8], third: usize, top: u8) -> bool {
+fn said_flags(to: &impl Print, b: &[u8], third: usize, top: u8) -> bool {
     if byte(b, third) > top {
-        say_byte(b, third);
+        say_byte(to, b, third);
         if top == 0 {
-            say(b", and has to be 00");
+            say(to, b", and has to be 00");
         } else {
-            say(b", and a code is 00 to 03");
+            say(to, b", and a code is 00 to 03");
         }
         return true;
     }
     if third < b.len() && byte(b, third + 1) != 0 {
-        say_byte(b, third + 1);
-        say(b", and has to be 00");
+        say_byte(to, b, third + 1);
+        say(to, b", and has to be 00");
         return true;
     }
     false
 }
 
 // Says that the word of a block says another length than it has.
-fn say_length(b: &[u8], said: usize) {
-    say(b"its word says ");
-    many(said, b"byte");
-    say(b", and it has ");
-    number(b.len());
+fn say_length(to: &impl Print, b: &[u8], said: usize) {
+    say(to, b"its word says ");
+    many(to, said, b"byte");
+    say(to, b", and it has ");
+    number(to, b.len());
 }
 
 // Whether the word of a block is wrong, which is then said, in the order in which `pieces` looks at it.
-pub(crate) fn said_wrong(b: &[u8]) -> bool {
+pub(crate) fn said_wrong(to: &impl Print, b: &[u8]) -> bool {
     let said = length(b, 0);
     if said < 4 || said > b.len() {
-        say_length(b, said);
+        say_length(to, b, said);
         return true;
     }
-    if said_flags(b, 2, 0) {
+    if said_flags(to, b, 2, 0) {
         return true;
     }
     if said != b.len() {
-        say_length(b, said);
+        say_length(to, b, said);
         return true;
     }
     false
 }
 
 // Says which piece, a record or a segment, stands at a place of a block.
-pub(crate) fn say_piece(name: &[u8], at: usize) {
-    say(b"the ");
-    say(name);
-    say(b" at byte ");
+pub(crate) fn say_piece(to: &impl Print, name: &[u8], at: usize) {
+    say(to, b"the ");
+    say(to, name);
+    say(to, b" at byte ");
     if at < 65536 {
-        number(at + 1);
+        number(to, at + 1);
     }
-    say(b" of the block: ");
+    say(to, b" of the block: ");
 }
 
 // Whether the length in the word of a piece is wrong, where so many bytes of the block are left; that is then said.
-fn said_length(name: &[u8], said: usize, left: usize) -> bool {
+fn said_length(to: &impl Print, name: &[u8], said: usize, left: usize) -> bool {
     if left < 4 {
-        say(b"the block has ");
-        many(left, b"byte");
-        say(b" left, and a word has 4");
+        say(to, b"the block has ");
+        many(to, left, b"byte");
+        say(to, b" left, and a word has 4");
         return true;
     }
     if said > 4 && said <= left {
         return false;
     }
-    say(b"its word says ");
-    many(said, b"byte");
+    say(to, b"its word says ");
+    many(to, said, b"byte");
     if said > left {
-        say(b", and the block has ");
-        number(left);
-        say(b" left");
+        say(to, b", and the block has ");
+        number(to, left);
+        say(to, b" left");
     } else {
-        say(b", and a ");
-        say(name);
-        say(b" has at least 5 with its word");
+        say(to, b", and a ");
+        say(to, name);
+        say(to, b" has at least 5 with its word");
     }
     true
 }
 
 // Whether the word of the piece at a place is wrong, which is then said. Its third byte is at most top: 0 for a record, 3 for a segment.
-pub(crate) fn said_piece(name: &[u8], b: &[u8], at: usize, top: u8) -> bool {
+pub(crate) fn said_piece(to: &impl Print, name: &[u8], b: &[u8], at: usize, top: u8) -> bool {
     if b.len() <= at {
         return false;
     }
     let left = b.len() - at;
-    if said_length(name, length(b, at), left) {
+    if said_length(to, name, length(b, at), left) {
         return true;
     }
     if left < 4 {
         return false;
     }
-    said_flags(b, at + 2, top)
+    said_flags(to, b, at + 2, top)
 }

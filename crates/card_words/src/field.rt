@@ -1,52 +1,53 @@
 // A field of a plan as people find it: by its number, its item as on a card, and its card.
+use std::io::Print;
 use terms::{Field, Kind};
 use words::{number, say};
 
 // Says the two sizes of a pack or unpack, behind its letter.
-fn sizes(letter: &[u8], f: Field) {
-    say(b"(");
-    say(letter);
-    say(b",");
-    number(f.input);
-    say(b",");
-    number(f.output);
-    say(b")");
+fn sizes(to: &impl Print, letter: &[u8], f: Field) {
+    say(to, b"(");
+    say(to, letter);
+    say(to, b",");
+    number(to, f.input);
+    say(to, b",");
+    number(to, f.output);
+    say(to, b")");
 }
 
 // Says where a field begins to read as a card does, behind a key of so many bytes.
-fn start(r: usize, key: usize) {
+fn start(to: &impl Print, r: usize, key: usize) {
     if r <= key {
-        say(b"(K,");
-        number(r);
-        say(b")");
+        say(to, b"(K,");
+        number(to, r);
+        say(to, b")");
         return;
     }
-    number(r - key);
+    number(to, r - key);
 }
 
 // Says a field as an item of a card.
-fn item(f: Field, key: usize) {
-    start(f.r, key);
-    say(b",");
+fn item(to: &impl Print, f: Field, key: usize) {
+    start(to, f.r, key);
+    say(to, b",");
     let kind = f.kind;
     match kind {
-        Kind::Copy => number(f.input),
-        Kind::Pack => sizes(b"P", f),
-        Kind::Unpack => sizes(b"U", f),
+        Kind::Copy => number(to, f.input),
+        Kind::Pack => sizes(to, b"P", f),
+        Kind::Unpack => sizes(to, b"U", f),
     }
-    say(b",");
-    number(f.t);
+    say(to, b",");
+    number(to, f.t);
 }
 
 // Says a field of a deck by its number, from 1, its item and its card, behind a key of so many bytes. There is no field 0.
-pub fn field_on_card(deck: &[u8], key: usize, place: usize, f: Field) {
+pub fn field_on_card(to: &impl Print, deck: &[u8], key: usize, place: usize, f: Field) {
     if place == 0 {
         return;
     }
-    say(b"field ");
-    number(place);
-    say(b", ");
-    item(f, key);
-    say(b" on card ");
-    number(cards::field_card(deck, place - 1));
+    say(to, b"field ");
+    number(to, place);
+    say(to, b", ");
+    item(to, f, key);
+    say(to, b" on card ");
+    number(to, cards::field_card(deck, place - 1));
 }

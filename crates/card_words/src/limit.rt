@@ -1,6 +1,7 @@
 // What refusal 7 found: the number as it stands, and its limits. The operands are right by their grammar, so that a single byte tells what it is part of.
 use line_words::{BLANK, COMMA};
 use readers::{ParameterRead, UParameter};
+use std::io::Print;
 use terms::Input;
 use words::{number, say};
 
@@ -33,23 +34,23 @@ fn is_open(part: &[u8]) -> bool {
 
 // Says the limits of a number behind a parenthesis of the U card, which begins a part of it: a comma follows the first of two. Only FV has a V, and only FS an S, before
 // or behind.
-fn size_limits(card: &[u8], part: &[u8]) {
+fn size_limits(to: &impl Print, card: &[u8], part: &[u8]) {
     if behind_digits(part) == COMMA {
-        say(b"1 to 4,096");
+        say(to, b"1 to 4,096");
     } else if line_words::column_of(card, b'V') > 0 || line_words::column_of(card, b'S') > 0 {
-        say(b"9 to 32,760");
+        say(to, b"9 to 32,760");
     } else {
-        say(b"1 to 32,760");
+        say(to, b"1 to 32,760");
     }
 }
 
 // Says the limits of a number of the U card: of R, of the key or of the data, of the second of two in A or B, or of another in A or B.
-fn u_limits(card: &[u8], before: u8, part: &[u8]) {
+fn u_limits(to: &impl Print, card: &[u8], before: u8, part: &[u8]) {
     match before {
-        b'R' => say(b"1 to 65,536"),
-        b'=' => say(b"1 to 4,096"),
-        COMMA => say(b"1 to 32,760"),
-        _ => size_limits(card, part),
+        b'R' => say(to, b"1 to 65,536"),
+        b'=' => say(to, b"1 to 4,096"),
+        COMMA => say(to, b"1 to 32,760"),
+        _ => size_limits(to, card, part),
     }
 }
 
@@ -63,11 +64,11 @@ fn is_of_key(before: &[u8]) -> bool {
 }
 
 // Says the limits of a number of an FS card, before which stands this: in parentheses are sizes to pack or unpack, or a place in the key.
-fn fs_limits(before: &[u8]) {
+fn fs_limits(to: &impl Print, before: &[u8]) {
     if is_open(before) && !is_of_key(before) {
-        say(b"1 to 16");
+        say(to, b"1 to 16");
     } else {
-        say(b"1 to 4,096");
+        say(to, b"1 to 4,096");
     }
 }
 
@@ -84,7 +85,7 @@ fn digits(part: &[u8]) -> &[u8] {
 }
 
 // How many bytes A gives to key and data; 0 and 0 where it gives no key.
-#[derive(Drop)]
+#[derive(Clone, Copy)]
 struct Lengths {
     key: usize,
     data: usize,
@@ -127,7 +128,7 @@ fn lengths_on(card: &[u8]) -> Lengths {
 }
 
 // Says what key and data are together, where each is within its own limits, and whether that was said.
-fn together(lengths: Lengths) -> bool {
+fn together(to: &impl Print, lengths: Lengths) -> bool {
     let key = lengths.key;
     let data = lengths.data;
     if key == 0 || data == 0 {
@@ -139,30 +140,30 @@ fn together(lengths: Lengths) -> bool {
     if data > 4096 {
         return false;
     }
-    say(b"key and data have ");
-    number(key);
-    say(b" and ");
-    number(data);
-    say(b" bytes, which are ");
-    number(key + data);
-    say(b" together; at most 4,096 are allowed");
+    say(to, b"key and data have ");
+    number(to, key);
+    say(to, b" and ");
+    number(to, data);
+    say(to, b" bytes, which are ");
+    number(to, key + data);
+    say(to, b" together; at most 4,096 are allowed");
     true
 }
 
 // Says the limits of a number, which begins a part of its card, before which stands this.
-fn limits(card: &[u8], place: usize, before: &[u8], part: &[u8]) {
-    say(b"this number, ");
-    say(digits(part));
-    say(b", is outside its limits, which are ");
+fn limits(to: &impl Print, card: &[u8], place: usize, before: &[u8], part: &[u8]) {
+    say(to, b"this number, ");
+    say(to, digits(part));
+    say(to, b", is outside its limits, which are ");
     if place > 1 {
-        fs_limits(before);
+        fs_limits(to, before);
     } else {
-        u_limits(card, line_words::byte(before, before.len()), part);
+        u_limits(to, card, line_words::byte(before, before.len()), part);
     }
 }
 
 // Says what refusal 7 found of the number whose first digit stands in the column.
-pub fn outside_limits(deck: &[u8], place: usize, column: usize) {
+pub fn outside_limits(to: &impl Print, deck: &[u8], place: usize, column: usize) {
     let card = line_words::uncommented(line_words::card_at(deck, place));
     if column == 0 {
         return;
@@ -172,9 +173,9 @@ pub fn outside_limits(deck: &[u8], place: usize, column: usize) {
     }
     let before = column - 1;
     if line_words::byte(card, before) == b'=' {
-        if together(lengths_on(card)) {
+        if together(to, lengths_on(card)) {
             return;
         }
     }
-    limits(card, place, &card[..before], &card[before..]);
+    limits(to, card, place, &card[..before], &card[before..]);
 }

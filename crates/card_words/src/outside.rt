@@ -2,6 +2,7 @@
 // 5). The field is taken from its card: one that runs past the key stands in no row as it was written.
 use crate::field;
 use readers::ItemRead;
+use std::io::Print;
 use terms::{Asked, Field, Part};
 use words::{number, say};
 
@@ -75,47 +76,47 @@ fn last(from: usize, size: usize) -> usize {
     from + size - 1
 }
 
-fn bytes(from: usize, last: usize) {
+fn bytes(to: &impl Print, from: usize, last: usize) {
     if from == last {
-        say(b" byte ");
-        number(from);
+        say(to, b" byte ");
+        number(to, from);
         return;
     }
-    say(b" bytes ");
-    number(from);
-    say(b" to ");
-    number(last);
+    say(to, b" bytes ");
+    number(to, from);
+    say(to, b" to ");
+    number(to, last);
 }
 
-fn length(size: usize) {
-    number(size);
+fn length(to: &impl Print, size: usize) {
+    number(to, size);
     if size == 1 {
-        say(b" byte");
+        say(to, b" byte");
     } else {
-        say(b" bytes");
+        say(to, b" bytes");
     }
 }
 
 // Says how long a record is, or in FV the part of it that each record has.
-fn record(asked: Asked, name: &[u8], size: usize) {
-    say(b", and the ");
+fn record(to: &impl Print, asked: Asked, name: &[u8], size: usize) {
+    say(to, b", and the ");
     let format = asked.format;
     if terms::is_fv(format) {
-        say(b"fixed part of the ");
+        say(to, b"fixed part of the ");
     }
-    say(name);
-    say(b" record has ");
-    length(size);
+    say(to, name);
+    say(to, b" record has ");
+    length(to, size);
 }
 
-fn key_part(size: usize) {
-    say(b" of the key, and the key has ");
-    length(size);
+fn key_part(to: &impl Print, size: usize) {
+    say(to, b" of the key, and the key has ");
+    length(to, size);
 }
 
-fn data_part(size: usize) {
-    say(b" of the data, and the data have ");
-    length(size);
+fn data_part(to: &impl Print, size: usize) {
+    say(to, b" of the data, and the data have ");
+    length(to, size);
 }
 
 // How many bytes the part has that a field reads.
@@ -134,42 +135,42 @@ fn room(asked: Asked, part: Part) -> usize {
 }
 
 // Says how long the part is.
-fn part_size(asked: Asked, part: Part, size: usize) {
+fn part_size(to: &impl Print, asked: Asked, part: Part, size: usize) {
     match part {
-        Part::Key => key_part(size),
+        Part::Key => key_part(to, size),
         Part::Data => {
             if asked.key == 0 {
-                record(asked, b"input", size);
+                record(to, asked, b"input", size);
             } else {
-                data_part(size);
+                data_part(to, size);
             }
         }
     }
 }
 
-fn reads(asked: Asked, part: Part, f: Field) {
-    say(b", reads");
-    bytes(f.r, last(f.r, f.input));
-    part_size(asked, part, room(asked, part));
+fn reads(to: &impl Print, asked: Asked, part: Part, f: Field) {
+    say(to, b", reads");
+    bytes(to, f.r, last(f.r, f.input));
+    part_size(to, asked, part, room(asked, part));
 }
 
-fn writes(asked: Asked, f: Field) {
+fn writes(to: &impl Print, asked: Asked, f: Field) {
     let output = asked.output;
-    say(b", writes");
-    bytes(f.t, last(f.t, f.output));
-    record(asked, b"output", terms::record_length(output));
+    say(to, b", writes");
+    bytes(to, f.t, last(f.t, f.output));
+    record(to, asked, b"output", terms::record_length(output));
 }
 
 // Says a field, from 1, as on its card: r counts in its part.
-fn named(deck: &[u8], place: usize, part: Part, f: Field) {
+fn named(to: &impl Print, deck: &[u8], place: usize, part: Part, f: Field) {
     match part {
-        Part::Key => field::field_on_card(deck, f.r, place, f),
-        Part::Data => field::field_on_card(deck, 0, place, f),
+        Part::Key => field::field_on_card(to, deck, f.r, place, f),
+        Part::Data => field::field_on_card(to, deck, 0, place, f),
     }
 }
 
 // Says what refusal 9 found of a field, from 1, of a deck that could be read.
-pub fn outside_records(deck: &[u8], asked: Asked, place: usize) {
+pub fn outside_records(to: &impl Print, deck: &[u8], asked: Asked, place: usize) {
     let read = item_of(deck, place);
     let ItemRead::IsField {
         part,
@@ -178,13 +179,13 @@ pub fn outside_records(deck: &[u8], asked: Asked, place: usize) {
         used: _,
     } = read
     else {
-        say(b"this field reaches outside its records");
+        say(to, b"this field reaches outside its records");
         return;
     };
-    named(deck, place, part, field);
+    named(to, deck, place, part, field);
     if room(asked, part) < last(field.r, field.input) {
-        reads(asked, part, field);
+        reads(to, asked, part, field);
     } else {
-        writes(asked, field);
+        writes(to, asked, field);
     }
 }

@@ -6,7 +6,7 @@ use crate::mode;
 
 // How long the name of the folder or file is, which stands in a room, and 0 where nothing is written; the mode, or NO_MODE; and whether one of them is wrong, which is
 // said then.
-#[derive(Drop)]
+#[derive(Clone, Copy)]
 pub(crate) struct Destination {
     pub(crate) length: usize,
     pub(crate) mode: u32,
@@ -14,46 +14,49 @@ pub(crate) struct Destination {
 }
 
 // The mode that an argument gives, or NO_MODE for `-`.
-fn argument_mode(argument: usize) -> u32 {
+fn argument_mode(rt: &HostRuntime, argument: usize) -> u32 {
     let mut digits = io::buffer();
-    let n = os::arg(argument, &mut digits);
+    let n = inputs::argument(rt, argument, &mut digits);
     if check::same(&digits[..n], b"-") {
         return files::NO_MODE;
     }
     let mode = mode::read(&digits[..n]);
     if mode == mode::WRONG || n == 0 {
-        notices::say(b"the mode has to be digits in octal, at most 7777, or -\n");
+        notices::say(
+            &rt.stderr(),
+            b"the mode has to be digits in octal, at most 7777, or -\n",
+        );
         return mode::WRONG;
     }
     mode
 }
 
-fn mode(form: Form) -> u32 {
+fn mode(rt: &HostRuntime, form: Form) -> u32 {
     if form.mode == 0 {
         return files::NO_MODE;
     }
-    argument_mode(form.mode)
+    argument_mode(rt, form.mode)
 }
 
 // Puts the name of the folder or file into the room, an empty one where nothing is written, and answers its length.
-fn put_given(form: Form, room: &mut [u8]) -> usize
+fn put_given(rt: &HostRuntime, form: Form, room: &mut [u8]) -> usize
     ensures { IsPrefixLen result room.new }
 {
     if form.out == 0 {
         return files::put(room, 0, b"");
     }
-    files::name(form.out, room)
+    files::name(rt, form.out, room)
 }
 
 fn is_wrong(form: Form, mode: u32, length: usize) -> bool {
     mode == mode::WRONG || form.out > 0 && length == 0
 }
 
-pub(crate) fn read(form: Form, room: &mut [u8]) -> Destination
+pub(crate) fn read(rt: &HostRuntime, form: Form, room: &mut [u8]) -> Destination
     ensures { IsPrefixLen result.length room.new }
 {
-    let mode = mode(form);
-    let length = put_given(form, room);
+    let mode = mode(rt, form);
+    let length = put_given(rt, form, room);
     Destination {
         length,
         mode,

@@ -1,6 +1,7 @@
 // An entry of a list: the name of a reel, and where the form has modes, before it the mode of its output, in octal, or nothing, and a blank.
 use crate::form::Form;
 use crate::mode;
+use std::io::Print;
 
 // The bytes of the longest name.
 const LONGEST: usize = 4095;
@@ -42,30 +43,35 @@ pub(crate) fn mode(form: Form, entry: &[u8], given: u32) -> u32 {
 }
 
 // Says what is wrong with an entry that names no reel.
-fn nameless(form: Form, entry: &[u8]) {
+fn nameless(to: &impl Print, form: Form, entry: &[u8]) {
     if form.modes && entry.len() > 0 && before_blank(entry) == entry.len() {
-        files::say_name(files::front(entry, 60));
+        files::say_name(to, files::front(entry, 60));
         notices::say(
+            to,
             b": before a name its mode, in octal, or nothing, and a blank have to stand\n",
         );
     }
 }
 
 // Whether there is a name and no mode that is wrong. Otherwise what is wrong is said.
-pub(crate) fn is_usable(form: Form, entry: &[u8]) -> bool {
+pub(crate) fn is_usable(to: &impl Print, form: Form, entry: &[u8]) -> bool {
     let name = name(form, entry);
     if name.len() == 0 {
-        nameless(form, entry);
+        nameless(to, form, entry);
         return false;
     }
     if LONGEST < name.len() {
-        files::say_name(files::front(name, 60));
-        notices::say(b"..: this name has more than 4,095 bytes, and no file has such a one\n");
+        files::say_name(to, files::front(name, 60));
+        notices::say(
+            to,
+            b"..: this name has more than 4,095 bytes, and no file has such a one\n",
+        );
         return false;
     }
     if mode(form, entry, files::NO_MODE) == mode::WRONG {
-        files::say_name(name);
+        files::say_name(to, name);
         notices::say(
+            to,
             b": the mode before this name has to be digits in octal, at most 7777, or nothing\n",
         );
         return false;

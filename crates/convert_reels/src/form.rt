@@ -3,7 +3,7 @@
 // The arguments that name the deck, the output's mode, the file or folder of the output, and the first reel; 0 where there is none: no deck where the arguments cannot
 // be understood, no reel where a list names them. Whether the output is a folder; whether modes stand before the names of a list; and what ends each of these and
 // each printed line.
-#[derive(Drop)]
+#[derive(Clone, Copy)]
 pub(crate) struct Form {
     pub(crate) deck: usize,
     pub(crate) mode: usize,
@@ -76,10 +76,10 @@ fn size(form: Form) -> usize {
     4
 }
 
-pub(crate) fn read() -> Form {
-    let count = os::arg_count();
+pub(crate) fn read(rt: &HostRuntime) -> Form {
+    let count = inputs::argument_count(rt);
     let mut first = io::buffer();
-    let n = os::arg(1, &mut first);
+    let n = inputs::argument(rt, 1, &mut first);
     let form = worded(&first[..n]);
     if form.deck == 0 {
         return wordless(count);

@@ -2,8 +2,8 @@
 ghost use Rattle.std.specs.Prelude.{◌≡◌, ◌≤◌, length};
 ghost use Rattle.io.specs.Counts.{IsPrefixLen};
 
-use libc::STDOUT_FILENO;
 use outcomes::Ran;
+use std::io::Print;
 
 // Five numbers of at most 20 digits, five blanks, a name of at most 4,095 bytes and what ends a line.
 fn line_room() -> [u8; 4201]
@@ -51,12 +51,12 @@ fn put_name(room: &mut [u8], from: usize, name: &[u8]) -> usize
     files::put(room, spaced, name)
 }
 
-pub(crate) fn print(ran: Ran, name: &[u8], end: u8) {
+pub(crate) fn print(rt: &HostRuntime, ran: Ran, name: &[u8], end: u8) {
     let mut room = line_room();
     let numbered = put_numbers(&mut room, ran);
     let named = put_name(&mut room, numbered, name);
     let n = files::put(&mut room, named, &[end]);
-    if !io::write_all(STDOUT_FILENO, &room[..n]) {
-        os::fail(b"standard output");
+    if let Err(why) = rt.write_all(&room[..n]) {
+        notices::fail(&rt.stderr(), b"standard output", why);
     }
 }

@@ -1,10 +1,10 @@
 // The next entry of the list on standard input: names, each with what ends it behind it, but for the last, where it may be missing.
 ghost use Rattle.io.specs.Counts.{IsPrefixLen};
 
-use libc::STDIN_FILENO;
+use std::io::Read;
 
 // How many bytes the last read brought, how many of these are taken, and how many the entry has. After the end of the list a read brings none.
-#[derive(Drop)]
+#[derive(Clone, Copy)]
 pub(crate) struct Place {
     pub(crate) got: usize,
     pub(crate) taken: usize,
@@ -12,23 +12,25 @@ pub(crate) struct Place {
 }
 
 // What one read brings into the room; 0 at the end, or where it fails.
-fn read_some(room: &mut [u8]) -> usize
+fn read_some(rt: &HostRuntime, room: &mut [u8]) -> usize
     ensures { IsPrefixLen result room.new }
 {
-    let got = libc::read(STDIN_FILENO, room);
-    if got < 0 {
-        os::fail(b"standard input");
+    match rt.stdin().read(room) {
+        Ok(n) => n,
+        Err(why) => {
+            notices::fail(&rt.stderr(), b"standard input", why);
+            0
+        }
     }
-    io::count(got, room)
 }
 
 // Reads on where all is taken.
-fn filled(place: Place, bytes: &mut [u8]) -> Place {
+fn filled(rt: &HostRuntime, place: Place, bytes: &mut [u8]) -> Place {
     if place.taken < place.got {
         return place;
     }
     Place {
-        got: read_some(bytes),
+        got: read_some(rt, bytes),
         taken: 0,
         held: place.held,
     }
@@ -55,16 +57,21 @@ fn hold(byte: u8, held: usize, entry: &mut [u8]) -> usize {
     held
 }
 
-// A proved loop has to end, and nothing says that the list does: it counts its turns down, from a number that no run uses up.
-pub(crate) fn next(from: Place, end: u8, bytes: &mut [u8], entry: &mut [u8]) -> Place {
+// A proved loop has to end, and nothing says that the list does: it takes at most so many turns, more than any run uses up.
+pub(crate) fn next(
+    rt: &HostRuntime,
+    from: Place,
+    end: u8,
+    bytes: &mut [u8],
+    entry: &mut [u8],
+) -> Place {
     let mut place = Place {
         got: from.got,
         taken: from.taken,
         held: 0,
     };
-    let mut turns = u64::MAX;
-    while turns > 0 {
-        place = filled(place, bytes);
+    for _ in 0..u64::MAX {
+        place = filled(rt, place, bytes);
         let at = place.taken;
         if place.got == 0 || bytes.len() <= at {
             break;
@@ -74,7 +81,6 @@ pub(crate) fn next(from: Place, end: u8, bytes: &mut [u8], entry: &mut [u8]) -> 
             return passed(place, place.held);
         }
         place = passed(place, hold(byte, place.held, entry));
-        turns -= 1;
     }
     place
 }

@@ -8,6 +8,8 @@
 //     convert_reels DECK OUTDIR                the same, the names from standard input, one to a line
 //     convert_reels --null DECK OUTDIR         the same, a NUL behind each name and each printed line
 //     convert_reels --modes DECK OUTDIR        the same, and before each name the mode of its output, in octal, or nothing, and a blank
+#![tactic(auto)]
+
 mod destination;
 mod entry;
 mod form;
@@ -15,21 +17,22 @@ mod line;
 mod list;
 mod mode;
 mod one;
-mod reels;
+mod series;
 
 use form::Form;
 
-fn refused(form: Form, deck: &[u8], refusal: usize, place: usize, column: usize) {
-    line::print(outcomes::refused(refusal, place, column), b"", form.end);
-    notices::refused(deck, refusal, place, column);
+fn refused(rt: &HostRuntime, form: Form, deck: &[u8], refusal: usize, place: usize, column: usize) {
+    line::print(rt, outcomes::refused(refusal, place, column), b"", form.end);
+    notices::refused(&rt.stderr(), deck, refusal, place, column);
 }
 
 // What is said of the deck comes before any reel.
-fn convert(form: Form, deck: &[u8]) {
+fn convert(rt: &HostRuntime, form: Form, deck: &[u8]) {
     let mut row = [0u16; 320];
     let plan = plans::plan_deck(deck, &mut row);
     if plan.answer.refusal != 0 {
         refused(
+            rt,
             form,
             deck,
             plan.answer.refusal,
@@ -38,41 +41,47 @@ fn convert(form: Form, deck: &[u8]) {
         );
         return;
     }
-    notices::loss(plan);
+    notices::loss(&rt.stderr(), plan);
     let asked = plan.asked;
-    notices::left_out(asked.first);
+    notices::left_out(&rt.stderr(), asked.first);
     let end = 5 * asked.count;
-    reels::convert(form, deck, asked, &row[..end]);
+    series::convert(rt, form, deck, asked, &row[..end]);
 }
 
-fn convert_named(form: Form) {
+fn convert_named(rt: &HostRuntime, form: Form) {
     let mut path = io::buffer();
-    let n = files::name(form.deck, &mut path);
+    let n = files::name(rt, form.deck, &mut path);
     if n == 0 {
         return;
     }
     let mut cards = io::large_buffer();
-    let read = files::deck(&path[..n], &mut cards);
+    let read = files::deck(rt, &path[..n], &mut cards);
     if read.failed {
         return;
     }
     // A deck that is longer than the room is refused without a column, so its cards are not asked for.
     if read.refusal != 0 {
-        refused(form, b"", read.refusal, read.place, 0);
+        refused(rt, form, b"", read.refusal, read.place, 0);
         return;
     }
     let k = read.length;
-    convert(form, &cards[..k]);
+    convert(rt, form, &cards[..k]);
 }
 
-fn main() {
-    let form = form::read();
+fn main(rt: HostRuntime) {
+    let form = form::read(&rt);
     if form.deck > 0 {
-        convert_named(form);
+        convert_named(&rt, form);
         return;
     }
-    notices::say(b"usage: convert_reels --check DECK REEL\n");
-    notices::say(b"       convert_reels --file MODE DECK OUT REEL\n");
-    notices::say(b"       convert_reels DECK OUTDIR REEL..\n");
-    notices::say(b"       convert_reels [--null | --modes] DECK OUTDIR <LIST\n");
+    notices::say(&rt.stderr(), b"usage: convert_reels --check DECK REEL\n");
+    notices::say(
+        &rt.stderr(),
+        b"       convert_reels --file MODE DECK OUT REEL\n",
+    );
+    notices::say(&rt.stderr(), b"       convert_reels DECK OUTDIR REEL..\n");
+    notices::say(
+        &rt.stderr(),
+        b"       convert_reels [--null | --modes] DECK OUTDIR <LIST\n",
+    );
 }

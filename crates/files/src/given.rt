@@ -2,49 +2,64 @@
 ghost use Rattle.std.specs.Prelude.{◌≡◌, length, replicate};
 ghost use Rattle.io.specs.Counts.{IsPrefixLen};
 
-use crate::shown;
-use inputs::{BytesRead, DeckBytes};
+use crate::{paths, shown};
+use inputs::{BytesRead, DeckBytes, Source};
+use std::fs::File;
 
 // Puts the name that an argument gives into the room and answers its length, or 0 where it is no name.
-pub fn name(argument: usize, room: &mut [u8]) -> usize
+pub fn name(rt: &HostRuntime, argument: usize, room: &mut [u8]) -> usize
     ensures { IsPrefixLen result room.new }
 {
-    let n = os::arg(argument, room);
-    if os::errno() != 0 {
-        os::fail(b"an argument");
-    } else if n == 0 {
-        notices::say(b"an argument is empty; it has to name a file\n");
+    match inputs::read_argument(rt, argument, room) {
+        Ok(0) => {
+            notices::say(
+                &rt.stderr(),
+                b"an argument is empty; it has to name a file\n",
+            );
+            0
+        }
+        Ok(n) => n,
+        Err(why) => {
+            notices::fail(&rt.stderr(), b"an argument", why);
+            0
+        }
     }
-    n
 }
 
-// A descriptor of the file, or -1.
-fn open(path: &[u8]) -> i32 {
-    let fd = os::open_read(path);
-    if fd < 0 {
-        shown::fail(path);
+// The file, open to read; where it cannot be opened, that is said.
+fn open(rt: &HostRuntime, path: &[u8]) -> Option<Source<File>> {
+    match paths::open_read(rt, path) {
+        Ok(file) => Some(Source::new(file)),
+        Err(why) => {
+            shown::fail(&rt.stderr(), path, why);
+            None
+        }
     }
-    fd
+}
+
+// Says why the last read of the file failed, if one did.
+fn say_failure(rt: &HostRuntime, path: &[u8], from: &Source<File>) {
+    if let Some(why) = from.failure {
+        shown::fail(&rt.stderr(), path, why);
+    }
 }
 
 // The deck in a file.
-pub fn deck(path: &[u8], room: &mut [u8; 65536]) -> DeckBytes
+pub fn deck(rt: &HostRuntime, path: &[u8], room: &mut [u8; 65536]) -> DeckBytes
     ensures { IsPrefixLen result.length room.new }
 {
-    let fd = open(path);
-    if fd < 0 {
+    let Some(mut from) = open(rt, path) else {
         return DeckBytes {
             length: 0,
             refusal: 0,
             place: 0,
             failed: true,
         };
-    }
-    let read = inputs::deck(fd, room);
+    };
+    let read = inputs::deck(&mut from, room);
     if read.failed {
-        shown::fail(path);
+        say_failure(rt, path, &from);
     }
-    libc::close(fd);
     read
 }
 
@@ -57,20 +72,18 @@ pub fn reel_room() -> [u8; 65537]
 }
 
 // The first bytes of a file, as many as the room takes.
-pub fn reel(path: &[u8], room: &mut [u8]) -> BytesRead
+pub fn reel(rt: &HostRuntime, path: &[u8], room: &mut [u8]) -> BytesRead
     ensures { IsPrefixLen result.length room.new }
 {
-    let fd = open(path);
-    if fd < 0 {
+    let Some(mut from) = open(rt, path) else {
         return BytesRead {
             length: 0,
             failed: true,
         };
-    }
-    let read = inputs::fill(fd, room);
+    };
+    let read = inputs::fill(&mut from, room);
     if read.failed {
-        shown::fail(path);
+        say_failure(rt, path, &from);
     }
-    libc::close(fd);
     read
 }

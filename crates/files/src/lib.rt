@@ -1,8 +1,11 @@
 // Files as programs use them: what their arguments name, the parts of a name and how one is shown, a deck or a reel that is read, and a file that is written whole
 // or not at all. What fails is said on standard error.
+#![tactic(auto)]
+
 mod given;
 mod names;
 mod output;
+mod paths;
 mod shown;
 
 pub use given::{deck, name, reel, reel_room};

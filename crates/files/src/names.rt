@@ -14,6 +14,24 @@ pub fn front(text: &[u8], size: usize) -> &[u8]
     &text[..size]
 }
 
+// How many bytes of a name may stand before its cut where at most so many may: none of a character that the cut would divide. A byte of UTF-8 that continues a
+// character is 10xxxxxx.
+fn cut_place(text: &[u8], size: usize) -> usize {
+    let mut at = size;
+    while at > 0 && at < text.len() {
+        if text[at] / 64 != 2 {
+            return at;
+        }
+        at -= 1;
+    }
+    at
+}
+
+// The first bytes of a name, at most so many, with each of its characters whole.
+pub(crate) fn cut(text: &[u8], size: usize) -> &[u8] {
+    front(text, cut_place(text, size))
+}
+
 // Where the own name begins.
 fn own_start(path: &[u8]) -> usize {
     let mut start = 0;

@@ -1,8 +1,10 @@
-// How a name is shown to people: no byte of it reaches a terminal as a command. What is put in its place is what the shell's `printf %b` understands.
+// How a name is shown to people: no byte of it reaches a terminal as a command. A name without a control character is shown as it is; of any other, what is put in the
+// place of a control character or a backslash is what the shell's `printf %b` understands.
 ghost use Rattle.std.specs.Prelude.{◌≤◌, ◌<◌, ◌≡◌, length};
 ghost use Rattle.io.specs.Counts.{IsPrefixLen};
 
 use crate::output::put;
+use std::io::{Error, Print};
 
 // Four bytes for each of a name, which has at most 4,096.
 fn shown_room() -> [u8; 16384]
@@ -54,6 +56,17 @@ fn is_of_pair(name: &[u8], i: usize) -> bool
     is_pair(name, i, i + 1) || i > 0 && is_pair(name, i - 1, i)
 }
 
+// Whether a name has a control character.
+fn is_odd(name: &[u8]) -> bool {
+    for i in 0..name.len() {
+        let byte = name[i];
+        if byte < 0x20 || byte == 0x7F || is_of_pair(name, i) {
+            return true;
+        }
+    }
+    false
+}
+
 // Puts the byte at a place of the name as it is shown.
 fn put_shown(room: &mut [u8], from: usize, name: &[u8], i: usize) -> usize
     requires from_in_bounds { from ≤ length room.old }
@@ -77,6 +90,9 @@ fn put_shown(room: &mut [u8], from: usize, name: &[u8], i: usize) -> usize
 fn put_name(room: &mut [u8], name: &[u8]) -> usize
     ensures { IsPrefixLen result room.new }
 {
+    if !is_odd(name) {
+        return put(room, 0, name);
+    }
     let mut end = 0;
     let mut i = 0;
     while i < name.len() {
@@ -86,16 +102,16 @@ fn put_name(room: &mut [u8], name: &[u8]) -> usize
     end
 }
 
-// Says a name on standard error.
-pub fn say_name(name: &[u8]) {
+// Says a name.
+pub fn say_name(to: &impl Print, name: &[u8]) {
     let mut room = shown_room();
     let n = put_name(&mut room, name);
-    notices::say(&room[..n]);
+    notices::say(to, &room[..n]);
 }
 
-// Says what failed with the file of this name, as `os::fail` does. Showing the name leaves `errno` as it is.
-pub fn fail(path: &[u8]) {
+// Says what failed with the file of this name, and why.
+pub fn fail(to: &impl Print, path: &[u8], why: Error) {
     let mut room = shown_room();
     let n = put_name(&mut room, path);
-    os::fail(&room[..n]);
+    notices::fail(to, &room[..n], why);
 }

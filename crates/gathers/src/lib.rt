@@ -1,4 +1,6 @@
 // The records of a reel that was read, in any format: how many there are, and the bytes of one of them, in FS its segments joined.
+#![tactic(auto)]
+
 ghost use Rattle.std.specs.Prelude.{◌≡◌, length};
 ghost use Rattle.io.specs.Counts.{IsPrefixLen};
 ghost use Rattle.pieces.proofs.PiecesLaws.{further};
@@ -15,7 +17,7 @@ pub fn record_room() -> [u8; 32752]
 }
 
 // How many records there are so far, and how many bytes of the one that is wanted are in the room.
-#[derive(Drop)]
+#[derive(Clone, Copy)]
 pub struct Gathered {
     pub records: usize,
     pub length: usize,

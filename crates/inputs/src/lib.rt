@@ -1,14 +1,36 @@
-// What programs read: a deck of any length, and a reel, from a descriptor. A read that failed is told apart from the end of a file.
+// What programs read: their arguments, and a deck of any length, and a reel, from a file or standard input. A read that failed is told apart from the end of a file.
+#![tactic(auto)]
+
+mod arguments;
+
 ghost use Rattle.io.specs.Counts.{IsPrefixLen};
 ghost use Rattle.std.specs.Prelude.{◌≡◌, length};
 ghost use Rattle.lines.specs.Ordering.{answer_of};
 ghost use Rattle.inputs.specs.Reading.{read_as, ReadSays, FillSays, fed_of, FedSays, whole_deck, long_deck, LongDeckSays, DeckBytesSays};
 
+pub use arguments::{argument, argument_count, read_argument};
 use lines::OrderRead;
 use scans::Scanner;
+use std::io::{Error, Read};
 
-// How many bytes were read. Where a read failed, errno says why.
+// What is read from, and why its last read failed, if one did.
 #[derive(Drop)]
+pub struct Source<R> {
+    reader: R,
+    pub failure: Option<Error>,
+}
+
+impl<R: Read> Source<R> {
+    pub fn new(reader: R) -> Source<R> {
+        Source {
+            reader,
+            failure: None,
+        }
+    }
+}
+
+// How many bytes were read. Where a read failed, its source says why.
+#[derive(Clone, Copy)]
 pub struct BytesRead {
     pub length: usize,
     pub failed: bool,
@@ -26,22 +48,28 @@ fn read_as(got: isize, room: &[u8]) -> BytesRead
 }
 
 // One read.
-fn some(fd: i32, room: &mut [u8]) -> BytesRead
+fn some<R: Read>(from: &mut Source<R>, room: &mut [u8]) -> BytesRead
     ensures prefix_len { IsPrefixLen result.length room.new }
     ensures read_says { ReadSays (length room.old) result }
 {
-    let got = libc::read(fd, room);
+    let got = match from.reader.read(room) {
+        Ok(n) => n as isize,
+        Err(why) => {
+            from.failure = Some(why);
+            -1
+        }
+    };
     read_as(got, room)
 }
 
 // Reads until the room is full, the file ends or a read fails.
-pub fn fill(fd: i32, room: &mut [u8]) -> BytesRead
+pub fn fill<R: Read>(from: &mut Source<R>, room: &mut [u8]) -> BytesRead
     ensures prefix_len { IsPrefixLen result.length room.new }
     ensures fill_says { FillSays (length room.old) result }
 {
     let mut at = 0;
     while at < room.len() {
-        let read = some(fd, &mut room[at..]);
+        let read = some(from, &mut room[at..]);
         if read.length == 0 {
             return BytesRead {
                 length: at,
@@ -57,7 +85,7 @@ pub fn fill(fd: i32, room: &mut [u8]) -> BytesRead
 }
 
 // A scan of a deck that was fed, whether there may be more to read, and whether a read failed.
-#[derive(Drop)]
+#[derive(Clone, Copy)]
 struct Fed {
     state: Scanner,
     more: bool,
@@ -75,18 +103,18 @@ fn fed_with(state: Scanner, read: BytesRead) -> Fed
     }
 }
 
-fn feed(fd: i32, state: Scanner) -> Fed
+fn feed<R: Read>(from: &mut Source<R>, state: Scanner) -> Fed
     ensures { FedSays state result }
 {
     let mut room = io::large_buffer();
-    let read = fill(fd, &mut room);
+    let read = fill(from, &mut room);
     let n = read.length;
     fed_with(scans::scan(state, &room[..n]), read)
 }
 
-// Reads on until the scan is settled or the input ends. A proved loop has to end, and nothing says that the input does: it counts its turns down, from a number that
-// no run uses up.
-fn feed_all(fd: i32, state: Scanner) -> Fed
+// Reads on until the scan is settled or the input ends. A proved loop has to end, and nothing says that the input does: it takes at most so many turns, more than any
+// run uses up.
+fn feed_all<R: Read>(from: &mut Source<R>, state: Scanner) -> Fed
     ensures { FedSays state result }
 {
     let mut fed = Fed {
@@ -94,23 +122,21 @@ fn feed_all(fd: i32, state: Scanner) -> Fed
         more: true,
         failed: false,
     };
-    let mut turns = u64::MAX;
-    while turns > 0 {
+    for _ in 0..u64::MAX {
         let now = fed.state;
         if scans::is_settled(now) {
             return fed;
         }
-        fed = feed(fd, now);
+        fed = feed(from, now);
         if !fed.more {
             return fed;
         }
-        turns -= 1;
     }
     fed
 }
 
-// A deck of `length` bytes stands at the start of the room; or it is longer, and its refusal is known; or a read failed, and errno says why.
-#[derive(Drop)]
+// A deck of `length` bytes stands at the start of the room; or it is longer, and its refusal is known; or a read failed, and its source says why.
+#[derive(Clone, Copy)]
 pub struct DeckBytes {
     pub length: usize,
     pub refusal: usize,
@@ -152,23 +178,23 @@ fn long_deck(read: OrderRead, failed: bool) -> DeckBytes
 }
 
 // The deck whose first 65,536 bytes are in the room. The scanner finds its refusal whatever its length.
-fn longer(fd: i32, room: &[u8; 65536]) -> DeckBytes
+fn longer<R: Read>(from: &mut Source<R>, room: &[u8; 65536]) -> DeckBytes
     ensures prefix_len { IsPrefixLen result.length room.now }
     ensures long_deck_says { LongDeckSays room.now result }
 {
-    let fed = feed_all(fd, scans::scan(scans::begin(), room));
+    let fed = feed_all(from, scans::scan(scans::begin(), room));
     let state = fed.state;
     long_deck(scans::scanned(state), fed.failed)
 }
 
 // A deck of any length.
-pub fn deck(fd: i32, room: &mut [u8; 65536]) -> DeckBytes
+pub fn deck<R: Read>(from: &mut Source<R>, room: &mut [u8; 65536]) -> DeckBytes
     ensures prefix_len { IsPrefixLen result.length room.new }
     ensures deck_bytes_says { DeckBytesSays room.new result }
 {
-    let read = fill(fd, room);
+    let read = fill(from, room);
     if read.length == 65536 {
-        return longer(fd, room);
+        return longer(from, room);
     }
     whole(read)
 }

@@ -1,15 +1,10 @@
--- What a record is asked to be so that the fields of an accepted plan can be written: A's n bytes or more, over B's n or more; and B's n is at most 4,096. And the last field
--- that writes a position is one of the row's, by going along the fields.
-use mathlib.Core.Bool.{Bool, true, false, cond}
-use mathlib.Core.List.{List, [], ◌∷◌}
-use Prim.Native.Nat.{ℕ, suc, ◌+◌, ◌*◌, ◌≤◌, ◌<◌}
+-- What a record is asked to be so that the fields of an accepted plan can be written: A's n bytes or more, over B's n or more; and B's n is at most 4,096.
+use mathlib.Core.List.{List}
+use Prim.Native.Nat.{ℕ, ◌≤◌}
 use native.Mathlib.Omega.{arith}
-use lib.ListN.{length}
 use Rattle.rules.specs.Halves.{Field}
 use Rattle.rules.proofs.Base.AllLaws.{all_imply}
 use Rattle.rules.specs.Lent.{zone_f}
-use Rattle.rules.specs.Judge.{writes_at}
-use Rattle.rules.specs.Losses.{last_from, last_writer}
 use Rattle.rules.proofs.Blocks.BlockSizes.{record_most}
 use Rattle.rules.proofs.Halves.RecordLaws.{fits_wider}
 use Rattle.terms.specs.Meaning.{plan_in, TaskIs}
@@ -19,7 +14,6 @@ use Rattle.rows.specs.Kept.{fields_in}
 use Rattle.rows.specs.Flat.{Fielded}
 use Rattle.rows.specs.Fair.{PlanFair}
 use Rattle.rows.proofs.ReadLaws.{fair_of}
-use Rattle.rows.proofs.RowLaws.{many_in}
 
 module _ (asked : Asked) (row : List ℕ) (fair : PlanFair asked row) (task : Task) (is : (fs : List Field) → TaskIs task (plan_in zone_f asked fs)) where
   pub fielded : (k m : ℕ) → task.n ≤ k → task.width ≤ m → Fielded row k m
@@ -31,17 +25,3 @@ module _ (asked : Asked) (row : List ℕ) (fair : PlanFair asked row) (task : Ta
 
   pub width_most : task.width ≤ 4096
   width_most = let p = plan_in zone_f asked (fields_in row) in omega (arith, (is (fields_in row)).width, record_most p.format p.output fair.accepted.output)
-
--- ---- the last field that writes
-
-either_less : (b : Bool) (x k : ℕ) → x < k → cond b k x < suc k
-either_less true x k h = omega arith
-either_less false x k h = omega arith
-
-last_less : (q : Field → Bool) (x k : ℕ) (fs : List Field) → x < k → last_from q x k fs < k + length fs
-last_less q x k [] h = omega arith
-last_less q x k (f ∷ fs) h = omega (arith, last_less q (cond (q f) k x) (suc k) fs (either_less (q f) x k h))
-
-pub writer_in : (row : List ℕ) (i : ℕ) → 5 * last_writer i (fields_in row) ≤ length row
-unfolding last_writer
-writer_in row i = omega (arith, last_less (writes_at i) 0 1 (fields_in row) (omega arith), many_in row)

@@ -1,11 +1,11 @@
 // In which byte a record of theirs differs from what ours gives, and which field writes it, in words.
-ghost use Rattle.std.specs.Prelude.{◌≤◌, length};
+ghost use Rattle.std.specs.Prelude.{◌*◌, ◌≤◌, length};
 ghost use Rattle.rows.specs.Flat.{Fielded};
 ghost use Rattle.rows.specs.Fair.{PlanFair};
-ghost use Rattle.sources.specs.Promise.{RowInside};
 
 use notices::{number, say};
-use terms::{Asked, Task};
+use std::io::Print;
+use terms::{Asked, Field, Task};
 
 // The first place, from 0, at which two records differ, or where one of them ends.
 fn first_difference(ours: &[u8], theirs: &[u8]) -> usize {
@@ -22,26 +22,48 @@ fn first_difference(ours: &[u8], theirs: &[u8]) -> usize {
     i
 }
 
-// Says what writes a position, from 1: a field, or with CV the tail. In TR there is neither.
-fn say_writer(deck: &[u8], asked: Asked, fields: &[u16], position: usize)
-    requires { RowInside fields.now 4096 4096 }
+// Whether a field writes a position, both counted from 1.
+fn writes(f: Field, position: usize) -> bool {
+    f.t <= position && position - f.t < f.output
+}
+
+// The number of the last field that writes a position, or 0.
+fn last_writer(fields: &[u16], position: usize) -> usize
+    ensures { 5 * result ≤ length fields.now }
 {
-    let last = losses::last_writer(fields, position);
+    let mut number = fields.len() / 5;
+    while number > 0 {
+        if writes(rows::field_at(fields, number - 1), position) {
+            break;
+        }
+        number -= 1;
+    }
+    number
+}
+
+// Says what writes a position: a field, or with CV the tail. In TR there is neither.
+fn say_writer(to: &impl Print, deck: &[u8], asked: Asked, fields: &[u16], position: usize) {
+    let last = last_writer(fields, position);
     if last > 0 {
-        say(b"; ");
-        notices::field_on_card(deck, asked.key, last, rows::field_at(fields, last - 1));
-        say(b", writes it");
+        say(to, b"; ");
+        notices::field_on_card(to, deck, asked.key, last, rows::field_at(fields, last - 1));
+        say(to, b", writes it");
         return;
     }
     if asked.cv > 0 {
-        say(b"; it is of the tail, which CV carries");
+        say(to, b"; it is of the tail, which CV carries");
     }
 }
 
 // Says the first byte in which theirs differs from what has to be there.
-fn say_byte(deck: &[u8], asked: Asked, fields: &[u16], ours: &[u8], theirs: &[u8])
-    requires { RowInside fields.now 4096 4096 }
-{
+fn say_byte(
+    to: &impl Print,
+    deck: &[u8],
+    asked: Asked,
+    fields: &[u16],
+    ours: &[u8],
+    theirs: &[u8],
+) {
     let at = first_difference(ours, theirs);
     if ours.len() <= at {
         return;
@@ -49,13 +71,13 @@ fn say_byte(deck: &[u8], asked: Asked, fields: &[u16], ours: &[u8], theirs: &[u8
     if theirs.len() <= at {
         return;
     }
-    say(b" in byte ");
-    number(at + 1);
-    say(b": ours gives ");
-    say(&hexadecimal::hex(ours[at]));
-    say(b", theirs has ");
-    say(&hexadecimal::hex(theirs[at]));
-    say_writer(deck, asked, fields, at + 1);
+    say(to, b" in byte ");
+    number(to, at + 1);
+    say(to, b": ours gives ");
+    say(to, &hexadecimal::hex(ours[at]));
+    say(to, b", theirs has ");
+    say(to, &hexadecimal::hex(theirs[at]));
+    say_writer(to, deck, asked, fields, at + 1);
 }
 
 // Writes what our record gives over a copy of theirs: the fields, and with CV the tail. Where nothing is written, theirs may have anything.
@@ -72,6 +94,7 @@ fn write_over(task: Task, fields: &[u16], ours: &[u8], copy: &mut [u8])
 
 // Says where theirs then differs from the copy.
 fn say_over(
+    to: &impl Print,
     deck: &[u8],
     asked: Asked,
     task: Task,
@@ -80,16 +103,22 @@ fn say_over(
     theirs: &[u8],
     copy: &mut [u8],
 )
-    requires row_inside { RowInside fields.now 4096 4096 }
     requires fielded { Fielded fields.now (length ours.now) (length copy.old) }
     requires n_in_bounds { (task.n ≤ length ours.now) × (task.width ≤ length copy.old) }
 {
     write_over(task, fields, ours, copy);
-    say_byte(deck, asked, fields, copy, theirs);
+    say_byte(to, deck, asked, fields, copy, theirs);
 }
 
 // The same in TRF. A record of ours has A's n bytes or more, and one of theirs, which is as long as ours gives, B's n.
-fn say_selected(deck: &[u8], asked: Asked, fields: &[u16], ours: &[u8], theirs: &[u8])
+fn say_selected(
+    to: &impl Print,
+    deck: &[u8],
+    asked: Asked,
+    fields: &[u16],
+    ours: &[u8],
+    theirs: &[u8],
+)
     requires { PlanFair asked fields.now }
 {
     let task = tasks::task_of(asked);
@@ -101,18 +130,25 @@ fn say_selected(deck: &[u8], asked: Asked, fields: &[u16], ours: &[u8], theirs: 
     if m < task.width {
         return;
     }
-    say_over(deck, asked, task, fields, ours, theirs, &mut copy[..m]);
+    say_over(to, deck, asked, task, fields, ours, theirs, &mut copy[..m]);
 }
 
 // Says in which byte theirs differs from what our record gives. TR carries records unchanged.
-pub(crate) fn explain(deck: &[u8], asked: Asked, fields: &[u16], ours: &[u8], theirs: &[u8])
+pub(crate) fn explain(
+    to: &impl Print,
+    deck: &[u8],
+    asked: Asked,
+    fields: &[u16],
+    ours: &[u8],
+    theirs: &[u8],
+)
     requires { PlanFair asked fields.now }
 {
-    say(b"differs");
+    say(to, b"differs");
     let mode = asked.mode;
     if terms::selects(mode) {
-        say_selected(deck, asked, fields, ours, theirs);
+        say_selected(to, deck, asked, fields, ours, theirs);
     } else {
-        say_byte(deck, asked, fields, ours, theirs);
+        say_byte(to, deck, asked, fields, ours, theirs);
     }
 }

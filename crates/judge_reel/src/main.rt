@@ -1,102 +1,124 @@
 // Judges a reel from elsewhere: judge_reel DECK OURS THEIRS. Prints one line: refusal, place, column, 1 where theirs is a true conversion of ours or 0,
 // and the number, in the output, of the first record that disagrees or lacks a partner, or 0. What that means is said in plain words on standard error, and so
 // is a file that cannot be read; such a file gives no line.
+#![tactic(auto)]
+
 mod difference;
 mod verdict;
 
+use std::io::Print;
+
 // Says that TC and TF are refused, where the plan is not refused so by itself.
-fn say_refused(deck: &[u8], ours: &[u8], refusal: usize, place: usize, column: usize) {
+fn say_refused(
+    to: &impl Print,
+    deck: &[u8],
+    ours: &[u8],
+    refusal: usize,
+    place: usize,
+    column: usize,
+) {
     let mut row = [0u16; 320];
     let plan = plans::plan_deck(deck, &mut row);
     if refusal == 8 && (plan.answer.refusal != 8 || plan.answer.place != place) {
         notices::say(
+            to,
             b"refused by 8, at card 1: a reel from elsewhere is judged with TR or TRF alone, and this deck has TC or TF\n",
         );
         return;
     }
-    reports::refused(deck, ours, refusal, place, column);
+    reports::refused(to, deck, ours, refusal, place, column);
 }
 
 // A deck that judges has a plan, so that its second refusal does not arise.
-fn explain(deck: &[u8], apart: usize, ours: &[u8], theirs: &[u8]) {
+fn explain(to: &impl Print, deck: &[u8], apart: usize, ours: &[u8], theirs: &[u8]) {
     let mut row = [0u16; 320];
     let plan = plans::plan_deck(deck, &mut row);
     if plan.answer.refusal != 0 {
         return;
     }
     if apart == 0 {
-        verdict::yes(plan, theirs);
+        verdict::yes(to, plan, theirs);
         return;
     }
     let asked = plan.asked;
     let end = 5 * asked.count;
-    verdict::no(deck, asked, &row[..end], apart, ours, theirs);
+    verdict::no(to, deck, asked, &row[..end], apart, ours, theirs);
 }
 
-fn judge(deck: &[u8], ours: &[u8], theirs: &[u8]) {
+fn judge(rt: &HostRuntime, deck: &[u8], ours: &[u8], theirs: &[u8]) {
     let judged = bhexodana::bhx_judge(deck, ours, theirs);
-    notices::line(&[
-        judged.refusal,
-        judged.place,
-        judged.column,
-        judged.yes,
-        judged.number,
-    ]);
+    notices::line(
+        rt,
+        &[
+            judged.refusal,
+            judged.place,
+            judged.column,
+            judged.yes,
+            judged.number,
+        ],
+    );
     if judged.refusal > 16 {
-        reports::refused_theirs(deck, theirs, judged.refusal, judged.place);
+        reports::refused_theirs(&rt.stderr(), deck, theirs, judged.refusal, judged.place);
         return;
     }
     if judged.refusal != 0 {
-        say_refused(deck, ours, judged.refusal, judged.place, judged.column);
+        say_refused(
+            &rt.stderr(),
+            deck,
+            ours,
+            judged.refusal,
+            judged.place,
+            judged.column,
+        );
         return;
     }
-    explain(deck, judged.number, ours, theirs);
+    explain(&rt.stderr(), deck, judged.number, ours, theirs);
 }
 
-fn judge_files(deck: &[u8], ours: &[u8], theirs: &[u8]) {
+fn judge_files(rt: &HostRuntime, deck: &[u8], ours: &[u8], theirs: &[u8]) {
     let mut cards = io::large_buffer();
-    let read = files::deck(deck, &mut cards);
+    let read = files::deck(rt, deck, &mut cards);
     if read.failed {
         return;
     }
     let mut blocks = files::reel_room();
-    let filled = files::reel(ours, &mut blocks);
+    let filled = files::reel(rt, ours, &mut blocks);
     if filled.failed {
         return;
     }
     let mut others = files::reel_room();
-    let foreign = files::reel(theirs, &mut others);
+    let foreign = files::reel(rt, theirs, &mut others);
     if foreign.failed {
         return;
     }
     // A deck that is longer than the room is refused without a column, so its cards are not asked for.
     if read.refusal != 0 {
-        notices::line(&[read.refusal, read.place, 0, 0, 0]);
-        notices::refused(b"", read.refusal, read.place, 0);
+        notices::line(rt, &[read.refusal, read.place, 0, 0, 0]);
+        notices::refused(&rt.stderr(), b"", read.refusal, read.place, 0);
         return;
     }
     let n = read.length;
     let m = filled.length;
     let k = foreign.length;
-    judge(&cards[..n], &blocks[..m], &others[..k]);
+    judge(rt, &cards[..n], &blocks[..m], &others[..k]);
 }
 
-fn judge_named() {
+fn judge_named(rt: &HostRuntime) {
     let mut deck = io::buffer();
-    let n = files::name(1, &mut deck);
+    let n = files::name(rt, 1, &mut deck);
     let mut ours = io::buffer();
-    let m = files::name(2, &mut ours);
+    let m = files::name(rt, 2, &mut ours);
     let mut theirs = io::buffer();
-    let k = files::name(3, &mut theirs);
+    let k = files::name(rt, 3, &mut theirs);
     if n > 0 && m > 0 && k > 0 {
-        judge_files(&deck[..n], &ours[..m], &theirs[..k]);
+        judge_files(rt, &deck[..n], &ours[..m], &theirs[..k]);
     }
 }
 
-fn main() {
-    if os::arg_count() == 4 {
-        judge_named();
+fn main(rt: HostRuntime) {
+    if inputs::argument_count(&rt) == 4 {
+        judge_named(&rt);
         return;
     }
-    notices::say(b"usage: judge_reel DECK OURS THEIRS\n");
+    notices::say(&rt.stderr(), b"usage: judge_reel DECK OURS THEIRS\n");
 }

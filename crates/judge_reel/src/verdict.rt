@@ -6,18 +6,19 @@ use crate::difference;
 use notices::{number, say};
 use plans::DeckPlan;
 use reports::many;
+use std::io::Print;
 use terms::Asked;
 
 // Says that theirs is true, and what the plan loses: where it loses, other inputs may have the same conversion.
-pub(crate) fn yes(plan: DeckPlan, theirs: &[u8]) {
+pub(crate) fn yes(to: &impl Print, plan: DeckPlan, theirs: &[u8]) {
     let asked = plan.asked;
     let task = tasks::task_of(asked);
     let mut nothing = gathers::record_room();
     let found = gathers::gather(tasks::form_under(task), theirs, 0, &mut nothing);
-    say(b"theirs is a true conversion of ours, of ");
-    many(found.records, b"record");
-    say(b"\n");
-    notices::loss(plan);
+    say(to, b"theirs is a true conversion of ours, of ");
+    many(to, found.records, b"record");
+    say(to, b"\n");
+    notices::loss(to, plan);
 }
 
 // How many records of our input are passed over: those before R, which is 1 to 65,536.
@@ -52,43 +53,44 @@ fn left(records: usize, passed: usize) -> usize {
 }
 
 // Says which record of the output is apart, and which one it is in our input; where ours has none, theirs has it.
-fn say_record(apart: usize, place: usize, is_ours: bool) {
-    say(b"record ");
-    number(apart);
+fn say_record(to: &impl Print, apart: usize, place: usize, is_ours: bool) {
+    say(to, b"record ");
+    number(to, apart);
     if is_ours {
-        say(b" of the output, record ");
-        number(place);
-        say(b" of our input, ");
+        say(to, b" of the output, record ");
+        number(to, place);
+        say(to, b" of our input, ");
     } else {
-        say(b" of theirs ");
+        say(to, b" of theirs ");
     }
 }
 
 // Says that a record has no partner, by the counts of both sides.
-fn say_counts(ours: usize, theirs: usize) {
-    say(b"lacks a partner: ours gives ");
-    many(ours, b"record");
-    say(b", theirs has ");
-    number(theirs);
+fn say_counts(to: &impl Print, ours: usize, theirs: usize) {
+    say(to, b"lacks a partner: ours gives ");
+    many(to, ours, b"record");
+    say(to, b", theirs has ");
+    number(to, theirs);
 }
 
 // Says how a record of theirs is apart from one of ours: by its length, or by a byte.
-fn say_pair(deck: &[u8], asked: Asked, fields: &[u16], ours: &[u8], theirs: &[u8])
+fn say_pair(to: &impl Print, deck: &[u8], asked: Asked, fields: &[u16], ours: &[u8], theirs: &[u8])
     requires { PlanFair asked fields.now × (length ours.now ≤ 65536) }
 {
     let n = tasks::output_length(tasks::task_of(asked), ours.len());
     if n == theirs.len() {
-        difference::explain(deck, asked, fields, ours, theirs);
+        difference::explain(to, deck, asked, fields, ours, theirs);
         return;
     }
-    say(b"has another length: ours gives ");
-    many(n, b"byte");
-    say(b", theirs has ");
-    number(theirs.len());
+    say(to, b"has another length: ours gives ");
+    many(to, n, b"byte");
+    say(to, b", theirs has ");
+    number(to, theirs.len());
 }
 
 // Says which record is apart, by its number in the output, and why.
 pub(crate) fn no(
+    to: &impl Print,
     deck: &[u8],
     asked: Asked,
     fields: &[u16],
@@ -105,14 +107,14 @@ pub(crate) fn no(
     let taken = gathers::gather(tasks::form_of(task), ours, place, &mut room);
     let mut other = gathers::record_room();
     let found = gathers::gather(tasks::form_under(task), theirs, apart, &mut other);
-    say(b"theirs is no true conversion of ours: ");
-    say_record(apart, place, place <= taken.records);
+    say(to, b"theirs is no true conversion of ours: ");
+    say_record(to, apart, place, place <= taken.records);
     if taken.records < place || found.records < apart {
-        say_counts(left(taken.records, before), found.records);
+        say_counts(to, left(taken.records, before), found.records);
     } else {
         let n = taken.length;
         let m = found.length;
-        say_pair(deck, asked, fields, &room[..n], &other[..m]);
+        say_pair(to, deck, asked, fields, &room[..n], &other[..m]);
     }
-    say(b"\n");
+    say(to, b"\n");
 }

@@ -1,6 +1,7 @@
 // The card of a refusal: where it begins and ends, it shown with a caret under a column, and where the first stands of what stands there twice. At 4 the operands
 // are right by their grammar, so that a single byte tells what it is part of.
 use lines::{CardRead, LineRead};
+use std::io::Print;
 use words::{number, say};
 
 pub const BLANK: u8 = b' ';
@@ -8,12 +9,12 @@ pub const BLANK: u8 = b' ';
 pub const COMMA: u8 = b',';
 
 // Says a card, and a column of it where there is one.
-pub fn spot(card: usize, column: usize) {
-    say(b"card ");
-    number(card);
+pub fn spot(to: &impl Print, card: usize, column: usize) {
+    say(to, b"card ");
+    number(to, card);
     if column > 0 {
-        say(b", column ");
-        number(column);
+        say(to, b", column ");
+        number(to, column);
     }
 }
 
@@ -54,19 +55,19 @@ pub fn uncommented(card: &[u8]) -> &[u8] {
 }
 
 // Shows the card, and a caret under the column. A card has at most 80 bytes, and the column may be one past its end.
-pub fn show(deck: &[u8], place: usize, column: usize) {
+pub fn show(to: &impl Print, deck: &[u8], place: usize, column: usize) {
     if column == 0 {
         return;
     }
     if column > 81 {
         return;
     }
-    say(card_at(deck, place));
-    say(b"\n");
+    say(to, card_at(deck, place));
+    say(to, b"\n");
     let blanks = [BLANK; 80];
     let n = column - 1;
-    say(&blanks[..n]);
-    say(b"^\n");
+    say(to, &blanks[..n]);
+    say(to, b"^\n");
 }
 
 // The byte in a column; a blank where there is none.
@@ -114,7 +115,7 @@ fn cv(deck: &[u8], place: usize) -> usize {
 }
 
 // Says where the first CV stands, on an FS card before this place or at it.
-fn first_cv(deck: &[u8], place: usize) {
+fn first_cv(to: &impl Print, deck: &[u8], place: usize) {
     let mut card = 2;
     while card < place {
         if cv(deck, card) > 0 {
@@ -122,15 +123,15 @@ fn first_cv(deck: &[u8], place: usize) {
         }
         card += 1;
     }
-    spot(card, cv(deck, card));
+    spot(to, card, cv(deck, card));
 }
 
 // Says where the first one stands of what stands here for the second time. A U card, the first of a deck, has parameters, and any other CV.
-pub fn first(deck: &[u8], place: usize, column: usize) {
+pub fn first(to: &impl Print, deck: &[u8], place: usize, column: usize) {
     if place > 1 {
-        first_cv(deck, place);
+        first_cv(to, deck, place);
         return;
     }
     let card = uncommented(card_at(deck, place));
-    spot(1, parameter(card, byte(card, column)));
+    spot(to, 1, parameter(card, byte(card, column)));
 }

@@ -2,6 +2,7 @@
 // said before what stands on the card.
 use crate::card;
 use crate::card::BLANK;
+use std::io::Print;
 use words::{number, say};
 
 const TAB: u8 = 0x09;
@@ -98,130 +99,142 @@ fn is_card_in_capitals(line: &[u8]) -> bool {
 }
 
 // Says that no blank follows where one has to.
-fn no_blank(text: &[u8]) {
-    say(b"a blank is missing behind '");
-    say(text);
-    say(b"'");
+fn no_blank(to: &impl Print, text: &[u8]) {
+    say(to, b"a blank is missing behind '");
+    say(to, text);
+    say(to, b"'");
 }
 
 // Says what follows END.
-fn behind_end(byte: u8) {
-    say(b"'// END' stands alone or has a blank behind it, and column 7 has '");
-    say(&[byte]);
-    say(b"'");
+fn behind_end(to: &impl Print, byte: u8) {
+    say(
+        to,
+        b"'// END' stands alone or has a blank behind it, and column 7 has '",
+    );
+    say(to, &[byte]);
+    say(to, b"'");
 }
 
 // Says which program's card a U card with two letters behind the U is: they are its initials (document 001).
-fn initials(first: u8, second: u8) {
-    say(b"the initials ");
-    say(&[first, second]);
-    say(b" are not those of tape to tape, whose card begins with '// U ' or '// UTT '");
+fn initials(to: &impl Print, first: u8, second: u8) {
+    say(to, b"the initials ");
+    say(to, &[first, second]);
+    say(
+        to,
+        b" are not those of tape to tape, whose card begins with '// U ' or '// UTT '",
+    );
 }
 
 // Says what is wrong with a line that begins as a U card does.
-fn u_shape(line: &[u8]) {
+fn u_shape(to: &impl Print, line: &[u8]) {
     if begins(line, b"// UTT") {
-        no_blank(b"// UTT");
+        no_blank(to, b"// UTT");
         return;
     }
     let first = card::byte(line, 5);
     let second = card::byte(line, 6);
     if second == BLANK {
-        no_blank(b"// U");
+        no_blank(to, b"// U");
         return;
     }
     if card::byte(line, 7) == BLANK {
-        initials(first, second);
+        initials(to, first, second);
         return;
     }
-    no_blank(b"// U");
+    no_blank(to, b"// U");
 }
 
 // Says what is wrong with the shape of a line of 1 to 80 printable bytes. UPSI is of job control, and no U card.
-fn shape(line: &[u8]) {
+fn shape(to: &impl Print, line: &[u8]) {
     if is_card_in_capitals(line) {
-        say(b"cards are in capital letters, and column ");
-        number(small(line));
-        say(b" has a small one");
+        say(to, b"cards are in capital letters, and column ");
+        number(to, small(line));
+        say(to, b" has a small one");
         return;
     }
     if begins(line, b"// U") && !begins(line, b"// UPSI ") {
-        u_shape(line);
+        u_shape(to, line);
         return;
     }
     if begins(line, b"// FS") {
-        no_blank(b"// FS");
+        no_blank(to, b"// FS");
         return;
     }
     if begins(line, b"// END") {
-        behind_end(card::byte(line, 7));
+        behind_end(to, card::byte(line, 7));
         return;
     }
-    say(b"this line begins with none of '// U ', '// UTT ', '// FS ' and is not '// END'");
+    say(
+        to,
+        b"this line begins with none of '// U ', '// UTT ', '// FS ' and is not '// END'",
+    );
 }
 
 // ---- lines
 
 // Says which byte is not printable.
-fn byte_in(line: &[u8], column: usize) {
-    say(b"column ");
-    number(column);
-    say(b" has the byte hex ");
-    say(&hexadecimal::hex(card::byte(line, column)));
-    say(b", which is no printable one of ASCII");
+fn byte_in(to: &impl Print, line: &[u8], column: usize) {
+    say(to, b"column ");
+    number(to, column);
+    say(to, b" has the byte hex ");
+    say(to, &hexadecimal::hex(card::byte(line, column)));
+    say(to, b", which is no printable one of ASCII");
 }
 
 // Says what is wrong with the bytes of a line, how many they are, or their shape.
-fn written(line: &[u8]) {
+fn written(to: &impl Print, line: &[u8]) {
     if line.len() == 0 {
-        say(b"this line is empty");
+        say(to, b"this line is empty");
         return;
     }
     let column = unprintable(line);
     if column > 0 {
-        byte_in(line, column);
+        byte_in(to, line, column);
         return;
     }
     if line.len() > lines::LONGEST {
-        say(b"this line has ");
-        number(line.len());
-        say(b" bytes; a card has at most 80");
+        say(to, b"this line has ");
+        number(to, line.len());
+        say(to, b" bytes; a card has at most 80");
         return;
     }
-    shape(line);
+    shape(to, line);
 }
 
 // Says why a line is no card.
-fn explain(line: &[u8]) {
+fn explain(to: &impl Print, line: &[u8]) {
     if begins(line, &EBCDIC) {
         say(
+            to,
             b"the deck is in EBCDIC: this line begins with hex 61 61 40, which is '// ' there; a deck is in ASCII",
         );
         return;
     }
     if card::byte(line, line.len()) == RETURN {
         say(
+            to,
             b"this line ends with a carriage return, as lines of Windows do (CRLF); a card's line ends with a line feed alone",
         );
         return;
     }
     let column = card::column_of(line, TAB);
     if column > 0 {
-        say(b"there is a tab in column ");
-        number(column);
-        say(b"; a card has blanks");
+        say(to, b"there is a tab in column ");
+        number(to, column);
+        say(to, b"; a card has blanks");
         return;
     }
-    written(line);
+    written(to, line);
 }
 
 // Says what refusal 1 found in the line of a place. A deck that is longer than the room is not at hand.
-pub fn no_card(deck: &[u8], place: usize) {
+pub fn no_card(to: &impl Print, deck: &[u8], place: usize) {
     if deck.len() == 0 {
         say(
+            to,
             b"this line is none of the cards: '// U ', '// UTT ', '// FS ' or '// END', 1 to 80 printable bytes, no tab and no carriage return",
         );
         return;
     }
-    explain(card::card_at(deck, place));
+    explain(to, card::card_at(deck, place));
 }

@@ -1,5 +1,6 @@
 // What refusal 5 found: which of T, F, A and B are missing on the U card.
 use crate::card;
+use std::io::Print;
 use words::say;
 
 // Whether no parameter of the card has this letter.
@@ -8,30 +9,30 @@ fn is_missing(card: &[u8], letter: u8) -> bool {
 }
 
 // Says a letter that is missing, after others or before some.
-fn name(letter: &[u8], missing: bool, after: bool, before: bool) {
+fn name(to: &impl Print, letter: &[u8], missing: bool, after: bool, before: bool) {
     if !missing {
         return;
     }
     if after {
         if before {
-            say(b", ");
+            say(to, b", ");
         } else {
-            say(b" and ");
+            say(to, b" and ");
         }
     }
-    say(letter);
+    say(to, letter);
 }
 
 // Says what refusal 5 found on the U card, the first of the deck.
-pub fn lacking(deck: &[u8]) {
+pub fn lacking(to: &impl Print, deck: &[u8]) {
     let card = card::uncommented(card::card_at(deck, 1));
     let t = is_missing(card, b'T');
     let f = is_missing(card, b'F');
     let a = is_missing(card, b'A');
     let b = is_missing(card, b'B');
-    say(b"the U card lacks ");
-    name(b"T", t, false, false);
-    name(b"F", f, t, a || b);
-    name(b"A", a, t || f, b);
-    name(b"B", b, t || f || a, false);
+    say(to, b"the U card lacks ");
+    name(to, b"T", t, false, false);
+    name(to, b"F", f, t, a || b);
+    name(to, b"A", a, t || f, b);
+    name(to, b"B", b, t || f || a, false);
 }

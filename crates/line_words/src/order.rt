@@ -1,6 +1,7 @@
 // What refusal 2 found: which card is out of order, or missing (document 01, "The deck").
 use crate::card;
 use lines::CardKind;
+use std::io::Print;
 use words::{number, say};
 
 // Whether the card of a place is an END card.
@@ -15,72 +16,81 @@ fn is_end(deck: &[u8], place: usize) -> bool {
 }
 
 // Says which card stands first in place of the U card.
-fn first_card(kind: CardKind) {
-    say(b"the first card is the U card, and this is an ");
+fn first_card(to: &impl Print, kind: CardKind) {
+    say(to, b"the first card is the U card, and this is an ");
     match kind {
-        CardKind::End => say(b"END card"),
-        _ => say(b"FS card"),
+        CardKind::End => say(to, b"END card"),
+        _ => say(to, b"FS card"),
     }
 }
 
-fn too_many(place: usize) {
-    say(b"this is card ");
-    number(place);
-    say(b"; a deck has at most 64");
+fn too_many(to: &impl Print, place: usize) {
+    say(to, b"this is card ");
+    number(to, place);
+    say(to, b"; a deck has at most 64");
 }
 
 // Says why a card is at fault behind one that is not the END card. An FS or END card is so past the 64th alone.
-fn before_end(kind: CardKind, place: usize) {
+fn before_end(to: &impl Print, kind: CardKind, place: usize) {
     match kind {
-        CardKind::Utility => say(b"this is a second U card; a deck has one"),
-        _ => too_many(place),
+        CardKind::Utility => say(to, b"this is a second U card; a deck has one"),
+        _ => too_many(to, place),
     }
 }
 
 // Says that there is no card where END should stand, behind the last.
-fn no_end(last: usize) {
-    say(b"the END card is missing; the last card of the deck is card ");
-    number(last);
+fn no_end(to: &impl Print, last: usize) {
+    say(
+        to,
+        b"the END card is missing; the last card of the deck is card ",
+    );
+    number(to, last);
 }
 
 // Says why a card is at fault that is not the first. It is the first at fault, so that an END card before it is the one just before. Where no card is at fault
 // there is none at the place.
-fn later_card(kind: CardKind, deck: &[u8], place: usize, before: usize) {
+fn later_card(to: &impl Print, kind: CardKind, deck: &[u8], place: usize, before: usize) {
     if is_end(deck, before) {
-        say(b"card ");
-        number(before);
-        say(b" is the END card, and nothing stands behind it");
+        say(to, b"card ");
+        number(to, before);
+        say(to, b" is the END card, and nothing stands behind it");
         return;
     }
     match kind {
-        CardKind::Other => no_end(before),
-        _ => before_end(kind, place),
+        CardKind::Other => no_end(to, before),
+        _ => before_end(to, kind, place),
     }
 }
 
 // Says what can be at fault at a place of a deck that is not at hand. One that is longer than the room has far more than 64 cards, so none is missing.
-fn unseen(place: usize) {
+fn unseen(to: &impl Print, place: usize) {
     if place < 2 {
-        say(b"the deck is empty, or is longer than 65,536 bytes and begins with no U card");
+        say(
+            to,
+            b"the deck is empty, or is longer than 65,536 bytes and begins with no U card",
+        );
         return;
     }
     if place > 64 {
-        too_many(place);
+        too_many(to, place);
         return;
     }
-    say(b"this is a second U card, or a card behind the END card");
+    say(
+        to,
+        b"this is a second U card, or a card behind the END card",
+    );
 }
 
 // Says what refusal 2 found at a place.
-pub fn disorder(deck: &[u8], place: usize) {
+pub fn disorder(to: &impl Print, deck: &[u8], place: usize) {
     if deck.len() == 0 {
-        unseen(place);
+        unseen(to, place);
         return;
     }
     let kind = lines::kind(card::card_at(deck, place));
     if place < 2 {
-        first_card(kind);
+        first_card(to, kind);
         return;
     }
-    later_card(kind, deck, place, place - 1);
+    later_card(to, kind, deck, place, place - 1);
 }

@@ -1,56 +1,57 @@
 // What refusal 8 found: the first combination of parameters that is broken, in the order in which they are judged (document 01, "Combinations required"; document
 // 02, orders 5 and 6).
+use std::io::Print;
 use terms::{Asked, Format, Mode, Size};
 use words::{number, say};
 
 // ---- what the deck has
 
-fn mode_name(mode: Mode) {
+fn mode_name(to: &impl Print, mode: Mode) {
     match mode {
-        Mode::TC => say(b"TC"),
-        Mode::TF => say(b"TF"),
-        Mode::TR => say(b"TR"),
-        Mode::TRF => say(b"TRF"),
+        Mode::TC => say(to, b"TC"),
+        Mode::TF => say(to, b"TF"),
+        Mode::TR => say(to, b"TR"),
+        Mode::TRF => say(to, b"TRF"),
     }
 }
 
-fn format_name(format: Format) {
+fn format_name(to: &impl Print, format: Format) {
     match format {
-        Format::FF => say(b"FF"),
-        Format::FV => say(b"FV"),
-        Format::FU => say(b"FU"),
-        Format::FS => say(b"FS"),
+        Format::FF => say(to, b"FF"),
+        Format::FV => say(to, b"FV"),
+        Format::FU => say(to, b"FU"),
+        Format::FS => say(to, b"FS"),
     }
 }
 
 // Says what goes only with another function than the deck has.
-fn not_with_mode(rule: &[u8], mode: Mode) {
-    say(rule);
-    say(b", and this deck has ");
-    mode_name(mode);
+fn not_with_mode(to: &impl Print, rule: &[u8], mode: Mode) {
+    say(to, rule);
+    say(to, b", and this deck has ");
+    mode_name(to, mode);
 }
 
 // The same of another format.
-fn not_with_format(rule: &[u8], format: Format) {
-    say(rule);
-    say(b", and this deck has ");
-    format_name(format);
+fn not_with_format(to: &impl Print, rule: &[u8], format: Format) {
+    say(to, rule);
+    say(to, b", and this deck has ");
+    format_name(to, format);
 }
 
 // Says A or B as on the card.
-fn size_on_card(size: Size) {
+fn size_on_card(to: &impl Print, size: Size) {
     match size {
         Size::Two { n, m } => {
-            say(b"(");
-            number(n);
-            say(b",");
-            number(m);
-            say(b")");
+            say(to, b"(");
+            number(to, n);
+            say(to, b",");
+            number(to, m);
+            say(to, b")");
         }
         Size::One { g } => {
-            say(b"(");
-            number(g);
-            say(b")");
+            say(to, b"(");
+            number(to, g);
+            say(to, b")");
         }
     }
 }
@@ -58,33 +59,33 @@ fn size_on_card(size: Size) {
 // ---- the combinations; each says whether it was found broken, and then has said so
 
 // Keys only in FF with TF or TRF.
-fn key_broken(mode: Mode, format: Format, key: usize) -> bool {
+fn key_broken(to: &impl Print, mode: Mode, format: Format, key: usize) -> bool {
     if key == 0 {
         return false;
     }
     if !terms::selects(mode) {
-        not_with_mode(b"a key in A goes only with TF or TRF", mode);
+        not_with_mode(to, b"a key in A goes only with TF or TRF", mode);
         return true;
     }
     if !terms::is_ff(format) {
-        not_with_format(b"a key in A goes only with FF", format);
+        not_with_format(to, b"a key in A goes only with FF", format);
         return true;
     }
     false
 }
 
 // FU only with TC. TC only with R1.
-fn copy_broken(mode: Mode, format: Format, first: usize) -> bool {
+fn copy_broken(to: &impl Print, mode: Mode, format: Format, first: usize) -> bool {
     if !terms::is_tc(mode) {
         if terms::is_fu(format) {
-            not_with_mode(b"FU goes only with TC", mode);
+            not_with_mode(to, b"FU goes only with TC", mode);
             return true;
         }
         return false;
     }
     if first != 1 {
-        say(b"TC goes only with R1, and this deck has R");
-        number(first);
+        say(to, b"TC goes only with R1, and this deck has R");
+        number(to, first);
         return true;
     }
     false
@@ -108,33 +109,33 @@ fn wants_two(mode: Mode, format: Format) -> bool {
 }
 
 // Says how many numbers A or B has, by this format and, in FV, this function.
-fn count_rule(mode: Mode, format: Format, name: &[u8]) {
-    say(b"in ");
-    format_name(format);
+fn count_rule(to: &impl Print, mode: Mode, format: Format, name: &[u8]) {
+    say(to, b"in ");
+    format_name(to, format);
     if terms::is_fv(format) {
-        say(b" with ");
-        mode_name(mode);
+        say(to, b" with ");
+        mode_name(to, mode);
     }
-    say(b" ");
-    say(name);
+    say(to, b" ");
+    say(to, name);
     if wants_two(mode, format) {
-        say(b" has two numbers, (n,m), and this deck has one");
+        say(to, b" has two numbers, (n,m), and this deck has one");
     } else {
-        say(b" has one number, (g), and this deck has two");
+        say(to, b" has one number, (g), and this deck has two");
     }
 }
 
 // FF: two numbers each. FU and FS: one. FV: two with TF or TRF, else one.
-fn count_broken(mode: Mode, format: Format, size: Size, name: &[u8]) -> bool {
+fn count_broken(to: &impl Print, mode: Mode, format: Format, size: Size, name: &[u8]) -> bool {
     if has_two(size) == wants_two(mode, format) {
         return false;
     }
-    count_rule(mode, format, name);
+    count_rule(to, mode, format, name);
     true
 }
 
 // TC: A equals B.
-fn copy_differs(mode: Mode, a: Size, b: Size) -> bool {
+fn copy_differs(to: &impl Print, mode: Mode, a: Size, b: Size) -> bool {
     if !terms::is_tc(mode) {
         return false;
     }
@@ -143,51 +144,54 @@ fn copy_differs(mode: Mode, a: Size, b: Size) -> bool {
             return false;
         }
     }
-    say(b"TC wants A equal to B, and here A is ");
-    size_on_card(a);
-    say(b" and B is ");
-    size_on_card(b);
+    say(to, b"TC wants A equal to B, and here A is ");
+    size_on_card(to, a);
+    say(to, b" and B is ");
+    size_on_card(to, b);
     true
 }
 
 // TF and TRF need an FS card.
-fn card_missing(mode: Mode, fs: usize) -> bool {
+fn card_missing(to: &impl Print, mode: Mode, fs: usize) -> bool {
     if !terms::selects(mode) {
         return false;
     }
     if fs > 0 {
         return false;
     }
-    say(b"TF and TRF need an FS card, and there is none");
+    say(to, b"TF and TRF need an FS card, and there is none");
     true
 }
 
 // FF: m a multiple of n.
-fn multiple_broken(n: usize, m: usize, name: &[u8]) -> bool {
+fn multiple_broken(to: &impl Print, n: usize, m: usize, name: &[u8]) -> bool {
     if n == 0 {
         return false;
     }
     if m % n == 0 {
         return false;
     }
-    say(b"in FF m is a multiple of n, and in ");
-    say(name);
-    say(b" ");
-    number(m);
-    say(b" is none of ");
-    number(n);
+    say(to, b"in FF m is a multiple of n, and in ");
+    say(to, name);
+    say(to, b" ");
+    number(to, m);
+    say(to, b" is none of ");
+    number(to, n);
     true
 }
 
 // TR with FF: equal record lengths.
-fn lengths_differ(n: usize, n2: usize) -> bool {
+fn lengths_differ(to: &impl Print, n: usize, n2: usize) -> bool {
     if n == n2 {
         return false;
     }
-    say(b"with TR the record lengths of A and B are equal, and these are ");
-    number(n);
-    say(b" and ");
-    number(n2);
+    say(
+        to,
+        b"with TR the record lengths of A and B are equal, and these are ",
+    );
+    number(to, n);
+    say(to, b" and ");
+    number(to, n2);
     true
 }
 
@@ -200,139 +204,145 @@ fn records(n: usize, m: usize) -> usize {
 }
 
 // TF with FF: equal m divided by n.
-fn counts_differ(a: usize, b: usize) -> bool {
+fn counts_differ(to: &impl Print, a: usize, b: usize) -> bool {
     if a == b {
         return false;
     }
-    say(b"with TF as many records stand in a block of A as in one of B, and these are ");
-    number(a);
-    say(b" and ");
-    number(b);
+    say(
+        to,
+        b"with TF as many records stand in a block of A as in one of B, and these are ",
+    );
+    number(to, a);
+    say(to, b" and ");
+    number(to, b);
     true
 }
 
-fn fixed_broken(mode: Mode, n: usize, m: usize, n2: usize, m2: usize) -> bool {
-    if multiple_broken(n, m, b"A") {
+fn fixed_broken(to: &impl Print, mode: Mode, n: usize, m: usize, n2: usize, m2: usize) -> bool {
+    if multiple_broken(to, n, m, b"A") {
         return true;
     }
-    if multiple_broken(n2, m2, b"B") {
+    if multiple_broken(to, n2, m2, b"B") {
         return true;
     }
     match mode {
         Mode::TC => false,
-        Mode::TF => counts_differ(records(n, m), records(n2, m2)),
-        Mode::TR => lengths_differ(n, n2),
+        Mode::TF => counts_differ(to, records(n, m), records(n2, m2)),
+        Mode::TR => lengths_differ(to, n, n2),
         Mode::TRF => false,
     }
 }
 
 // FV with two numbers: n+8 at most m.
-fn room_broken(n: usize, m: usize, name: &[u8]) -> bool {
+fn room_broken(to: &impl Print, n: usize, m: usize, name: &[u8]) -> bool {
     if m >= 8 {
         if n <= m - 8 {
             return false;
         }
     }
-    say(b"in FV n+8 is at most m, and in ");
-    say(name);
-    say(b" n is ");
-    number(n);
-    say(b" and m is ");
-    number(m);
+    say(to, b"in FV n+8 is at most m, and in ");
+    say(to, name);
+    say(to, b" n is ");
+    number(to, n);
+    say(to, b" and m is ");
+    number(to, m);
     true
 }
 
-fn variable_broken(mode: Mode, n: usize, m: usize, n2: usize, m2: usize) -> bool {
+fn variable_broken(to: &impl Print, mode: Mode, n: usize, m: usize, n2: usize, m2: usize) -> bool {
     if !terms::selects(mode) {
         return false;
     }
-    if room_broken(n, m, b"A") {
+    if room_broken(to, n, m, b"A") {
         return true;
     }
-    room_broken(n2, m2, b"B")
+    room_broken(to, n2, m2, b"B")
 }
 
 // Format FS only with TC and TR.
-fn spanned_broken(mode: Mode) -> bool {
+fn spanned_broken(to: &impl Print, mode: Mode) -> bool {
     if !terms::selects(mode) {
         return false;
     }
-    not_with_mode(b"format FS goes only with TC or TR", mode);
+    not_with_mode(to, b"format FS goes only with TC or TR", mode);
     true
 }
 
 // By the format, where as many numbers stand as are wanted.
-fn format_broken(mode: Mode, format: Format, a: Size, b: Size) -> bool {
+fn format_broken(to: &impl Print, mode: Mode, format: Format, a: Size, b: Size) -> bool {
     let n = terms::record_length(a);
     let m = terms::block_length(a);
     let n2 = terms::record_length(b);
     let m2 = terms::block_length(b);
     match format {
-        Format::FF => fixed_broken(mode, n, m, n2, m2),
-        Format::FV => variable_broken(mode, n, m, n2, m2),
+        Format::FF => fixed_broken(to, mode, n, m, n2, m2),
+        Format::FV => variable_broken(to, mode, n, m, n2, m2),
         Format::FU => false,
-        Format::FS => spanned_broken(mode),
+        Format::FS => spanned_broken(to, mode),
     }
 }
 
 // ---- the cards
 
 // What A and B break.
-fn sizes_broken(asked: Asked) -> bool {
+fn sizes_broken(to: &impl Print, asked: Asked) -> bool {
     let mode = asked.mode;
     let format = asked.format;
     let input = asked.input;
     let output = asked.output;
-    if count_broken(mode, format, input, b"A") {
+    if count_broken(to, mode, format, input, b"A") {
         return true;
     }
-    if count_broken(mode, format, output, b"B") {
+    if count_broken(to, mode, format, output, b"B") {
         return true;
     }
-    if copy_differs(mode, input, output) {
+    if copy_differs(to, mode, input, output) {
         return true;
     }
-    if card_missing(mode, asked.fs) {
+    if card_missing(to, mode, asked.fs) {
         return true;
     }
-    format_broken(mode, format, input, output)
+    format_broken(to, mode, format, input, output)
 }
 
 // What the U card breaks.
-fn u_card_broken(asked: Asked) {
+fn u_card_broken(to: &impl Print, asked: Asked) {
     let mode = asked.mode;
     let format = asked.format;
-    if key_broken(mode, format, asked.key) {
+    if key_broken(to, mode, format, asked.key) {
         return;
     }
-    if copy_broken(mode, format, asked.first) {
+    if copy_broken(to, mode, format, asked.first) {
         return;
     }
-    if !sizes_broken(asked) {
-        say(b"the parameters do not go together");
+    if !sizes_broken(to, asked) {
+        say(to, b"the parameters do not go together");
     }
 }
 
 // What an FS card breaks: with TC and TR there is none, CV goes only with FV, and (K,r) only where A gives a key.
-fn fs_card_broken(asked: Asked, place: usize) {
+fn fs_card_broken(to: &impl Print, asked: Asked, place: usize) {
     let mode = asked.mode;
     let format = asked.format;
     if !terms::selects(mode) {
-        not_with_mode(b"an FS card goes only with TF or TRF", mode);
+        not_with_mode(to, b"an FS card goes only with TF or TRF", mode);
         return;
     }
     if asked.cv == place && !terms::is_fv(format) {
-        not_with_format(b"CV goes only with FV", format);
+        not_with_format(to, b"CV goes only with FV", format);
         return;
     }
-    say(b"(K,r) goes only with a key in A, (K=l,D=l), and this deck has none");
+    say(
+        to,
+        b"(K,r) goes only with a key in A, (K=l,D=l), and this deck has none",
+    );
 }
 
 // Says what refusal 8 found at a card of a deck that could be read: at the U card its parameters, elsewhere what an FS card may not be.
-pub(crate) fn broken(asked: Asked, place: usize) {
+pub(crate) fn broken(to: &impl Print, asked: Asked, place: usize) {
     if place > 1 {
-        fs_card_broken(asked, place);
+        fs_card_broken(to, asked, place);
     } else {
-        u_card_broken(asked);
+        u_card_broken(to, asked);
     }
 }

@@ -2,96 +2,105 @@
 // a plan loses. Which words a refusal of 1 to 10 has stands in `deck`: what stands on the cards say the crates `line_words` and `card_words`, and what does not
 // go together (refusal 8) `combination`; 16, by which a plan that keeps has no twins, is said here. Those of a reel are said where the reel is at hand, by `reports`. What is
 // said of records that are not taken stands in `taken`.
+#![tactic(auto)]
+
 mod combination;
 mod deck;
 mod taken;
 
 pub use card_words::field_on_card;
-use libc::STDOUT_FILENO;
 use plans::DeckPlan;
+use std::io::Print;
 pub use taken::{left_out, none_taken};
-pub use words::{number, say};
+pub use words::{fail, number, say};
 
 // The numbers on standard output, with a blank between.
-pub fn line(numbers: &[usize]) {
-    let mut i = 0;
-    while i < numbers.len() {
+pub fn line(rt: &HostRuntime, numbers: &[usize]) {
+    for i in 0..numbers.len() {
         if i > 0 {
-            io::write_all(STDOUT_FILENO, b" ");
+            say(rt, b" ");
         }
-        io::print_decimal(STDOUT_FILENO, numbers[i] as u64);
-        i += 1;
+        number(rt, numbers[i]);
     }
-    if !io::write_all(STDOUT_FILENO, b"\n") {
-        os::fail(b"standard output");
+    if let Err(why) = rt.write_all(b"\n") {
+        fail(&rt.stderr(), b"standard output", why);
     }
 }
 
 // A byte of an input record, from 1: behind a key of so many bytes people count those of the data from 1 again, as cards do.
-fn byte(n: usize, key: usize) {
+fn byte(to: &impl Print, n: usize, key: usize) {
     if key == 0 {
-        number(n);
+        number(to, n);
         return;
     }
     if n <= key {
-        number(n);
-        say(b" of the key");
+        number(to, n);
+        say(to, b" of the key");
         return;
     }
-    number(n - key);
-    say(b" of the data");
+    number(to, n - key);
+    say(to, b" of the data");
 }
 
 // Half 2i is the high half of byte i, from 0, through the key first.
-pub fn half_of_byte(place: usize, key: usize) {
+pub fn half_of_byte(to: &impl Print, place: usize, key: usize) {
     if place % 2 == 0 {
-        say(b"the high half of byte ");
+        say(to, b"the high half of byte ");
     } else {
-        say(b"the low half of byte ");
+        say(to, b"the low half of byte ");
     }
-    byte(place / 2 + 1, key);
+    byte(to, place / 2 + 1, key);
 }
 
-fn half(place: usize, key: usize) {
-    say(b"half byte ");
-    number(place);
-    say(b", ");
-    half_of_byte(place, key);
-    say(b" of the input record");
+fn half(to: &impl Print, place: usize, key: usize) {
+    say(to, b"half byte ");
+    number(to, place);
+    say(to, b", ");
+    half_of_byte(to, place, key);
+    say(to, b" of the input record");
 }
 
 // A refusal of a deck, by its number, its place and its column, or 0 for none; the deck has the card.
-pub fn refused(deck: &[u8], refusal: usize, place: usize, column: usize) {
-    say(b"refused by ");
-    number(refusal);
+pub fn refused(to: &impl Print, deck: &[u8], refusal: usize, place: usize, column: usize) {
+    say(to, b"refused by ");
+    number(to, refusal);
     if refusal < 11 {
-        deck::explain(deck, refusal, place, column);
+        deck::explain(to, deck, refusal, place, column);
     } else {
-        say(b": the plan keeps: no two records become alike, so there are no twins to show");
+        say(
+            to,
+            b": the plan keeps: no two records become alike, so there are no twins to show",
+        );
     }
-    say(b"\n");
-    line_words::show(deck, place, column);
+    say(to, b"\n");
+    line_words::show(to, deck, place, column);
 }
 
 // A half byte of the first n bytes is lost, or the tail, whose place is 2n.
-fn lost(n: usize, key: usize, place: usize) {
-    say(b"the plan loses: ");
+fn lost(to: &impl Print, n: usize, key: usize, place: usize) {
+    say(to, b"the plan loses: ");
     if place / 2 == n {
-        say(b"the tail, all data past the first ");
-        number(n);
-        say(b" bytes, is dropped; records that differ only there become alike\n");
+        say(to, b"the tail, all data past the first ");
+        number(to, n);
+        say(
+            to,
+            b" bytes, is dropped; records that differ only there become alike\n",
+        );
         return;
     }
-    half(place, key);
-    say(b", is not in the output; records that differ only there become alike\n");
+    half(to, place, key);
+    say(
+        to,
+        b", is not in the output; records that differ only there become alike\n",
+    );
 }
 
 // What an accepted plan loses, if it loses anything.
-pub fn loss(plan: DeckPlan) {
+pub fn loss(to: &impl Print, plan: DeckPlan) {
     if plan.answer.keeping == 0 {
         let asked = plan.asked;
         let input = asked.input;
-        lost(terms::record_length(input), asked.key, plan.answer.lost);
-        say(b"'./bhexodana twins DECK' shows two such records\n");
+        lost(to, terms::record_length(input), asked.key, plan.answer.lost);
+        say(to, b"'./bhexodana twins DECK' shows two such records\n");
     }
 }

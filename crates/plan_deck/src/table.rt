@@ -6,20 +6,20 @@ ghost use Rattle.terms.specs.Meaning.{size_of};
 ghost use Rattle.rows.specs.Fair.{PlanFair};
 ghost use Rattle.sources.specs.Promise.{RowInside};
 
-use libc::STDOUT_FILENO;
 use terms::{Asked, Field};
 
 // A word and numbers.
-fn line(word: &[u8], numbers: &[usize]) {
-    io::write_all(STDOUT_FILENO, word);
-    notices::line(numbers);
+fn line(rt: &HostRuntime, word: &[u8], numbers: &[usize]) {
+    notices::say(rt, word);
+    notices::line(rt, numbers);
 }
 
 // The bytes of an input record that fields reach, the most bytes of a block of them, both again for the output, and how long the key is.
-fn sizes(asked: Asked) {
+fn sizes(rt: &HostRuntime, asked: Asked) {
     let input = asked.input;
     let output = asked.output;
     line(
+        rt,
         b"records ",
         &[
             terms::record_length(input),
@@ -33,11 +33,12 @@ fn sizes(asked: Asked) {
 
 // A field, by its number, from 1: its card, 0 for a copy, 1 for a pack or 2 for an unpack, the first input byte, counted through key and data, how many, the first output
 // byte, and how many.
-fn field(deck: &[u8], number: usize, f: Field)
+fn field(rt: &HostRuntime, deck: &[u8], number: usize, f: Field)
     requires { 1 ≤ number }
 {
     let kind = f.kind;
     line(
+        rt,
         b"field ",
         &[
             number,
@@ -51,11 +52,11 @@ fn field(deck: &[u8], number: usize, f: Field)
     );
 }
 
-fn all_fields(deck: &[u8], fields: &[u16]) {
+fn all_fields(rt: &HostRuntime, deck: &[u8], fields: &[u16]) {
     let count = fields.len() / 5;
     let mut k = 0;
     while k < count {
-        field(deck, k + 1, rows::field_at(fields, k));
+        field(rt, deck, k + 1, rows::field_at(fields, k));
         k += 1;
     }
 }
@@ -81,7 +82,7 @@ fn run_end(fields: &[u16], halves: &[u8; 8192], from: usize, many: usize) -> usi
 }
 
 // Each run of lost halves: the first and the last, why (1 never read, 2 dropped by a short field, 3 covered later), and the last field that reads them, or 0.
-fn all_losses(asked: Asked, fields: &[u16])
+fn all_losses(rt: &HostRuntime, asked: Asked, fields: &[u16])
     requires { PlanFair asked fields.now }
 {
     let input = asked.input;
@@ -92,6 +93,7 @@ fn all_losses(asked: Asked, fields: &[u16])
         let end = run_end(fields, &halves, h, many);
         if halves[h] > 0 {
             line(
+                rt,
                 b"lost ",
                 &[
                     h,
@@ -106,18 +108,18 @@ fn all_losses(asked: Asked, fields: &[u16])
 }
 
 // What becomes of the tail: 0 there is none, 1 it is carried, 2 it is lost.
-fn tail(asked: Asked)
+fn tail(rt: &HostRuntime, asked: Asked)
     requires { record_length (size_of asked.input) ≤ 4096 }
 {
     if losses::is_tail_lost(asked) {
-        line(b"tail ", &[2]);
+        line(rt, b"tail ", &[2]);
         return;
     }
     if asked.cv > 0 {
-        line(b"tail ", &[1]);
+        line(rt, b"tail ", &[1]);
         return;
     }
-    line(b"tail ", &[0]);
+    line(rt, b"tail ", &[0]);
 }
 
 // Where the run of output bytes ends, from 1, that begins at a position and is written by one field, or by none.
@@ -138,29 +140,29 @@ fn written_end(fields: &[u16], from: usize, width: usize) -> usize
 }
 
 // Each run of output bytes: the first and the last, and the field that writes them last, or 0 for blanks.
-fn all_written(fields: &[u16], width: usize)
+fn all_written(rt: &HostRuntime, fields: &[u16], width: usize)
     requires row_inside { RowInside fields.now 4096 4096 }
     requires width_bound { width ≤ 4096 }
 {
     let mut i = 1;
     while i <= width {
         let end = written_end(fields, i, width);
-        line(b"output ", &[i, end, losses::last_writer(fields, i)]);
+        line(rt, b"output ", &[i, end, losses::last_writer(fields, i)]);
         i = end + 1;
     }
 }
 
-pub(crate) fn print(deck: &[u8], asked: Asked, fields: &[u16])
+pub(crate) fn print(rt: &HostRuntime, deck: &[u8], asked: Asked, fields: &[u16])
     requires { PlanFair asked fields.now }
 {
     let mode = asked.mode;
     if !terms::selects(mode) {
         return;
     }
-    sizes(asked);
-    all_fields(deck, fields);
-    all_losses(asked, fields);
-    tail(asked);
+    sizes(rt, asked);
+    all_fields(rt, deck, fields);
+    all_losses(rt, asked, fields);
+    tail(rt, asked);
     let output = asked.output;
-    all_written(fields, terms::record_length(output));
+    all_written(rt, fields, terms::record_length(output));
 }

@@ -1,4 +1,5 @@
 // Refusal 13: which byte of a record a field may not read. Document 01, "Half bytes".
+use std::io::Print;
 use terms::{Asked, Field, Kind, ZONE};
 use words::{number, say};
 
@@ -86,87 +87,100 @@ fn first_refused(fields: &[u16], record: &[u8]) -> usize {
 }
 
 // Says a position of a record, behind a key of so many bytes.
-fn say_position(position: usize, key: usize) {
-    say(b"byte ");
+fn say_position(to: &impl Print, position: usize, key: usize) {
+    say(to, b"byte ");
     if key == 0 {
-        number(position);
-        say(b" of the record");
+        number(to, position);
+        say(to, b" of the record");
         return;
     }
     if position <= key {
-        number(position);
-        say(b" of the key");
+        number(to, position);
+        say(to, b" of the key");
         return;
     }
-    number(position - key);
-    say(b" of the data");
+    number(to, position - key);
+    say(to, b" of the data");
 }
 
 // Says what a field asks of a byte, of which it reads so many from there on.
-fn say_asked(kind: Kind, left: usize) {
+fn say_asked(to: &impl Print, kind: Kind, left: usize) {
     match kind {
-        Kind::Copy => say(b"to copy, a byte is any"),
+        Kind::Copy => say(to, b"to copy, a byte is any"),
         Kind::Pack => {
             if left == 1 {
-                say(b"to pack, the last byte is a sign, hex A to F, and a digit");
+                say(
+                    to,
+                    b"to pack, the last byte is a sign, hex A to F, and a digit",
+                );
             } else {
-                say(b"to pack, a byte is hex F and a digit");
+                say(to, b"to pack, a byte is hex F and a digit");
             }
         }
         Kind::Unpack => {
             if left == 1 {
-                say(b"to unpack, the last byte is a digit and a sign, hex A to F");
+                say(
+                    to,
+                    b"to unpack, the last byte is a digit and a sign, hex A to F",
+                );
             } else {
-                say(b"to unpack, each half byte is a digit");
+                say(to, b"to unpack, each half byte is a digit");
             }
         }
     }
 }
 
 // Says that a field may not read the byte at a position, and why.
-fn say_refused(f: Field, key: usize, position: usize, byte: u8) {
-    say(b", reads ");
-    say_position(position, key);
-    say(b", which is hex ");
-    say(&hexadecimal::hex(byte));
-    say(b": ");
+fn say_refused(to: &impl Print, f: Field, key: usize, position: usize, byte: u8) {
+    say(to, b", reads ");
+    say_position(to, position, key);
+    say(to, b", which is hex ");
+    say(to, &hexadecimal::hex(byte));
+    say(to, b": ");
     let kind = f.kind;
-    say_asked(kind, left(f, position));
+    say_asked(to, kind, left(f, position));
 }
 
 // What is said where nothing else was found.
-fn say_wrong() {
-    say(b"this record has a half byte that a field may not read");
+fn say_wrong(to: &impl Print) {
+    say(to, b"this record has a half byte that a field may not read");
 }
 
 // Says the first field that may not read the byte at a position.
-fn say_byte(deck: &[u8], key: usize, fields: &[u16], position: usize, byte: u8) {
+fn say_byte(to: &impl Print, deck: &[u8], key: usize, fields: &[u16], position: usize, byte: u8) {
     let first = refusing(fields, position, byte);
     if first == 0 {
-        say_wrong();
+        say_wrong(to);
         return;
     }
     if fields.len() / 5 < first {
-        say_wrong();
+        say_wrong(to);
         return;
     }
     let f = rows::field_at(fields, first - 1);
-    notices::field_on_card(deck, key, first, f);
-    say_refused(f, key, position, byte);
+    notices::field_on_card(to, deck, key, first, f);
+    say_refused(to, f, key, position, byte);
 }
 
 // Says the first byte of a record that a field may not read, and the first such field.
-fn say_first(deck: &[u8], key: usize, fields: &[u16], record: &[u8]) {
+fn say_first(to: &impl Print, deck: &[u8], key: usize, fields: &[u16], record: &[u8]) {
     let at = first_refused(fields, record);
     if record.len() <= at {
-        say_wrong();
+        say_wrong(to);
         return;
     }
-    say_byte(deck, key, fields, at + 1, record[at]);
+    say_byte(to, deck, key, fields, at + 1, record[at]);
 }
 
 // Says it of the record of a place.
-fn say_record(deck: &[u8], asked: Asked, fields: &[u16], reel: &[u8], place: usize) {
+fn say_record(
+    to: &impl Print,
+    deck: &[u8],
+    asked: Asked,
+    fields: &[u16],
+    reel: &[u8],
+    place: usize,
+) {
     let mut room = gathers::record_room();
     let found = gathers::gather(
         tasks::form_of(tasks::task_of(asked)),
@@ -175,21 +189,21 @@ fn say_record(deck: &[u8], asked: Asked, fields: &[u16], reel: &[u8], place: usi
         &mut room,
     );
     let n = found.length;
-    say_first(deck, asked.key, fields, &room[..n]);
+    say_first(to, deck, asked.key, fields, &room[..n]);
 }
 
 // Says which byte of the record of a place, from 1, a field may not read. A deck that runs has a plan.
-pub(crate) fn explain(deck: &[u8], reel: &[u8], place: usize) {
-    say(b", at record ");
-    number(place);
-    say(b" of the input: ");
+pub(crate) fn explain(to: &impl Print, deck: &[u8], reel: &[u8], place: usize) {
+    say(to, b", at record ");
+    number(to, place);
+    say(to, b" of the input: ");
     let mut row = [0u16; 320];
     let plan = plans::plan_deck(deck, &mut row);
     if plan.answer.refusal != 0 {
-        say_wrong();
+        say_wrong(to);
         return;
     }
     let asked = plan.asked;
     let end = 5 * asked.count;
-    say_record(deck, asked, &row[..end], reel, place);
+    say_record(to, deck, asked, &row[..end], reel, place);
 }

@@ -1,11 +1,14 @@
 // What a run over a reel, or the judging of one from elsewhere, was refused for, in plain words on standard error: refusals 11 to 15, 17 and 18, each with what was
 // found in that reel; those of the deck are said by `notices`. The words of 11, 12, 17 and 18, of the reel and its blocks, stand in the crate `block_words`, those of 13
 // in `half`, and those of 14 and 15 in `length`.
+#![tactic(auto)]
+
 mod half;
 mod length;
 
 use block_words::Asks;
 use plans::DeckPlan;
+use std::io::Print;
 use terms::Asked;
 pub use words::many;
 use words::{number, say};
@@ -39,31 +42,38 @@ fn by_b(asked: Asked) -> Asks {
 }
 
 // A refusal of a run by its number, its place and its column, or 0 for none; the deck has the card, and the reel what was found.
-pub fn refused(deck: &[u8], reel: &[u8], refusal: usize, place: usize, column: usize) {
+pub fn refused(
+    to: &impl Print,
+    deck: &[u8],
+    reel: &[u8],
+    refusal: usize,
+    place: usize,
+    column: usize,
+) {
     if refusal < 11 {
-        notices::refused(deck, refusal, place, column);
+        notices::refused(to, deck, refusal, place, column);
         return;
     }
-    say(b"refused by ");
-    number(refusal);
+    say(to, b"refused by ");
+    number(to, refusal);
     match refusal {
-        11 => block_words::no_reel(b"the input", reel),
-        12 => block_words::wrong_block(by_a(plan_of(deck).asked), reel, place),
-        13 => half::explain(deck, reel, place),
-        14 => length::explain(plan_of(deck).asked, reel, place),
-        _ => length::too_long(place),
+        11 => block_words::no_reel(to, b"the input", reel),
+        12 => block_words::wrong_block(to, by_a(plan_of(deck).asked), reel, place),
+        13 => half::explain(to, deck, reel, place),
+        14 => length::explain(to, plan_of(deck).asked, reel, place),
+        _ => length::too_long(to, place),
     }
-    say(b"\n");
+    say(to, b"\n");
 }
 
 // Refusals 17 and 18 of a reel from elsewhere.
-pub fn refused_theirs(deck: &[u8], theirs: &[u8], refusal: usize, place: usize) {
-    say(b"refused by ");
-    number(refusal);
+pub fn refused_theirs(to: &impl Print, deck: &[u8], theirs: &[u8], refusal: usize, place: usize) {
+    say(to, b"refused by ");
+    number(to, refusal);
     if refusal == 17 {
-        block_words::no_reel(b"theirs", theirs);
+        block_words::no_reel(to, b"theirs", theirs);
     } else {
-        block_words::wrong_block(by_b(plan_of(deck).asked), theirs, place);
+        block_words::wrong_block(to, by_b(plan_of(deck).asked), theirs, place);
     }
-    say(b"\n");
+    say(to, b"\n");
 }

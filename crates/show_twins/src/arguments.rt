@@ -2,7 +2,7 @@
 ghost use Rattle.io.specs.Counts.{IsPrefixLen};
 
 // The argument that names each file, or 0 where it is not asked for; and whether the arguments can be understood.
-#[derive(Drop)]
+#[derive(Clone, Copy)]
 pub(crate) struct Wanted {
     pub(crate) records: usize,
     pub(crate) reel: usize,
@@ -10,16 +10,16 @@ pub(crate) struct Wanted {
 }
 
 // What stands before the name of a file.
-#[derive(Drop)]
+#[derive(Clone, Copy)]
 enum Word {
     Records,
     Reel,
     Other,
 }
 
-fn word_of(argument: usize) -> Word {
+fn word_of(rt: &HostRuntime, argument: usize) -> Word {
     let mut room = io::buffer();
-    let n = os::arg(argument, &mut room);
+    let n = inputs::argument(rt, argument, &mut room);
     if check::same(&room[..n], b"records") {
         return Word::Records;
     }
@@ -59,22 +59,22 @@ fn nothing(right: bool) -> Wanted {
 }
 
 // The program's own name counts among the arguments.
-pub(crate) fn read() -> Wanted {
-    let count = os::arg_count();
+pub(crate) fn read(rt: &HostRuntime) -> Wanted {
+    let count = inputs::argument_count(rt);
     match count {
         2 => nothing(true),
-        4 => with(nothing(true), word_of(2), 3),
-        6 => with(with(nothing(true), word_of(2), 3), word_of(4), 5),
+        4 => with(nothing(true), word_of(rt, 2), 3),
+        6 => with(with(nothing(true), word_of(rt, 2), 3), word_of(rt, 4), 5),
         _ => nothing(false),
     }
 }
 
 // Puts the name of a file into the room and answers its length, or 0 where none is asked for or the argument is no name.
-pub(crate) fn file(argument: usize, room: &mut [u8]) -> usize
+pub(crate) fn file(rt: &HostRuntime, argument: usize, room: &mut [u8]) -> usize
     ensures { IsPrefixLen result room.new }
 {
     if argument == 0 {
         return 0;
     }
-    files::name(argument, room)
+    files::name(rt, argument, room)
 }

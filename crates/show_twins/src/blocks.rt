@@ -52,7 +52,7 @@ fn most_copies(block: usize, last: usize) -> usize
 }
 
 // Where the next offset and the next block of a reel go.
-#[derive(Drop)]
+#[derive(Clone, Copy)]
 struct Ends {
     offsets: usize,
     blocks: usize,

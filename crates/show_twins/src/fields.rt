@@ -1,7 +1,41 @@
-// The fields of a plan by their numbers, and what becomes of a half in one.
+// The fields of a plan: which is the last over a byte, and what becomes of a half in it.
 ghost use Rattle.std.specs.Prelude.{◌≤◌};
 
+use std::io::Print;
 use terms::{Field, Kind};
+
+// The record that a field reads, or the one that it writes.
+#[derive(Clone, Copy)]
+pub(crate) enum Side {
+    Input,
+    Output,
+}
+
+// Whether a byte is among so many from a position on. Bytes and positions count from 1.
+fn is_among(from: usize, size: usize, byte: usize) -> bool {
+    from <= byte && byte - from < size
+}
+
+fn is_over(f: Field, side: Side, byte: usize) -> bool {
+    match side {
+        Side::Input => is_among(f.r, f.input, byte),
+        Side::Output => is_among(f.t, f.output, byte),
+    }
+}
+
+// The number of the last field over a byte, or 0.
+pub(crate) fn last_over(fields: &[u16], side: Side, byte: usize) -> usize {
+    let count = fields.len() / 5;
+    let mut last = 0;
+    let mut i = 0;
+    while i < count {
+        if is_over(rows::field_at(fields, i), side, byte) {
+            last = i + 1;
+        }
+        i += 1;
+    }
+    last
+}
 
 // What stands for a field where there is none.
 fn none() -> Field {
@@ -87,6 +121,6 @@ pub(crate) fn output_byte(f: Field, half: usize) -> usize {
 }
 
 // Says a field by its number, its item and its card.
-pub(crate) fn say_field(deck: &[u8], key: usize, fields: &[u16], field: usize) {
-    notices::field_on_card(deck, key, field, numbered(fields, field));
+pub(crate) fn say_field(to: &impl Print, deck: &[u8], key: usize, fields: &[u16], field: usize) {
+    notices::field_on_card(to, deck, key, field, numbered(fields, field));
 }

@@ -4,11 +4,12 @@ ghost use Rattle.std.specs.Prelude.{◌+◌, ◌<◌, ◌^◌};
 
 use crate::room;
 use notices::{number, say};
+use std::io::Print;
 
 const BLANK: u8 = b' ';
 
 // A byte in which two records differ, and what stands under its two digits: a caret or a blank.
-#[derive(Drop)]
+#[derive(Clone, Copy)]
 pub(crate) struct Difference {
     byte: usize,
     high: u8,
@@ -82,38 +83,38 @@ fn bytes_at(record: &[u8], at: usize) -> &[u8] {
 }
 
 // Says a row of a record, behind the position of its first byte.
-fn say_bytes(position: usize, name: &[u8], bytes: &[u8]) {
+fn say_bytes(to: &impl Print, position: usize, name: &[u8], bytes: &[u8]) {
     let mut row = [BLANK; 52];
     put_position(&mut row, position);
     room::put(&mut row, 8, name);
     put_bytes(&mut row, bytes);
-    say(trimmed(&row));
-    say(b"\n");
+    say(to, trimmed(&row));
+    say(to, b"\n");
 }
 
-fn say_carets(difference: Difference) {
+fn say_carets(to: &impl Print, difference: Difference) {
     let mut row = [BLANK; 52];
     room::put(
         &mut row,
         column(difference.byte),
         &[difference.high, difference.low],
     );
-    say(trimmed(&row));
-    say(b"\n");
+    say(to, trimmed(&row));
+    say(to, b"\n");
 }
 
 // Says the row at a place of a record, or of two with the carets where they differ in this row.
-fn say_row(first: &[u8], second: &[u8], difference: Difference, at: usize)
+fn say_row(to: &impl Print, first: &[u8], second: &[u8], difference: Difference, at: usize)
     requires { at + 1 < 2 ^ 64 }
 {
     if second.len() == 0 {
-        say_bytes(at + 1, b"", bytes_at(first, at));
+        say_bytes(to, at + 1, b"", bytes_at(first, at));
         return;
     }
-    say_bytes(at + 1, b"first", bytes_at(first, at));
-    say_bytes(0, b"second", bytes_at(second, at));
+    say_bytes(to, at + 1, b"first", bytes_at(first, at));
+    say_bytes(to, 0, b"second", bytes_at(second, at));
     if difference.byte / 16 == at / 16 {
-        say_carets(difference);
+        say_carets(to, difference);
     }
 }
 
@@ -126,53 +127,60 @@ fn repeats(record: &[u8], at: usize) -> bool {
 }
 
 // Says that the rows above, up to a byte, were left out.
-fn say_left_out(byte: usize) {
-    say(b"        the same up to byte ");
-    number(byte);
-    say(b"\n");
+fn say_left_out(to: &impl Print, byte: usize) {
+    say(to, b"        the same up to byte ");
+    number(to, byte);
+    say(to, b"\n");
 }
 
 // Says the row at a place or leaves it out; answers whether the last row was left out.
-fn step(first: &[u8], second: &[u8], difference: Difference, at: usize, is_left_out: bool) -> bool
+fn step(
+    to: &impl Print,
+    first: &[u8],
+    second: &[u8],
+    difference: Difference,
+    at: usize,
+    is_left_out: bool,
+) -> bool
     requires { at + 1 < 2 ^ 64 }
 {
     if repeats(first, at) && repeats(second, at) {
         return true;
     }
     if is_left_out {
-        say_left_out(at);
+        say_left_out(to, at);
     }
-    say_row(first, second, difference, at);
+    say_row(to, first, second, difference, at);
     false
 }
 
 // Says the rows of so many bytes.
-fn say_rows(first: &[u8], second: &[u8], difference: Difference, length: usize) {
+fn say_rows(to: &impl Print, first: &[u8], second: &[u8], difference: Difference, length: usize) {
     let mut is_left_out = false;
     let mut at = 0;
     while at < length {
-        is_left_out = step(first, second, difference, at, is_left_out);
+        is_left_out = step(to, first, second, difference, at, is_left_out);
         if length - at <= 16 {
             break;
         }
         at += 16;
     }
     if is_left_out {
-        say_left_out(length);
+        say_left_out(to, length);
     }
 }
 
 // Says two records, of which the second is not the shorter.
-pub(crate) fn pair(first: &[u8], second: &[u8], difference: Difference) {
-    say_rows(first, second, difference, second.len());
+pub(crate) fn pair(to: &impl Print, first: &[u8], second: &[u8], difference: Difference) {
+    say_rows(to, first, second, difference, second.len());
 }
 
 // Says one record.
-pub(crate) fn single(record: &[u8]) {
+pub(crate) fn single(to: &impl Print, record: &[u8]) {
     let nowhere = Difference {
         byte: 0,
         high: BLANK,
         low: BLANK,
     };
-    say_rows(record, b"", nowhere, record.len());
+    say_rows(to, record, b"", nowhere, record.len());
 }

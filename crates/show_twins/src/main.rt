@@ -2,6 +2,8 @@
 // length. The records, why they become alike and what they become is shown on standard error. They are also written to the files that are
 // asked for: their bytes alone, and a reel that a run of the deck takes. What is refused, and a file that cannot be read or written, is said
 // in plain words on standard error; such a file gives no line.
+#![tactic(auto)]
+
 mod arguments;
 mod blocks;
 mod fields;
@@ -14,6 +16,7 @@ ghost use Rattle.std.specs.Prelude.{◌≡◌, length};
 ghost use Rattle.rows.specs.Fair.{PlanFair};
 
 use arguments::Wanted;
+use std::io::Print;
 use terms::Asked;
 
 // Room for the longest twins: each has at most 4,096 bytes, and one more where the tail is shown.
@@ -23,21 +26,21 @@ fn twins_room() -> [u8; 8193]
     [0; 8193]
 }
 
-fn refused(deck: &[u8], refusal: usize, place: usize, column: usize) {
-    notices::line(&[refusal, place, column, 0, 0]);
-    notices::refused(deck, refusal, place, column);
+fn refused(rt: &HostRuntime, deck: &[u8], refusal: usize, place: usize, column: usize) {
+    notices::line(rt, &[refusal, place, column, 0, 0]);
+    notices::refused(&rt.stderr(), deck, refusal, place, column);
 }
 
 // Whether the file that is asked for now holds the bytes of both records. An empty name asks for none.
-fn write_records(path: &[u8], bytes: &[u8]) -> bool {
+fn write_records(rt: &HostRuntime, path: &[u8], bytes: &[u8]) -> bool {
     if path.len() == 0 {
         return true;
     }
-    files::write(path, bytes, files::NO_MODE)
+    files::write(rt, path, bytes, files::NO_MODE)
 }
 
 // The same for their reel, which a run of the deck takes: copies of the first stand in for the records before R.
-fn write_reel(path: &[u8], asked: Asked, first: &[u8], second: &[u8]) -> bool {
+fn write_reel(rt: &HostRuntime, path: &[u8], asked: Asked, first: &[u8], second: &[u8]) -> bool {
     if path.len() == 0 {
         return true;
     }
@@ -45,17 +48,19 @@ fn write_reel(path: &[u8], asked: Asked, first: &[u8], second: &[u8]) -> bool {
     let mut room = io::large_buffer();
     let n = blocks::reel(format, asked.first, first, second, &mut room);
     if n == 0 {
-        files::say_name(path);
+        files::say_name(&rt.stderr(), path);
         notices::say(
+            &rt.stderr(),
             b": not written: with the records before R the reel would have more than 65,536 bytes\n",
         );
         return true;
     }
-    files::write(path, room::front(&room, n), files::NO_MODE)
+    files::write(rt, path, room::front(&room, n), files::NO_MODE)
 }
 
 // What people see: the records, why they become alike, and what they become.
 fn explain(
+    to: &impl Print,
     deck: &[u8],
     asked: Asked,
     fields: &[u16],
@@ -66,15 +71,16 @@ fn explain(
 )
     requires { PlanFair asked fields.now }
 {
-    notices::say(b"two records that this deck makes one:\n");
-    hex::pair(first, second, hex::lost_digits(lost, reason == 4));
-    reason::explain(deck, asked, fields, reason, lost);
-    notices::say(b"both become:\n");
-    outcome::show(asked, fields, first);
+    notices::say(to, b"two records that this deck makes one:\n");
+    hex::pair(to, first, second, hex::lost_digits(lost, reason == 4));
+    reason::explain(to, deck, asked, fields, reason, lost);
+    notices::say(to, b"both become:\n");
+    outcome::show(to, asked, fields, first);
 }
 
 // The twins are of one length but for the tail, so that the first ends in the middle. The files come first: one that is not written gives no line.
 fn show(
+    rt: &HostRuntime,
     deck: &[u8],
     asked: Asked,
     fields: &[u16],
@@ -89,18 +95,27 @@ fn show(
     let n = both.len() / 2;
     let first = room::front(both, n);
     let second = room::behind(both, n);
-    if write_records(records, both) && write_reel(reel, asked, first, second) {
-        notices::line(&[0, 0, 0, reason, both.len()]);
-        explain(deck, asked, fields, reason, lost, first, second);
+    if write_records(rt, records, both) && write_reel(rt, reel, asked, first, second) {
+        notices::line(rt, &[0, 0, 0, reason, both.len()]);
+        explain(
+            &rt.stderr(),
+            deck,
+            asked,
+            fields,
+            reason,
+            lost,
+            first,
+            second,
+        );
     }
 }
 
 // A deck that has twins has a plan, so that its second refusal does not arise.
-fn show_twins(deck: &[u8], records: &[u8], reel: &[u8]) {
+fn show_twins(rt: &HostRuntime, deck: &[u8], records: &[u8], reel: &[u8]) {
     let mut room = twins_room();
     let twins = bhexodana::bhx_twins(deck, &mut room);
     if twins.refusal != 0 {
-        refused(deck, twins.refusal, twins.place, twins.column);
+        refused(rt, deck, twins.refusal, twins.place, twins.column);
         return;
     }
     let mut row = [0u16; 320];
@@ -110,6 +125,7 @@ fn show_twins(deck: &[u8], records: &[u8], reel: &[u8]) {
         let both = room::front(&room, twins.length);
         let end = 5 * asked.count;
         show(
+            rt,
             deck,
             asked,
             &row[..end],
@@ -122,38 +138,41 @@ fn show_twins(deck: &[u8], records: &[u8], reel: &[u8]) {
     }
 }
 
-fn show_files(deck: &[u8], records: &[u8], reel: &[u8]) {
+fn show_files(rt: &HostRuntime, deck: &[u8], records: &[u8], reel: &[u8]) {
     let mut cards = io::large_buffer();
-    let read = files::deck(deck, &mut cards);
+    let read = files::deck(rt, deck, &mut cards);
     if read.failed {
         return;
     }
     // A deck that is longer than the room is refused without a column, so its cards are not asked for.
     if read.refusal != 0 {
-        refused(b"", read.refusal, read.place, 0);
+        refused(rt, b"", read.refusal, read.place, 0);
         return;
     }
     let n = read.length;
-    show_twins(&cards[..n], records, reel);
+    show_twins(rt, &cards[..n], records, reel);
 }
 
-fn show_named(wanted: Wanted) {
+fn show_named(rt: &HostRuntime, wanted: Wanted) {
     let mut deck = io::buffer();
-    let n = files::name(1, &mut deck);
+    let n = files::name(rt, 1, &mut deck);
     let mut records = io::buffer();
-    let m = arguments::file(wanted.records, &mut records);
+    let m = arguments::file(rt, wanted.records, &mut records);
     let mut reel = io::buffer();
-    let k = arguments::file(wanted.reel, &mut reel);
+    let k = arguments::file(rt, wanted.reel, &mut reel);
     if n > 0 && (m > 0 || wanted.records == 0) && (k > 0 || wanted.reel == 0) {
-        show_files(&deck[..n], &records[..m], &reel[..k]);
+        show_files(rt, &deck[..n], &records[..m], &reel[..k]);
     }
 }
 
-fn main() {
-    let wanted = arguments::read();
+fn main(rt: HostRuntime) {
+    let wanted = arguments::read(&rt);
     if wanted.right {
-        show_named(wanted);
+        show_named(&rt, wanted);
         return;
     }
-    notices::say(b"usage: show_twins DECK [records FILE] [reel FILE]\n");
+    notices::say(
+        &rt.stderr(),
+        b"usage: show_twins DECK [records FILE] [reel FILE]\n",
+    );
 }

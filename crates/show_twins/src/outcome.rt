@@ -4,6 +4,7 @@ ghost use Rattle.rows.specs.Fair.{PlanFair};
 ghost use Rattle.show_twins.specs.First.{asked_from_first};
 
 use crate::{blocks, hex, room};
+use std::io::Print;
 use terms::{Asked, Format};
 
 // The plan, but that it takes the records from the first on.
@@ -26,7 +27,7 @@ fn data_start(format: Format) -> usize {
 }
 
 // A run that is refused has no output, so that nothing is shown.
-pub(crate) fn show(asked: Asked, fields: &[u16], record: &[u8])
+pub(crate) fn show(to: &impl Print, asked: Asked, fields: &[u16], record: &[u8])
     requires { PlanFair asked fields.now }
 {
     let format = asked.format;
@@ -34,5 +35,8 @@ pub(crate) fn show(asked: Asked, fields: &[u16], record: &[u8])
     let n = blocks::reel(format, 1, record, b"", &mut reel);
     let mut out = io::large_buffer();
     let ran = runs::run_plan(from_first(asked), fields, room::front(&reel, n), &mut out);
-    hex::single(room::behind(room::front(&out, ran.length), data_start(format)));
+    hex::single(
+        to,
+        room::behind(room::front(&out, ran.length), data_start(format)),
+    );
 }

@@ -1,21 +1,26 @@
-// How programs say words: plain text, numbers and counts, on standard error.
-use libc::STDERR_FILENO;
+// How programs say words: plain text, numbers, counts, and why a call of the system failed. They go to the writer that is lent, which programs take for standard error;
+// what it does not take is lost.
+#![tactic(auto)]
 
-// Words on standard error.
-pub fn say(text: &[u8]) {
-    io::write_all(STDERR_FILENO, text);
+mod reason;
+
+pub use reason::fail;
+use std::io::Print;
+
+pub fn say(to: &impl Print, text: &[u8]) {
+    let _ = to.write_all(text);
 }
 
-pub fn number(n: usize) {
-    io::print_decimal(STDERR_FILENO, n as u64);
+pub fn number(to: &impl Print, n: usize) {
+    let _ = to.print(n);
 }
 
 // Says so many of what has this name.
-pub fn many(count: usize, name: &[u8]) {
-    number(count);
-    say(b" ");
-    say(name);
+pub fn many(to: &impl Print, count: usize, name: &[u8]) {
+    number(to, count);
+    say(to, b" ");
+    say(to, name);
     if count != 1 {
-        say(b"s");
+        say(to, b"s");
     }
 }
