@@ -1,6 +1,6 @@
 ! Bhexodana for Fortran: converts reels of blocked records as the cards of a deck ask.
 !
-! Link with libbhexodana.a, which `rt staticlib bhexodana` writes for x86-64 Linux. include/bhexodana.h lists the refusals, their places and columns.
+! Link with libbhexodana.a, which `./bhexodana build` writes for x86-64 Linux. include/bhexodana.h lists the refusals, their places and columns.
 !
 ! A deck may be given in three ways:
 !   cards     an array of card images, character(len=80) or shorter; what is right of the text counts as comment

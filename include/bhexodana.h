@@ -1,7 +1,7 @@
 /*
  * Bhexodana: converts reels of blocked records as the cards of a deck ask.
  *
- * Link with libbhexodana.a, which `rt staticlib bhexodana` writes for x86-64 Linux.
+ * Link with libbhexodana.a, which `./bhexodana build` writes for x86-64 Linux.
  *
  * Memory
  *   The caller owns all of it. The library keeps no pointer after a call, reserves nothing and has nothing to free. It has no state of its own,

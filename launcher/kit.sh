@@ -1,43 +1,60 @@
 # shellcheck shell=bash
-# To be sourced: where Rattle's kit stands, found from its command rt, and how programs are built. Sets rt and tools.
+# To be sourced: where Rattle's kit stands, found from its command rt, and how programs are built. Sets rt, kit and tools.
 rt=$(command -v rt) || { printf '%s\n' "rt, the command of Rattle's kit, is not on the PATH" >&2; exit 2; }
-tools=${RATTLE_HOME:-$(cd "$(dirname "$(readlink -f "$rt")")/.." && pwd -P)}/on/$(uname -m)/toolchain
+kit=$(cd "$(dirname "$(readlink -f "$rt")")/.." && pwd -P)
+tools=$kit/toolchain
 # shellcheck source=launcher/machine.sh
 . "${BASH_SOURCE[0]%/*}/machine.sh"
 
-# Says how a build goes on, where words are wanted; or of all that a build says, which crates are proved, as soon as they are.
+# Where a program of the repository stands once it is built, into the variable program: program_in ROOT PROGRAM.
+program_in() {
+    program=$1/crates/$2/out/$2
+}
+
+# Says how a build goes on, where words are wanted; or of all that a build says, which crate is being proved, and what goes wrong.
 telling() {
     [ -n "${quiet-}" ] || printf '%s\n' "$1" >&2
 }
 
+# It ends with 0 where rt comes to run a program, which it does once that is proved and built.
 telling_of() {
-    local line
+    local line status=1
     while IFS= read -r line; do
         case $line in
-            'rt: '*'(unchanged since'*) ;;
+            'rt: running '*) status=0 ;;
+            'rt: chose --jobs '*) telling "proving ${line##* }" ;;
+            'rt: nothing has changed '* | 'rt: '*': begins with what a check kept in '*) ;;
             'rt: '*) telling "$line" ;;
         esac
     done
+    return $status
 }
 
-# Whether a file is there and no older than the crates: is_fresh ROOT FILE.
+# Whether a file is there and no older than what is proved: is_fresh ROOT FILE. What was made stands among the crates too, in out/.
 is_fresh() {
-    [ -e "$2" ] && [ -z "$(find "$1/crates" -newer "$2" -print -quit)" ]
+    [ -e "$2" ] && [ ! "$1/crates.txt" -nt "$2" ] && [ -z "$(find "$1"/crates/*/{src,specs,proofs} -newer "$2" -print -quit 2>/dev/null)" ]
 }
 
 # Whether a program of the repository is built: is_built ROOT PROGRAM. One that is older than the crates may have been proved again since, and is marked.
 is_built() {
-    [ -x "$1/target/bin/$2" ] && { is_fresh "$1" "$1/target/made-$2" || is_fresh "$1" "$1/target/bin/$2"; }
+    local program
+    program_in "$@"
+    [ -x "$program" ] && { is_fresh "$1" "$1/target/made-$2" || is_fresh "$1" "$program"; }
 }
 
-# Proves programs and all that they stand on, two crates at a time, and says which are proved: prove ROOT PROGRAM..
+# Proves programs and all that they stand on, and says what is being proved: prove ROOT PROGRAM.. rt has no word that builds a program and does not run it; without arguments
+# and input each ends at once.
 prove() {
-    local root=$1 program status
+    local root=$1 name
     shift
     telling "building $*: first all that this stands on is proved, which takes some minutes"
-    status=$({ (cd "$root" && "$rt" check "$@" 2>&1; printf '%s\n' $? >&3) | telling_of; } 3>&1)
-    [ "$status" = 0 ] || { printf '%s could not be built: (cd %q && rt check %s) says why\n' "$*" "$root" "$*" >&2; return 2; }
-    for program; do touch "$root/target/made-$program"; done
+    for name; do
+        (cd "$root/crates/$name" && "$rt" run </dev/null 2>&1 >/dev/null) | telling_of || {
+            printf '%s could not be built: (cd %q && rt run) says why\n' "$name" "$root/crates/$name" >&2
+            return 2
+        }
+        touch "$root/target/made-$name"
+    done
 }
 
 # Runs a call while no other build goes on in the repository: alone ROOT CALL... A job array may start on a fresh clone.
@@ -55,10 +72,10 @@ alone() {
 
 # Those of these programs that are missing or older than the crates go into the array missing: find_missing ROOT PROGRAM..
 find_missing() {
-    local root=$1 program
+    local root=$1 name
     shift
     missing=()
-    for program; do is_built "$root" "$program" || missing+=("$program"); done
+    for name; do is_built "$root" "$name" || missing+=("$name"); done
     [ ${#missing[@]} -gt 0 ]
 }
 

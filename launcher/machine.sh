@@ -1,11 +1,10 @@
 # shellcheck shell=bash
-# To be sourced: how a program runs on either processor. Asks for tools, the folder of the loader and the C library that programs run under.
+# To be sourced: how a program runs. Asks for tools, the folder of the loader and the C library that programs run under.
 
-# Becomes a program, with its arguments, under that loader and, where the processor is not x86-64, under the emulator.
+# Becomes a program, with its arguments, under that loader: the C library that it was linked against goes with it, also where the system has another. It is told its own name
+# alone, since the folder's need not be a text.
 become() {
-    emulator=$tools/bin/qemu-x86_64
-    [ -x "$emulator" ] || emulator=
-    exec ${emulator:+"$emulator"} "$tools/lib/ld-linux-x86-64.so.2" --library-path "$tools/lib" "$@"
+    exec "$tools/lib/ld-linux-x86-64.so.2" --argv0 "${1##*/}" --library-path "$tools/lib" "$@"
 }
 
 # Runs a program, with its arguments.

@@ -4,8 +4,9 @@
 
 # What made the outputs: the version, and the first digits of the checksum of the program.
 maker() {
-    local sums=()
-    checksums "$programs/convert_reels"
+    local sums=() program
+    program_of convert_reels
+    checksums "$program"
     made_by=$version-${sums[0]:0:12}
 }
 

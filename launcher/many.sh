@@ -92,12 +92,13 @@ list_reels() {
 
 # Starts a program for each part of the list, as many as are asked for, and no more than there are reels.
 start_parts() {
-    local size i
+    local size i asked=() into
+    stand_in_list
     size=$(((${#list[@]} + jobs - 1) / jobs))
     count_parts=0
     for ((i = 0; i < ${#list[@]}; i += size)); do
-        printf '%s\0' "${list[@]:i:size}" >"$work/names.$count_parts"
-        start convert_reels --modes "$deck" "$folder" <"$work/names.$count_parts" >"$work/lines.$count_parts" 2>"$work/words.$count_parts"
+        printf '%s\0' "${asked[@]:i:size}" >"$work/names.$count_parts"
+        start convert_reels --modes "$deck" "$into" <"$work/names.$count_parts" >"$work/lines.$count_parts" 2>"$work/words.$count_parts"
         count_parts=$((count_parts + 1))
     done
 }
@@ -186,7 +187,7 @@ gather_members() {
     inputs=("${sums[@]:0:${#paths[@]}}")
     for ((i = 0; i < ${#sums[@]}; i++)); do
         if [[ $i -lt ${#paths[@]} ]]; then reel=${paths[i]}; else reel=${refused[i - ${#paths[@]}]}; fi
-        show "$reel"
+        styled "$reel" on_line
         entries+=("$made_by $deck_sum ${sums[i]} ${outputs[i]:--} ${numbers_of[=$reel]} $shown")
     done
     drop_unread
@@ -227,7 +228,7 @@ convert_all() {
 
 # Converts what is listed into the folder. The manifest is there before a line is printed, since who reads the lines may stop.
 fill_folder() {
-    local shown
+    local shown odd
     checksums "$deck"
     deck_sum=${sums[0]}
     not_of_another
@@ -240,6 +241,7 @@ fill_folder() {
     list_reels
     start_parts
     watch_parts
+    [[ -z $odd ]] || true_parts
     read_parts
     gather_members
     with_manifest enter

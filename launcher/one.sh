@@ -19,6 +19,7 @@ said_by() {
 
 # Runs a program, and takes its lines into the array lines. Its words are passed on as they come, but wait where they are not wanted.
 lines_of() {
+    all_text "$@" || need_work
     if [[ -z $quiet ]]; then
         mapfile -t lines < <(run "$@")
         return
@@ -31,6 +32,8 @@ lines_of() {
 plan() {
     local given lines=()
     take 'strict table picture force no-clobber json' "$@"
+    [[ -n $picture || -z $force ]] || wrong_usage --force 'plan has no such option'
+    [[ -n $picture || -z $no_clobber ]] || wrong_usage --no-clobber 'plan has no such option'
     called 'refusal place keeping lost'
     [[ ${#words[@]} -eq 1 ]] || wrong_usage
     given=${words[0]}
@@ -72,15 +75,18 @@ writes() {
 
 # Runs a program that writes to its end, and takes its line; its words likewise.
 line_of() {
+    local given=() odd=
     need_work
-    if [[ -n $quiet ]]; then
-        start "$@" >"$work/line" 2>"$work/words"
+    stand_in "$@"
+    if [[ -n $quiet || -n $odd ]]; then
+        start "${given[@]}" >"$work/line" 2>"$work/words"
     else
         start "$@" >"$work/line"
     fi
     wait "${running[@]}"
     running=() line=
     IFS= read -r line <"$work/line"
+    [[ -z $odd ]] || true_names
     [[ -z $quiet ]] || said_by "$line"
 }
 

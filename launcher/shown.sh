@@ -60,9 +60,10 @@ in_xml() {
     esac
 }
 
-# A name for people and on lines, into the variable shown.
+# A name for people and on lines, into the variable shown: one without a control character as it is.
 show() {
     styled "$1" on_line
+    [[ ${shown//\\\\/\\} != "$1" ]] || shown=$1
 }
 
 # ---- words, on standard error
