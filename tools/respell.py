@@ -1,7 +1,7 @@
 #!/usr/bin/env python3
 """Brings the names that this repository gave its definitions, constructors, fields and lemmas to the spelling of today's Rattle.
 
-usage: tools/respell.py [ROOT]     once, behind /opt/rattle/port/port.py
+usage: tools/respell.py [ROOT]     once, behind the kit's port.py
 
 Words are in snake case, types in upper camel case. A name is respelled where the repository declares it, in a file of specs/ or of proofs/, and wherever a file
 cites it: other .antt files, clauses and `ghost use` lines of .rt files, comments in backticks, and must-fail edits. What a file imports from the kit keeps its
