@@ -118,69 +118,39 @@ pub struct Entry {
 pub fn is_tc(mode: Mode) -> bool
     ensures { result ≡ is_tc (mode_of mode) }
 {
-    match mode {
-        Mode::TC => true,
-        Mode::TF => false,
-        Mode::TR => false,
-        Mode::TRF => false,
-    }
+    matches!(mode, Mode::TC)
 }
 
 pub fn is_ff(format: Format) -> bool
     ensures { result ≡ is_ff (format_of format) }
 {
-    match format {
-        Format::FF => true,
-        Format::FV => false,
-        Format::FU => false,
-        Format::FS => false,
-    }
+    matches!(format, Format::FF)
 }
 
 pub fn is_fu(format: Format) -> bool
     ensures { result ≡ is_fu (format_of format) }
 {
-    match format {
-        Format::FF => false,
-        Format::FV => false,
-        Format::FU => true,
-        Format::FS => false,
-    }
+    matches!(format, Format::FU)
 }
 
 pub fn is_fv(format: Format) -> bool
     ensures { result ≡ is_fv (format_of format) }
 {
-    match format {
-        Format::FF => false,
-        Format::FV => true,
-        Format::FU => false,
-        Format::FS => false,
-    }
+    matches!(format, Format::FV)
 }
 
 // Spanned records (document 02, order 6).
 pub fn is_fs(format: Format) -> bool
     ensures { result ≡ is_fs (format_of format) }
 {
-    match format {
-        Format::FF => false,
-        Format::FV => false,
-        Format::FU => false,
-        Format::FS => true,
-    }
+    matches!(format, Format::FS)
 }
 
 // TF or TRF.
 pub fn selects(mode: Mode) -> bool
     ensures { result ≡ ruleSelects (mode_of mode) }
 {
-    match mode {
-        Mode::TC => false,
-        Mode::TF => true,
-        Mode::TR => false,
-        Mode::TRF => true,
-    }
+    matches!(mode, Mode::TF | Mode::TRF)
 }
 
 // n, or 0 where one number stands.
@@ -208,10 +178,8 @@ pub fn cost(format: Format) -> usize
     ensures { result ≡ costOf (format_of format) }
 {
     match format {
-        Format::FF => 0,
         Format::FV => 4,
-        Format::FU => 0,
-        Format::FS => 0,
+        Format::FF | Format::FU | Format::FS => 0,
     }
 }
 
@@ -219,11 +187,7 @@ pub fn cost(format: Format) -> usize
 pub fn kind_number(kind: Kind) -> u8
     ensures { result ≡ kind_number (kind_of kind 0 0) }
 {
-    match kind {
-        Kind::Copy => 0,
-        Kind::Pack => 1,
-        Kind::Unpack => 2,
-    }
+    kind as u8
 }
 
 // ---- numbers
@@ -232,5 +196,5 @@ pub fn kind_number(kind: Kind) -> u8
 pub fn wide(byte: u8) -> usize
     ensures { (result ≡ byte) × (result < 256) }
 {
-    byte as usize
+    usize::from(byte)
 }
