@@ -9,28 +9,8 @@ fn short(src: &[u8], dst: &mut [u8])
     requires { length src.now ≤ length dst.old }
     ensures { dst.new ≡ over 0 src.now dst.old }
 {
-    let mut i = 0;
-    while i < src.len() {
-        dst[i] = src[i];
-        i += 1;
-    }
-}
-
-// Copies by way of an array: as all is read before anything is written, the compiler makes one memmove of both loops, and no array.
-fn long(src: &[u8], dst: &mut [u8])
-    requires { (length src.now ≤ 65536) × (length src.now ≤ length dst.old) }
-    ensures { dst.new ≡ over 0 src.now dst.old }
-{
-    let mut whole = [0u8; 65536];
-    let mut i = 0;
-    while i < src.len() {
-        whole[i] = src[i];
-        i += 1;
-    }
-    let mut j = 0;
-    while j < src.len() {
-        dst[j] = whole[j];
-        j += 1;
+    for (i, byte) in src.iter().enumerate() {
+        dst[i] = *byte;
     }
 }
 
@@ -43,5 +23,5 @@ pub fn copy(src: &[u8], dst: &mut [u8])
         short(src, dst);
         return;
     }
-    long(src, dst);
+    dst[..src.len()].copy_from_slice(src);
 }

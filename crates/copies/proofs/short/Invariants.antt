@@ -1,11 +1,6 @@
--- `copies::short` meets its contract: before each turn the first i bytes of src stand in dst.
-use Prim.Native.Nat.{◌-◌}
-use lib.ListN.{length}
-use Rattle.copies.proofs.Copying.{Copying}
+-- Before each turn the first i bytes of src stand before the rest of dst.
+use Rattle.std.proofs.Common.{◌≡◌, ◌++◌, take, drop}
 use Rattle.copies.proofs.short.Given as goal
 
 abbrev pub invariant-loop-i : goal.invariant-loop-i
-invariant-loop-i l = Copying l.src l.initial.dst l.dst l.i
-
-abbrev pub decreases-loop-i : goal.decreases-loop-i
-decreases-loop-i l = length l.src - l.i
+invariant-loop-i l = l.dst ≡ take l.i l.src ++ drop l.i l.initial.dst
