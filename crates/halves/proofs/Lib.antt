@@ -1,4 +1,3 @@
-pub mod Filling
 pub mod PromiseLaws
 mod PackPlaces
 mod UnpackPairs

@@ -3,12 +3,15 @@
 use mathlib.Core.Path.{◌≡◌, sym, ◌∙◌}
 use mathlib.Core.Bool.{true, false}
 use mathlib.Core.List.{List}
-use Prim.Native.Nat.{ℕ, ◌≤◌}
-use lib.ListN.{length}
+use Prim.Native.Nat.{ℕ, ◌≤◌, ◌<◌}
+use native.Mathlib.Omega.{arith}
+use lib.ListN.{length, get_or}
+use lib.Seq.{ext_get_or}
 use Rattle.rules.specs.Base.{within}
 use Rattle.rules.specs.Halves.{pack_bytes, unpack_bytes}
 use Rattle.rules.specs.Lent.{zone_f}
 use Rattle.rules.proofs.Base.Tests.{and_left, and_right, and_both, within_low, within_high, within_of}
+use Rattle.rules.proofs.Halves.BytePlaces.{length_pack_bytes, length_unpack_bytes}
 use Rattle.halves.specs.Promise.{both_allowed, packed_into, unpacked_into}
 
 -- ---- the sizes
@@ -40,6 +43,21 @@ module _ (s d : List ℕ) where
   pub unpacked_stays : both_allowed (length s) (length d) ≡ false → unpacked_into s d ≡ d
   unfolding unpacked_into
   unpacked_stays e = rw e
+
+  -- an output that has at each place what stands there in the field
+  module _ (new : List ℕ) (both : both_allowed (length s) (length d) ≡ true) (same : length new ≡ length d) where
+    some : (1 ≤ length s) × (1 ≤ length d)
+    some = let p = sizes_of (length s) (length d) both in (p.0.0, p.1.0)
+
+    pub packed_each : ((i : ℕ) → i < length d → get_or new i 0 ≡ get_or (pack_bytes (length d) s) i 0) → new ≡ packed_into s d
+    packed_each each =
+        ext_get_or 0 new (pack_bytes (length d) s) (same ∙ sym (length_pack_bytes (length d) s some.0 some.1)) (λ i l. each i (omega arith))
+        ∙ sym (packed_allowed both)
+
+    pub unpacked_each : ((i : ℕ) → i < length d → get_or new i 0 ≡ get_or (unpack_bytes zone_f (length d) s) i 0) → new ≡ unpacked_into s d
+    unpacked_each each =
+        ext_get_or 0 new (unpack_bytes zone_f (length d) s) (same ∙ sym (length_unpack_bytes zone_f (length d) s some.0 some.1)) (λ i l. each i (omega arith))
+        ∙ sym (unpacked_allowed both)
 
   module _ (a : 1 ≤ length s) (b : length s ≤ 16) (c : 1 ≤ length d) (e : length d ≤ 16) where
     pub packed_whole : packed_into s d ≡ pack_bytes (length d) s

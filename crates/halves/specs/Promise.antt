@@ -1,6 +1,6 @@
 -- What pack and unpack leave in the lent output, for every input: the field of document 01, "Half bytes", and where a size is not 1 to 16,
 -- which document 01's limits never let through, the output as it was.
-use Rattle.std.specs.Prelude.{Bool, cond, ◌&&◌, List, ◌++◌, ℕ, length, take, drop}
+use Rattle.std.specs.Prelude.{Bool, cond, ◌&&◌, List, ℕ, length}
 use Rattle.rules.specs.Base.{within}
 use Rattle.rules.specs.Halves.{pack_bytes, unpack_bytes}
 use Rattle.rules.specs.Lent.{zone_f}
@@ -14,7 +14,3 @@ packed_into s d = cond (both_allowed (length s) (length d)) (pack_bytes (length 
 
 unfoldable pub unpacked_into : List ℕ → List ℕ → List ℕ
 unpacked_into s d = cond (both_allowed (length s) (length d)) (unpack_bytes zone_f (length d) s) d
-
--- as far as a place the output as it was, and from there on the unpacked field
-unfoldable pub unpacked_from : ℕ → List ℕ → List ℕ → List ℕ
-unpacked_from at s d = take at d ++ drop at (unpack_bytes zone_f (length d) s)

@@ -1,11 +1,11 @@
 // Pack and unpack fields of 1 to 16 bytes (document 01, "Half bytes").
 #![tactic(auto)]
 
-ghost use Rattle.std.specs.Prelude.{◌≡◌, ◌+◌, ◌*◌, ◌-◌, ◌/◌, ◌%◌, ◌≤◌, ◌<◌, length, get_or};
+ghost use Rattle.std.specs.Prelude.{◌≡◌, ℕ, ◌+◌, ◌*◌, ◌-◌, ◌/◌, ◌%◌, ◌≤◌, ◌<◌, length, get_or};
 ghost use Rattle.rules.specs.Base.{within};
 ghost use Rattle.rules.specs.Halves.{halves, pack_bytes, unpack_bytes};
 ghost use Rattle.rules.specs.Lent.{zone_f};
-ghost use Rattle.halves.specs.Promise.{both_allowed, packed_into, unpacked_from, unpacked_into};
+ghost use Rattle.halves.specs.Promise.{both_allowed, packed_into, unpacked_into};
 
 use terms::ZONE;
 
@@ -13,7 +13,7 @@ use terms::ZONE;
 fn allowed(size: usize) -> bool
     ensures { result ≡ within 1 16 size }
 {
-    1 <= size && size <= 16
+    (1..=16).contains(&size)
 }
 
 // Whether n bytes may become m.
@@ -59,17 +59,15 @@ fn pack_at(src: &[u8], m: usize, i: usize) -> u8
     0
 }
 
-// src packed into all of dst, from the right end.
-fn put_packed(src: &[u8], dst: &mut [u8])
-    requires in_bounds { (1 ≤ length src.now) × (length src.now ≤ 16) }
-    requires in_bounds_2 { (1 ≤ length dst.old) × (length dst.old ≤ 16) }
-    ensures { dst.new ≡ pack_bytes (length dst.old) src.now }
+// Writes the bytes before an end from the right to the left, as document 01 does, each by its place.
+fn put_left<F: Fn(usize) -> u8>(byte: F, end: usize, dst: &mut [u8])
+    requires end_in_bounds { end ≤ length dst.old }
+    requires askable { (i : ℕ) → i < end → F.pre byte i }
+    ensures written { (i : ℕ) → i < end → F.post byte i (get_or dst.new i 0) }
+    ensures stays { (i : ℕ) → end ≤ i → get_or dst.new i 0 ≡ get_or dst.old i 0 }
 {
-    let m = dst.len();
-    let mut i = m;
-    while 0 < i {
-        i -= 1;
-        dst[i] = pack_at(src, m, i);
+    for i in (0..end).rev() {
+        dst[i] = byte(i);
     }
 }
 
@@ -77,8 +75,9 @@ fn put_packed(src: &[u8], dst: &mut [u8])
 pub fn pack(src: &[u8], dst: &mut [u8])
     ensures { dst.new ≡ packed_into src.now dst.old }
 {
-    if both_allowed(src.len(), dst.len()) {
-        put_packed(src, dst);
+    let m = dst.len();
+    if both_allowed(src.len(), m) {
+        put_left(|i| pack_at(src, m, i), m, dst);
     }
 }
 
@@ -111,44 +110,33 @@ fn unpack_at(src: &[u8], m: usize, i: usize) -> u8
     ZONE * 16 + half_at(src, 2 * last - before)
 }
 
-// The last byte turned, and going left from it two bytes for each byte of src, while dst has room for both. Before the place that is answered dst stays.
+// The last byte turned, and going left from it two bytes for each byte of src, while dst has room for both: each byte is read once. Answers from which place on
+// the field stands.
 fn put_pairs(src: &[u8], dst: &mut [u8]) -> usize
     requires in_bounds { (1 ≤ length src.now) × (length src.now ≤ 16) }
     requires in_bounds_2 { (1 ≤ length dst.old) × (length dst.old ≤ 16) }
-    ensures { (result ≤ length dst.old) × (dst.new ≡ unpacked_from result src.now dst.old) }
+    ensures place { result ≤ length dst.old }
+    ensures from_there { (i : ℕ) → result ≤ i → i < length dst.old → get_or dst.new i 0 ≡ get_or (unpack_bytes zone_f (length dst.old) src.now) i 0 }
 {
     let last = src.len() - 1;
     let end = dst.len() - 1;
     dst[end] = turned(src[last]);
-    let mut done = 0;
-    while done < last && 2 * done + 1 < end {
+    let pairs = last.min(end / 2);
+    for done in 0..pairs {
         let byte = src[last - 1 - done];
         dst[end - 1 - 2 * done] = ZONE * 16 + byte % 16;
         dst[end - 2 - 2 * done] = ZONE * 16 + byte / 16;
-        done += 1;
     }
-    end - 2 * done
-}
-
-// src unpacked into all of dst, from the right end.
-fn put_unpacked(src: &[u8], dst: &mut [u8])
-    requires in_bounds { (1 ≤ length src.now) × (length src.now ≤ 16) }
-    requires in_bounds_2 { (1 ≤ length dst.old) × (length dst.old ≤ 16) }
-    ensures { dst.new ≡ unpack_bytes zone_f (length dst.old) src.now }
-{
-    let m = dst.len();
-    let mut at = put_pairs(src, dst);
-    while 0 < at {
-        at -= 1;
-        dst[at] = unpack_at(src, m, at);
-    }
+    end - 2 * pairs
 }
 
 // Unpacks src into dst, where both sizes are allowed.
 pub fn unpack(src: &[u8], dst: &mut [u8])
     ensures { dst.new ≡ unpacked_into src.now dst.old }
 {
-    if both_allowed(src.len(), dst.len()) {
-        put_unpacked(src, dst);
+    let m = dst.len();
+    if both_allowed(src.len(), m) {
+        let at = put_pairs(src, dst);
+        put_left(|i| unpack_at(src, m, i), at, dst);
     }
 }

@@ -19,41 +19,31 @@ use Rattle.rules.proofs.Halves.FieldSteps.{written_bytes_step, length_field_byte
 use Rattle.rules.proofs.Base.LentParts.{part_length, part_over, front_over}
 use Rattle.rules.proofs.Halves.RecordLaws.{fits_wider}
 use Rattle.terms.specs.Meaning.{kind_of, field_of}
-use Rattle.terms.specs.declared.Kind.{Kind}
 use Rattle.terms.specs.declared.Field.{Field}
 use Rattle.halves.specs.Promise.{packed_into, unpacked_into}
 use Rattle.halves.proofs.PromiseLaws.{packed_whole, unpacked_whole}
-use Rattle.rows.specs.Flat.{flat_of, kind_at, field_at, FlatFair, Fielded}
+use Rattle.rows.specs.Flat.{flat_of, field_at, FlatFair, Fielded}
 use Rattle.records.specs.Promise.{FieldsWritten, out_bytes, Puts, Covers, ground_of}
 use Rattle.rows.proofs.FlatLaws.{fields_many, field_is, output_of_row, fits_at, sizes_at}
-use Rattle.rows.proofs.ReadLaws.{kind_copy, kind_pack, kind_unpack, lent_input, part_input, Reads, reads_inside, length_input}
+use Rattle.rows.proofs.ReadLaws.{lent_input, part_input, Reads, reads_inside, length_input}
 use Rattle.records.proofs.CoverLaws.{grounded}
 
 -- ---- one field
 
--- what is left in a field's part, by the number of its kind
-module _ (k : ℕ) (s d : List ℕ) (sizes : KindWithin (kind_of (kind_at k) (length s) (length d))) where
-  module _ (copies : k ≡ 0) (fills : output_size (kind_of (kind_at k) (length s) (length d)) ≡ length d) where
-    pub copied_size : (length s ≤ 65536) × (length s ≤ length d)
-    copied_size =
-        let w : KindWithin (copy (length s)) = rw (kind_copy k copies) at sizes in
-        let o : length s ≡ length d = rw (kind_copy k copies) at fills in
-        (omega (arith, w.1), omega (arith, o))
+-- what is left in a field's part, by its kind
+module _ (s d : List ℕ) where
+  module _ (fills : length s ≡ length d) where
+    pub copied_size : KindWithin (copy (length s)) → (length s ≤ 65536) × (length s ≤ length d)
+    copied_size w = (omega arith, omega arith)
 
-    pub copied : over 0 s d ≡ converted_bytes zone_f (kind_of (kind_at k) (length s) (length d)) s
-    copied =
-        let o : length s ≡ length d = rw (kind_copy k copies) at fills in
-        rw (kind_copy k copies) (over_whole s d (omega (arith, o)))
+    pub copied : over 0 s d ≡ converted_bytes zone_f (copy (length s)) s
+    copied = over_whole s d (omega arith)
 
-  pub packed : k ≡ 1 → packed_into s d ≡ converted_bytes zone_f (kind_of (kind_at k) (length s) (length d)) s
-  packed e =
-      let w : KindWithin (pack (length s) (length d)) = rw (kind_pack k e) at sizes in
-      rw (kind_pack k e) (packed_whole s d w.0.0 w.0.1 w.1.0 w.1.1)
+  pub packed : KindWithin (pack (length s) (length d)) → packed_into s d ≡ converted_bytes zone_f (pack (length s) (length d)) s
+  packed w = packed_whole s d w.0.0 w.0.1 w.1.0 w.1.1
 
-  pub unpacked : (k ≡ 0 → ⊥) → (k ≡ 1 → ⊥) → unpacked_into s d ≡ converted_bytes zone_f (kind_of (kind_at k) (length s) (length d)) s
-  unpacked e g =
-      let w : KindWithin (unpack (length s) (length d)) = rw (kind_unpack k e g) at sizes in
-      rw (kind_unpack k e g) (unpacked_whole s d w.0.0 w.0.1 w.1.0 w.1.1)
+  pub unpacked : KindWithin (unpack (length s) (length d)) → unpacked_into s d ≡ converted_bytes zone_f (unpack (length s) (length d)) s
+  unpacked w = unpacked_whole s d w.0.0 w.0.1 w.1.0 w.1.1
 
 -- the part of the output that is lent for a field
 abbrev lent_output : Field → List ℕ → List ℕ
@@ -64,52 +54,51 @@ pub record Lies (f : Field) (r out : List ℕ) : Type 0 where
   pub fits : Fits (length r) (length out) (field_of f)
   pub sizes : KindWithin (field_of f).kind
   pub size : f.output ≡ output_size (field_of f).kind
+  pub reads : Reads f r
+  pub low : 1 ≤ f.t
+  pub inside : f.t - 1 + f.output ≤ length out
 
-pub lies_at : {xs : List ℕ} {b : ℕ} (r out : List ℕ) (i : ℕ) → Fielded xs (length r) b → length out ≡ b → 5 * i + 5 ≤ length xs → (f : Field) → f ≡ field_at xs i → Lies f r out
-lies_at {xs} r out i x e l f q =
+lies_in : (f : Field) (r out : List ℕ) → Fits (length r) (length out) (field_of f) → KindWithin (field_of f).kind → f.output ≡ output_size (field_of f).kind → Lies f r out
+unfolding field_of
+lies_in f r out fits sizes size =
+    record {
+      fits = fits;
+      sizes = sizes;
+      size = size;
+      reads = reads_inside f r fits (omega arith);
+      low = fits.t_low;
+      inside = omega (arith, size, fits.t_low, fits.output_high);
+    }
+
+-- so does each field of a fair row
+pub lies_at : {xs r out : List ℕ} {b : ℕ} {f : Field} (i : ℕ) → Fielded xs (length r) b → length out ≡ b → f ≡ field_at xs i → 5 * i + 5 ≤ length xs → Lies f r out
+lies_at {xs} {r} {out} i x e q l =
     subst (λ (g : Field). Lies g r out) (sym q)
-    (record {
-      fits = subst (λ (n : ℕ). Fits (length r) n (field_of (field_at xs i))) (sym e) (fits_at x.fair i l);
-      sizes = sizes_at x.fair i l;
-      size = output_of_row x.fields x.fair.flat i l;
-    })
+    (lies_in (field_at xs i) r out (subst (λ (n : ℕ). Fits (length r) n (field_of (field_at xs i))) (sym e) (fits_at x.fair i l)) (sizes_at x.fair i l) (output_of_row x.fields x.fair.flat i l))
 
-module _ (f : Field) (r out : List ℕ) (lies : Lies f r out) where
-  pub read_inside : Reads f r
-  read_inside = reads_inside f r lies.fits (omega arith)
-
-  pub write_low : 1 ≤ f.t
-  unfolding field_of
-  write_low = lies.fits.t_low
-
-  pub write_inside : f.t - 1 + f.output ≤ length out
-  unfolding field_of
-  write_inside = omega (arith, lies.size, lies.fits.t_low, lies.fits.output_high)
-
+module _ {f : Field} {r out : List ℕ} (lies : Lies f r out) where
   length_out : length (lent_output f out) ≡ f.output
-  length_out = part_length (f.t - 1) f.output out write_inside
+  length_out = part_length (f.t - 1) f.output out lies.inside
 
-  module _ (k : ℕ) (named : f.kind ≡ kind_at k) where
-    part_kind : kind_of (kind_at k) (length (lent_input f r)) (length (lent_output f out)) ≡ (field_of f).kind
-    unfolding field_of
-    part_kind =
-        ap₂ (kind_of (kind_at k)) (length_input f r read_inside) length_out ∙ ap (λ (q : Kind). kind_of q f.input f.output) (sym named)
+  part_kind : kind_of f.kind (length (lent_input f r)) (length (lent_output f out)) ≡ (field_of f).kind
+  unfolding field_of
+  part_kind = ap₂ (kind_of f.kind) (length_input f r lies.reads) length_out
 
-    -- what is asked of the parts
-    pub part_within : KindWithin (kind_of (kind_at k) (length (lent_input f r)) (length (lent_output f out)))
-    part_within = subst KindWithin (sym part_kind) lies.sizes
+  -- what is asked of the parts
+  pub part_within : KindWithin (kind_of f.kind (length (lent_input f r)) (length (lent_output f out)))
+  part_within = subst KindWithin (sym part_kind) lies.sizes
 
-    pub part_filled : output_size (kind_of (kind_at k) (length (lent_input f r)) (length (lent_output f out))) ≡ length (lent_output f out)
-    part_filled = ap output_size part_kind ∙ sym lies.size ∙ sym length_out
+  pub part_filled : output_size (kind_of f.kind (length (lent_input f r)) (length (lent_output f out))) ≡ length (lent_output f out)
+  part_filled = ap output_size part_kind ∙ sym lies.size ∙ sym length_out
 
-    -- what comes back stands in the field's place
-    pub part_put : (ys : List ℕ) → ys ≡ converted_bytes zone_f (kind_of (kind_at k) (length (lent_input f r)) (length (lent_output f out))) (lent_input f r)
-        → put_mid (f.t - 1) (f.t - 1 + f.output - (f.t - 1)) out ys ≡ over (f.t - 1) (field_bytes zone_f (field_of f) r) out
-    unfolding field_bytes
-    part_put ys e =
-        let is : ys ≡ field_bytes zone_f (field_of f) r = e ∙ ap₂ (converted_bytes zone_f) part_kind (part_input f r) in
-        let many : length ys ≡ f.output = ap length is ∙ length_field_bytes zone_f (length r) (length out) r (omega arith) (field_of f) lies.fits ∙ sym lies.size in
-        part_over (f.t - 1) f.output out ys many ∙ ap (λ (x : List ℕ). over (f.t - 1) x out) is
+  -- what comes back stands in the field's place
+  pub part_put : {ys : List ℕ} → ys ≡ converted_bytes zone_f (kind_of f.kind (length (lent_input f r)) (length (lent_output f out))) (lent_input f r)
+      → put_mid (f.t - 1) (f.t - 1 + f.output - (f.t - 1)) out ys ≡ over (f.t - 1) (field_bytes zone_f (field_of f) r) out
+  unfolding field_bytes
+  part_put {ys} e =
+      let is : ys ≡ field_bytes zone_f (field_of f) r = e ∙ ap₂ (converted_bytes zone_f) part_kind (part_input f r) in
+      let many : length ys ≡ f.output = ap length is ∙ length_field_bytes zone_f (length r) (length out) r (omega arith) (field_of f) lies.fits ∙ sym lies.size in
+      part_over (f.t - 1) f.output out ys many ∙ ap (λ (x : List ℕ). over (f.t - 1) x out) is
 
 -- ---- field by field
 

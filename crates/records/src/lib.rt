@@ -8,40 +8,25 @@ ghost use Rattle.rules.specs.Lent.{zone_f};
 ghost use Rattle.rules.specs.Rows.{KindWithin};
 ghost use Rattle.rules.specs.RecordParts.{converted_bytes};
 ghost use Rattle.terms.specs.Meaning.{kind_of};
-ghost use Rattle.rows.specs.Flat.{kind_at, Fielded};
+ghost use Rattle.rows.specs.Flat.{Fielded};
 ghost use Rattle.records.specs.Promise.{FieldsWritten, Puts, Covers, farther_of, ground_of};
 
-use terms::Field;
+use terms::{Field, Kind};
 
 // What stands where no field writes.
 const BLANK: u8 = 0x40;
 
-// Fills a part with blanks.
-fn put_blanks(part: &mut [u8])
-    ensures { part.new ≡ replicate (length part.old) 0x40 }
-{
-    let mut i = 0;
-    while i < part.len() {
-        part[i] = BLANK;
-        i += 1;
-    }
-}
-
 // Writes a field into its own part of the output.
-fn put_field(kind: u16, input: &[u8], out: &mut [u8])
-    requires kind_within { KindWithin (kind_of (kind_at kind) (length input.now) (length out.old)) }
-    requires out_value { output_size (kind_of (kind_at kind) (length input.now) (length out.old)) ≡ length out.old }
-    ensures { out.new ≡ converted_bytes zone_f (kind_of (kind_at kind) (length input.now) (length out.old)) input.now }
+fn put_field(kind: Kind, input: &[u8], out: &mut [u8])
+    requires kind_within { KindWithin (kind_of kind (length input.now) (length out.old)) }
+    requires out_value { output_size (kind_of kind (length input.now) (length out.old)) ≡ length out.old }
+    ensures { out.new ≡ converted_bytes zone_f (kind_of kind (length input.now) (length out.old)) input.now }
 {
-    if kind == 0 {
-        copies::copy(input, out);
-        return;
+    match kind {
+        Kind::Copy => copies::copy(input, out),
+        Kind::Pack => halves::pack(input, out),
+        Kind::Unpack => halves::unpack(input, out),
     }
-    if kind == 1 {
-        halves::pack(input, out);
-        return;
-    }
-    halves::unpack(input, out);
 }
 
 // Writes the fields in order, a later one over an earlier one.
@@ -49,27 +34,14 @@ pub fn put_fields(fields: &[u16], record: &[u8], out: &mut [u8])
     requires { Fielded fields.now (length «record».now) (length out.old) }
     ensures { FieldsWritten fields.now «record».now out.old out.new }
 {
-    let count = fields.len() / 5;
-    let mut i = 0;
-    while i < count {
+    for i in 0..fields.len() / 5 {
         let f = rows::field_at(fields, i);
         let from = f.r - 1;
         let end = from + f.input;
         let to = f.t - 1;
         let past = to + f.output;
-        put_field(fields[5 * i], &record[from..end], &mut out[to..past]);
-        i += 1;
+        put_field(f.kind, &record[from..end], &mut out[to..past]);
     }
-}
-
-// A position, which counts from 1, as a place, which counts from 0.
-fn place(position: usize) -> usize
-    ensures { result ≡ position - 1 }
-{
-    if position == 0 {
-        return 0;
-    }
-    position - 1
 }
 
 // How many bytes are covered from the first on, with a field besides: none more where it begins behind them, as it leaves a gap.
@@ -77,15 +49,11 @@ fn farther(f: Field, covered: usize) -> usize
     requires { (f.t < 65536) × (f.output < 65536) }
     ensures { result ≡ farther_of (f.t - 1) f.output covered }
 {
-    let to = place(f.t);
+    let to = f.t.saturating_sub(1);
     if covered < to {
         return covered;
     }
-    let past = to + f.output;
-    if past < covered {
-        return covered;
-    }
-    past
+    covered.max(to + f.output)
 }
 
 // Whether the fields, taken in their order, cover an output record of width bytes from its first byte on, so that no blank stays. A gap that a later
@@ -93,12 +61,9 @@ fn farther(f: Field, covered: usize) -> usize
 pub fn covers(fields: &[u16], width: usize) -> bool
     ensures { Covers fields.now width result }
 {
-    let count = fields.len() / 5;
     let mut covered = 0;
-    let mut i = 0;
-    while i < count {
+    for i in 0..fields.len() / 5 {
         covered = farther(rows::field_at(fields, i), covered);
-        i += 1;
     }
     width <= covered
 }
@@ -109,7 +74,7 @@ fn put_ground(width: usize, covered: bool, out: &mut [u8])
     ensures { out.new ≡ ground_of width covered out.old }
 {
     if !covered {
-        put_blanks(&mut out[..width]);
+        out[..width].fill(BLANK);
     }
 }
 

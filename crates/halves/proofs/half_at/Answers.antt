@@ -8,7 +8,7 @@ use Rattle.halves.proofs.half_at.Goals as goal
 pub returns-then-place-eq0 : goal.returns-then-place-eq0
 returns-then-place-eq0 c =
     let a = c.args in
-    (sym (halves_high a.src.now (a.place / 2) a.place (omega arith)), omega (arith, c.shared_slice_known-1.given (a.place / 2)))
+    (sym (halves_high a.src.now (a.place / 2) a.place (omega arith)), omega (arith, c.type_inv.src (a.place / 2)))
 
 pub returns : goal.returns
 returns c =

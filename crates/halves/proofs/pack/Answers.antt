@@ -1,21 +1,12 @@
--- `halves::pack` meets its contract: what its one call leaves where both sizes are allowed, and nothing where not.
+-- Where both sizes are allowed each byte of dst is that of its place in the packed field, and where not dst is as it was.
 use mathlib.Core.Path.{sym, ◌∙◌}
-use lib.ListN.{length}
-use Rattle.halves.proofs.PromiseLaws.{sizes_of, packed_allowed, packed_stays}
+use borrow.Author.Rules.{rules}
+use Rattle.halves.proofs.PromiseLaws.{packed_each, packed_stays}
 use Rattle.halves.proofs.pack.Goals as goal
-
-pub put_packed-requires : goal.put_packed-requires
-put_packed-requires c =
-    let a = c.args in
-    let p = sizes_of (length a.src.now) (length a.dst.now) (sym c.both_allowed.ensures ∙ c.if-both_allowed.true) in
-    record { in_bounds = p.0; in_bounds_2 = p.1 }
 
 pub returns-then-both_allowed : goal.returns-then-both_allowed
 returns-then-both_allowed c =
-    let a = c.args in
-    c.put_packed.ensures ∙ sym (packed_allowed a.src.now a.dst.now (sym c.both_allowed.ensures ∙ c.if-both_allowed.true))
+    packed_each _ _ _ (sym c.both_allowed.ensures ∙ c.if-both_allowed.true) c.put_left.auto.dst (λ i l. search (rules, c.put_left.ensures.written i l))
 
 pub returns-else-both_allowed : goal.returns-else-both_allowed
-returns-else-both_allowed c =
-    let a = c.args in
-    sym (packed_stays a.src.now a.dst.now (sym c.both_allowed.ensures ∙ c.if-both_allowed.false))
+returns-else-both_allowed c = sym (packed_stays _ _ (sym c.both_allowed.ensures ∙ c.if-both_allowed.false))

@@ -1,21 +1,19 @@
--- `halves::unpack` meets its contract: what its one call leaves where both sizes are allowed, and nothing where not.
+-- Where both sizes are allowed each byte of dst is that of its place in the unpacked field, before the pairs and from them on, and where not dst is as it was.
 use mathlib.Core.Path.{sym, ◌∙◌}
-use lib.ListN.{length}
-use Rattle.halves.proofs.PromiseLaws.{sizes_of, unpacked_allowed, unpacked_stays}
+use mathlib.Core.Logic.{inl, inr}
+use borrow.Author.Rules.{rules}
+use Rattle.std.proofs.lemmas.Bool.{cases_lt}
+use Rattle.halves.proofs.PromiseLaws.{unpacked_each, unpacked_stays}
 use Rattle.halves.proofs.unpack.Goals as goal
-
-pub put_unpacked-requires : goal.put_unpacked-requires
-put_unpacked-requires c =
-    let a = c.args in
-    let p = sizes_of (length a.src.now) (length a.dst.now) (sym c.both_allowed.ensures ∙ c.if-both_allowed.true) in
-    record { in_bounds = p.0; in_bounds_2 = p.1 }
 
 pub returns-then-both_allowed : goal.returns-then-both_allowed
 returns-then-both_allowed c =
-    let a = c.args in
-    c.put_unpacked.ensures ∙ sym (unpacked_allowed a.src.now a.dst.now (sym c.both_allowed.ensures ∙ c.if-both_allowed.true))
+    let left = c.put_left.ensures in
+    unpacked_each _ _ _ (sym c.both_allowed.ensures ∙ c.if-both_allowed.true) (c.put_left.auto.dst ∙ c.put_pairs-at.auto.dst)
+    (λ i l. elim (cases_lt i c.put_pairs-at.result) [
+      | inl h ↦ search (rules, left.written i h)
+      | inr h ↦ left.stays i h ∙ c.put_pairs-at.ensures.from_there i h l
+    ])
 
 pub returns-else-both_allowed : goal.returns-else-both_allowed
-returns-else-both_allowed c =
-    let a = c.args in
-    sym (unpacked_stays a.src.now a.dst.now (sym c.both_allowed.ensures ∙ c.if-both_allowed.false))
+returns-else-both_allowed c = sym (unpacked_stays _ _ (sym c.both_allowed.ensures ∙ c.if-both_allowed.false))

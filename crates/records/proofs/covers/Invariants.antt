@@ -1,10 +1,6 @@
 -- `records::covers` meets its contract: before each turn the fields before place i cover so many bytes.
-use Prim.Native.Nat.{◌-◌}
 use Rattle.records.proofs.CoverLaws.{Reaching}
 use Rattle.records.proofs.covers.Given as goal
 
 abbrev pub invariant-loop-i : goal.invariant-loop-i
 invariant-loop-i l = Reaching l.fields l.covered l.i
-
-abbrev pub decreases-loop-i : goal.decreases-loop-i
-decreases-loop-i l = l.count - l.i

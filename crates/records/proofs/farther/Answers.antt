@@ -1,4 +1,4 @@
--- `records::farther` meets its contract: a field that begins behind what is covered leaves it, and another covers up to the larger of both ends.
+-- A field that begins behind what is covered leaves it, and another covers up to the larger of both ends.
 use mathlib.Core.Path.{◌≡◌, ◌∙◌}
 use Prim.Native.Nat.{◌+◌, ◌-◌, max}
 use native.Mathlib.Omega.{arith}
@@ -6,14 +6,9 @@ use Rattle.records.proofs.CoverLaws.{farther_gap, farther_joins}
 use Rattle.records.proofs.farther.Goals as goal
 
 pub returns-then-covered-to : goal.returns-then-covered-to
-returns-then-covered-to c = farther_gap _ c.args.f.output _ (omega (arith, c.place-to.ensures))
-
-pub returns-then-past-covered : goal.returns-then-past-covered
-returns-then-past-covered c =
-    let e : c.args.covered ≡ max c.args.covered (c.args.f.t - 1 + c.args.f.output) = omega (arith, c.place-to.ensures) in
-    e ∙ farther_joins _ c.args.f.output _ (omega (arith, c.place-to.ensures))
+returns-then-covered-to c = farther_gap _ c.args.f.output _ (omega arith)
 
 pub returns : goal.returns
 returns c =
-    let e : c.place-to.result + c.args.f.output ≡ max c.args.covered (c.args.f.t - 1 + c.args.f.output) = omega (arith, c.place-to.ensures) in
-    e ∙ farther_joins _ c.args.f.output _ (omega (arith, c.place-to.ensures))
+    let both : c.max.result ≡ max c.args.covered (c.args.f.t - 1 + c.args.f.output) = omega arith in
+    both ∙ farther_joins _ c.args.f.output _ (omega arith)
