@@ -7,10 +7,8 @@ use Rattle.rules.specs.Output.{length_word}
 use Rattle.rules.specs.Spanned.{coded_word}
 use Rattle.rules.specs.Reel.{word}
 use Rattle.rules.specs.ReelPlaces.{word_at}
-use Rattle.pieces.specs.Pieces.{variable_start, start_of, piece_read_of, worded_in}
+use Rattle.pieces.specs.Pieces.{StartRead, PieceRead, variable_start, start_of, piece_read_of, worded_in}
 use Rattle.pieces.specs.declared.Form.{Form}
-use Rattle.pieces.specs.declared.StartRead.{StartRead}
-use Rattle.pieces.specs.declared.PieceRead.{PieceRead}
 
 pub only_one_word : (s : List ℕ) (at r r' : ℕ) → r ≡ word_at s at → r' ≡ word_at s at → r ≡ r'
 only_one_word s at r r' e f = e ∙ sym f

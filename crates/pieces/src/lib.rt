@@ -8,7 +8,7 @@ ghost use Rattle.rules.specs.Output.{length_word};
 ghost use Rattle.rules.specs.Spanned.{coded_word};
 ghost use Rattle.rules.specs.Reel.{word};
 ghost use Rattle.rules.specs.ReelPlaces.{word_at};
-ghost use Rattle.pieces.specs.Pieces.{length_word_of, variable_start, start_of, fixed_piece, worded_in, piece_read_of};
+ghost use Rattle.pieces.specs.Pieces.{length_word_of, variable_start, start_of, given, fixed_piece, worded_in, piece_read_of};
 
 use terms::Format;
 
@@ -40,171 +40,126 @@ pub struct Cursor {
     pub at: usize,
 }
 
-// Where the pieces of a block begin, or that the block's own word is bad.
+// A piece: where its data begin and how many they are, the third byte of its word (0 where it has no word), and the place behind it.
 #[derive(Clone, Copy)]
-pub enum StartRead {
-    From { cursor: Cursor },
-    NoStart,
+pub struct FoundPiece {
+    pub place: usize,
+    pub length: usize,
+    pub third: usize,
+    pub next: Cursor,
 }
 
-// What stands at a place of a block: a piece and the place behind it, the end, or what is no piece.
+// What stands at a place is no piece.
 #[derive(Clone, Copy)]
-pub enum PieceRead {
-    Piece {
-        place: usize,
-        length: usize,
-        third: usize,
-        next: Cursor,
-    },
-    End,
-    Bad,
-}
+pub struct NoPiece;
 
-// The length that a word says, or that it is no word.
-#[derive(Clone, Copy)]
-enum LengthRead {
-    Length { length: usize },
-    NoLength,
-}
-
-// The word at a place: a length in 2 bytes, of which at least low and no more than there are, a third byte of at most top (0, and 3 for a segment's code), and a
-// zero byte.
-fn length_word(b: &[u8], at: usize, low: usize, top: u8) -> LengthRead
+// The length that the word at a place says, if it is one: a length in 2 bytes, of which at least low and no more than there are, a third byte of at most top (0, and
+// 3 for a segment's code), and a zero byte.
+fn length_word(b: &[u8], at: usize, low: usize, top: u8) -> Option<usize>
     requires { (at ≤ length b.now) × (4 ≤ low) }
     ensures { result ≡ length_word_of top low (drop at b.now) }
 {
     let left = b.len() - at;
     if left < 4 {
-        return LengthRead::NoLength;
+        return None;
     }
     let length = 256 * terms::wide(b[at]) + terms::wide(b[at + 1]);
     if length < low {
-        return LengthRead::NoLength;
+        return None;
     }
     if length > left {
-        return LengthRead::NoLength;
+        return None;
     }
     if b[at + 2] > top {
-        return LengthRead::NoLength;
+        return None;
     }
     if b[at + 3] != 0 {
-        return LengthRead::NoLength;
+        return None;
     }
-    LengthRead::Length { length }
+    Some(length)
 }
 
 // Where the pieces of a block begin: in FV behind the block's word, which says the block's length. In FS a block has no records by itself (`segment`).
-pub fn start(form: Form, b: &[u8]) -> StartRead
+pub fn start(form: Form, b: &[u8]) -> Option<Cursor>
     ensures { result ≡ start_of form b.now }
 {
-    let format = form.format;
-    match format {
-        Format::FF => StartRead::From {
-            cursor: Cursor { at: 0 },
-        },
+    match form.format {
+        Format::FF | Format::FU => Some(Cursor { at: 0 }),
         Format::FV => variable_start(b),
-        Format::FU => StartRead::From {
-            cursor: Cursor { at: 0 },
-        },
-        Format::FS => StartRead::NoStart,
+        Format::FS => None,
     }
 }
 
 // In FV, and in FS.
-pub fn variable_start(b: &[u8]) -> StartRead
+pub fn variable_start(b: &[u8]) -> Option<Cursor>
     ensures { result ≡ variable_start b.now }
 {
-    let word = length_word(b, 0, 4, 0);
-    match word {
-        LengthRead::Length { length } => {
-            if length == b.len() {
-                return StartRead::From {
-                    cursor: Cursor { at: 4 },
-                };
-            }
-            StartRead::NoStart
-        }
-        LengthRead::NoLength => StartRead::NoStart,
-    }
+    let length = length_word(b, 0, 4, 0)?;
+    (length == b.len()).then_some(Cursor { at: 4 })
 }
 
-// The piece at a place. Each takes a byte or more, so that the next place is higher.
-pub fn piece(form: Form, b: &[u8], c: Cursor) -> PieceRead
+// The piece at a place, or the block's end. Each takes a byte or more, so that the next place is higher.
+pub fn piece(form: Form, b: &[u8], c: Cursor) -> Result<Option<FoundPiece>, NoPiece>
     ensures { result ≡ piece_read_of form b.now c.at }
 {
     let at = c.at;
     let end = b.len();
     if at >= end {
-        return PieceRead::End;
+        return Ok(None);
     }
-    let format = form.format;
-    match format {
-        Format::FF => fixed_piece(form.n, at, end),
-        Format::FV => variable_piece(b, at, 0),
-        Format::FU => {
-            let length = end - at;
-            PieceRead::Piece {
-                place: at,
-                length,
-                third: 0,
-                next: Cursor { at: end },
-            }
-        }
-        Format::FS => PieceRead::Bad,
-    }
+    let piece = match form.format {
+        Format::FF => fixed_piece(form.n, at, end)?,
+        Format::FV => variable_piece(b, at, 0)?,
+        Format::FU => FoundPiece {
+            place: at,
+            length: end - at,
+            third: 0,
+            next: Cursor { at: end },
+        },
+        Format::FS => return Err(NoPiece),
+    };
+    Ok(Some(piece))
 }
 
 // In FF, of a block that ends at a place: n bytes, of which no piece has none.
-fn fixed_piece(n: usize, at: usize, end: usize) -> PieceRead
+fn fixed_piece(n: usize, at: usize, end: usize) -> Result<FoundPiece, NoPiece>
     requires { at < end }
     ensures { result ≡ fixed_piece n at end }
 {
-    if n == 0 {
-        return PieceRead::Bad;
+    if n == 0 || n > end - at {
+        return Err(NoPiece);
     }
-    if n > end - at {
-        return PieceRead::Bad;
-    }
-    let behind = at + n;
-    PieceRead::Piece {
+    Ok(FoundPiece {
         place: at,
         length: n,
         third: 0,
-        next: Cursor { at: behind },
-    }
+        next: Cursor { at: at + n },
+    })
 }
 
 // In FV, and in FS, where the third byte of the word is a code: the data behind the word, whose length counts its own 4 bytes.
-fn variable_piece(b: &[u8], at: usize, top: u8) -> PieceRead
+fn variable_piece(b: &[u8], at: usize, top: u8) -> Result<FoundPiece, NoPiece>
     requires { at < length b.now }
-    ensures { result ≡ worded_in top b.now at }
+    ensures { given result ≡ worded_in top b.now at }
 {
-    let word = length_word(b, at, 5, top);
-    match word {
-        LengthRead::Length { length } => {
-            let place = at + 4;
-            let size = length - 4;
-            let third = terms::wide(b[at + 2]);
-            let behind = at + length;
-            PieceRead::Piece {
-                place,
-                length: size,
-                third,
-                next: Cursor { at: behind },
-            }
-        }
-        LengthRead::NoLength => PieceRead::Bad,
-    }
+    let length = length_word(b, at, 5, top).ok_or(NoPiece)?;
+    Ok(FoundPiece {
+        place: at + 4,
+        length: length - 4,
+        third: terms::wide(b[at + 2]),
+        next: Cursor { at: at + length },
+    })
 }
 
-// The segment at a place: the third byte of its word is its code, 0 to 3.
-pub fn segment(b: &[u8], c: Cursor) -> PieceRead
+// The segment at a place, or the block's end: the third byte of its word is its code, 0 to 3.
+pub fn segment(b: &[u8], c: Cursor) -> Result<Option<FoundPiece>, NoPiece>
     ensures { result ≡ worded_in 3 b.now c.at }
 {
     if c.at >= b.len() {
-        return PieceRead::End;
+        return Ok(None);
     }
-    variable_piece(b, c.at, 3)
+    let piece = variable_piece(b, c.at, 3)?;
+    Ok(Some(piece))
 }
 
 // Four bytes from a place on.

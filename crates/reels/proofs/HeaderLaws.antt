@@ -15,28 +15,34 @@ use Rattle.rules.proofs.Reel.ReelLaws.{header_is}
 use Rattle.rules.proofs.Reel.ReelSteps.{offset_most, blocks_step, block_at, length_block}
 use Rattle.rules.proofs.Base.Tests.{never_true}
 use Rattle.reels.specs.Header.{header_of, block_part}
-use Rattle.reels.specs.declared.HeaderRead.TheVariants.{Reel, NoReel}
+use Rattle.std.specs.Prelude.{Some, None}
+use Rattle.std.specs.Bool.{then_some}
 
-pub no_reel : (s : List ℕ) → is_reel s ≡ false → NoReel ≡ header_of s
+pub no_reel : (s : List ℕ) → is_reel s ≡ false → None ≡ header_of s
 unfolding header_of
 no_reel s e = rw e
 
-pub a_reel : (s : List ℕ) (k : ℕ) → is_reel s ≡ true → block_count s ≡ k → Reel k ≡ header_of s
+a_reel : (s : List ℕ) (k : ℕ) → is_reel s ≡ true → block_count s ≡ k → Some k ≡ header_of s
 unfolding header_of
 a_reel s k e c = rw (e, c)
 
+-- the last test decides
+pub header_said : (s : List ℕ) (k : ℕ) (t : Bool) → is_reel s ≡ t → block_count s ≡ k → then_some t k ≡ header_of s
+header_said s k true e c = a_reel s k e c
+header_said s k false e c = no_reel s e
+
 -- what a reading says
-pub reel_told : (s : List ℕ) (k : ℕ) → header_of s ≡ Reel k → (is_reel s ≡ true) × (block_count s ≡ k)
+pub reel_told : (s : List ℕ) (k : ℕ) → header_of s ≡ Some k → (is_reel s ≡ true) × (block_count s ≡ k)
 unfolding header_of
 reel_told s k e = go (is_reel s) refl
   where
     go : (t : Bool) → is_reel s ≡ t → (is_reel s ≡ true) × (block_count s ≡ k)
-    go true t = let e' : Reel (block_count s) ≡ Reel k = rw t at e in (t, cc)
-    go false t = let e' : NoReel ≡ Reel k = rw t at e in let z : ◌≡◌ {A = ℕ} 0 1 = cc in absurd (omega arith)
+    go true t = let e' : Some (block_count s) ≡ Some k = rw t at e in (t, cc)
+    go false t = let e' : None ≡ Some k = rw t at e in let z : ◌≡◌ {A = ℕ} 0 1 = cc in absurd (omega arith)
 
-pub no_reel_told : (s : List ℕ) → header_of s ≡ NoReel → is_reel s ≡ false
+pub no_reel_told : (s : List ℕ) → header_of s ≡ None → is_reel s ≡ false
 unfolding header_of
-no_reel_told s e = never_true (is_reel s) (λ t. let e' : Reel (block_count s) ≡ NoReel = rw t at e in let z : ◌≡◌ {A = ℕ} 0 1 = cc in omega arith)
+no_reel_told s e = never_true (is_reel s) (λ t. let e' : Some (block_count s) ≡ None = rw t at e in let z : ◌≡◌ {A = ℕ} 0 1 = cc in omega arith)
 
 -- ---- the parts between the offsets
 

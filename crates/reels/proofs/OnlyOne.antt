@@ -3,11 +3,8 @@ use mathlib.Core.Path.{◌≡◌, sym, ◌∙◌}
 use mathlib.Core.List.{List}
 use Prim.Native.Nat.{ℕ}
 use Rattle.pieces.specs.declared.Form.{Form}
-use Rattle.reels.specs.Header.{header_of, block_part}
-use Rattle.reels.specs.Records.{BlockSays, ReadAs}
-use Rattle.reels.specs.declared.HeaderRead.{HeaderRead}
-use Rattle.reels.specs.declared.BlockRead.{BlockRead}
-use Rattle.reels.specs.declared.ReelRead.{ReelRead}
+use Rattle.reels.specs.Header.{HeaderRead, header_of, block_part}
+use Rattle.reels.specs.Records.{BlockRead, ReelRead, BlockSays, ReadAs}
 use Rattle.reels.proofs.ReelTold.{answer_once}
 
 pub only_one_header : (s : List ℕ) (r r' : HeaderRead) → r ≡ header_of s → r' ≡ header_of s → r ≡ r'

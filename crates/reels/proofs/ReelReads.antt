@@ -19,9 +19,8 @@ use Rattle.pieces.specs.Form.{plan_by}
 use Rattle.reels.specs.Header.{header_of, block_part}
 use Rattle.reels.specs.Records.{block_read, BlockSays, reel_read, ReadAs}
 use Rattle.pieces.specs.declared.Form.{Form}
-use Rattle.reels.specs.declared.HeaderRead.TheVariants.{Reel, NoReel}
-use Rattle.reels.specs.declared.BlockRead.TheVariants.{Records, Breaks}
-use Rattle.reels.specs.declared.ReelRead.TheVariants.{Read, NotReel, BadBlock}
+use Rattle.std.specs.Prelude.{Some, None, Ok, Err}
+use Rattle.reels.specs.declared.ReelError.TheVariants.{NotReel, BadBlock}
 use Rattle.reels.proofs.HeaderLaws.{reel_told, no_reel_told, part_length, part_step}
 
 -- ---- what was counted before, and what is left
@@ -55,11 +54,11 @@ unfolding ◌>>=◌
 read_refused k r i = refl
 
 -- a block that is read, and one that is not
-block_some : (o : Option (List (List ℕ))) (k : ℕ) → Records k ≡ block_read o → (rs : List (List ℕ)) × (o ≡ some rs) × (k ≡ length rs)
+block_some : (o : Option (List (List ℕ))) (k : ℕ) → Some k ≡ block_read o → (rs : List (List ℕ)) × (o ≡ some rs) × (k ≡ length rs)
 block_some none k e = let z : ◌≡◌ {A = ℕ} 0 1 = cc in absurd (omega arith)
 block_some (some rs) k e = (rs, refl, cc)
 
-block_none : (o : Option (List (List ℕ))) → Breaks ≡ block_read o → o ≡ none
+block_none : (o : Option (List (List ℕ))) → None ≡ block_read o → o ≡ none
 block_none none e = refl
 block_none (some rs) e = let z : ◌≡◌ {A = ℕ} 0 1 = cc in absurd (omega arith)
 
@@ -72,7 +71,7 @@ pub record Reading (form : Form) (s : List ℕ) (blocks records i : ℕ) : Type 
   pub few : records ≤ offset_at s i
   pub same : reel_read (plan_by form) s ≡ counted_from i records (records_from (plan_by form) (suc i) (drop i (blocks_of s)))
 
-pub reading_start : (form : Form) (s : List ℕ) (k : ℕ) → header_of s ≡ Reel k → Reading form s k 0 0
+pub reading_start : (form : Form) (s : List ℕ) (k : ℕ) → header_of s ≡ Some k → Reading form s k 0 0
 reading_start form s k e =
     let h = reel_told s k e in
     record { reel = h.0; count = h.1; inside = omega arith; few = omega arith; same = read_start (plan_by form) s h.0 }
@@ -85,7 +84,7 @@ module _ {form : Form} {s : List ℕ} {blocks records i : ℕ} (w : Reading form
   reading_most = let c = w.count in omega (arith, w.few, w.inside, offset_most s w.reel i (omega (arith, w.inside)))
 
   -- where the walk is over
-  pub reading_end : blocks ≤ i → ReadAs form s (Read blocks records)
+  pub reading_end : blocks ≤ i → ReadAs form s (Ok (record { blocks = blocks; records = records }))
   reading_end l =
       let c = w.count in
       let z : i ≡ block_count s = omega (arith, w.inside) in
@@ -110,7 +109,7 @@ module _ {form : Form} {s : List ℕ} {blocks records i : ℕ} (w : Reading form
     part_full = omega (arith, part_length s i w.reel here, offset_rises s w.reel i here)
 
     -- its records are counted
-    pub reading_step : (k : ℕ) → BlockSays form (block_part s i) (Records k) → Reading form s blocks (records + k) (i + 1)
+    pub reading_step : (k : ℕ) → BlockSays form (block_part s i) (Some k) → Reading form s blocks (records + k) (i + 1)
     reading_step k j =
         record {
           reel = w.reel;
@@ -130,7 +129,7 @@ module _ {form : Form} {s : List ℕ} {blocks records i : ℕ} (w : Reading form
             ∙ ap₂ (λ (m x : ℕ). counted_from (i + 1) (records + m) (records_from p (suc x) (drop x (blocks_of s)))) (sym n) (sym (add-one i))
 
     -- it breaks its rule
-    pub reading_bad : BlockSays form (block_part s i) Breaks → ReadAs form s (BadBlock (i + 1))
+    pub reading_bad : BlockSays form (block_part s i) None → ReadAs form s (Err (BadBlock (i + 1)))
     reading_bad j =
         let bs = drop (suc i) (blocks_of s) in
         let bad = blocks_bad p [] (suc i) (block_part s i) bs (block_none (records_in p (block_part s i)) j.is) in
@@ -140,6 +139,6 @@ module _ {form : Form} {s : List ℕ} {blocks records i : ℕ} (w : Reading form
           most = omega arith;
         }
 
-pub not_reel : (form : Form) (s : List ℕ) → header_of s ≡ NoReel → ReadAs form s NotReel
+pub not_reel : (form : Form) (s : List ℕ) → header_of s ≡ None → ReadAs form s (Err NotReel)
 unfolding reel_read unless ◌>>◌ ◌>>=◌
 not_reel form s e = record { is = rw (no_reel_told s e); most = omega arith }

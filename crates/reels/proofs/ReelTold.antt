@@ -24,15 +24,11 @@ use Rattle.rules.proofs.Reel.ReelLaws.{length_blocks}
 use Rattle.rules.proofs.Blocks.PieceLaws.{refused_block, read_at}
 use Rattle.pieces.specs.Form.{FormIs}
 use Rattle.reels.specs.Header.{block_part}
-use Rattle.pieces.specs.Pieces.{start_in, start_of, piece_in, piece_read_of}
-use Rattle.reels.specs.Records.{answer_of, reel_read, ReadAs}
+use Rattle.std.specs.Prelude.{Some, None, Ok, Err}
+use Rattle.pieces.specs.Pieces.{StartRead, PieceRead, start_in, start_of, piece_in, piece_read_of}
+use Rattle.reels.specs.declared.ReelError.TheVariants.{NotReel, BadBlock}
+use Rattle.reels.specs.Records.{ReelRead, answer_of, reel_read, ReadAs}
 use Rattle.pieces.specs.declared.Form.{Form}
-use Rattle.pieces.specs.declared.StartRead.{StartRead}
-use Rattle.pieces.specs.declared.StartRead.TheVariants.{From, NoStart}
-use Rattle.pieces.specs.declared.PieceRead.{PieceRead}
-use Rattle.pieces.specs.declared.PieceRead.TheVariants.{Piece as Found, End, Bad}
-use Rattle.reels.specs.declared.ReelRead.{ReelRead}
-use Rattle.reels.specs.declared.ReelRead.TheVariants.{Read, NotReel, BadBlock}
 use Rattle.reels.proofs.HeaderLaws.{part_block}
 use Rattle.reels.proofs.FormLaws.{form_by, reel_alike}
 use Rattle.pieces.proofs.PiecesLaws.{start_good, piece_end, piece_good}
@@ -40,21 +36,21 @@ use Rattle.pieces.proofs.PiecesLaws.{start_good, piece_end, piece_good}
 -- ---- a reel
 
 abbrev pub Tells : Plan → List ℕ → ReelRead → Type 0
-Tells p s (Read blocks records) =
-    (is_reel s ≡ true) × ((bs : List (List (List ℕ))) × (records_from p 1 (blocks_of s) ≡ fine bs) × (blocks ≡ length bs) × (records ≡ length (joined bs)))
-Tells p s NotReel = is_reel s ≡ false
-Tells p s (BadBlock i) = (is_reel s ≡ true) × (records_from p 1 (blocks_of s) ≡ refused 12 i)
+Tells p s (Ok x) =
+    (is_reel s ≡ true) × ((bs : List (List (List ℕ))) × (records_from p 1 (blocks_of s) ≡ fine bs) × (x.blocks ≡ length bs) × (x.records ≡ length (joined bs)))
+Tells p s (Err NotReel) = is_reel s ≡ false
+Tells p s (Err (BadBlock i)) = (is_reel s ≡ true) × (records_from p 1 (blocks_of s) ≡ refused 12 i)
 
 -- each answer is that of one reading, which it tells again
 reading_of : Answer (ℕ × ℕ) → ReelRead
-reading_of (fine x) = Read x.0 x.1
-reading_of (refuse r) = cond (eqb r.number 11) NotReel (BadBlock r.place)
+reading_of (fine x) = Ok (record { blocks = x.0; records = x.1 })
+reading_of (refuse r) = cond (eqb r.number 11) (Err NotReel) (Err (BadBlock r.place))
 
 reading_back : (r : ReelRead) → reading_of (answer_of r) ≡ r
 unfolding reading_of
-reading_back (Read blocks records) = refl
-reading_back NotReel = refl
-reading_back (BadBlock block) = refl
+reading_back (Ok x) = refl
+reading_back (Err NotReel) = refl
+reading_back (Err (BadBlock block)) = refl
 
 pub answer_once : (r r' : ReelRead) → answer_of r ≡ answer_of r' → r ≡ r'
 answer_once r r' e = sym (reading_back r) ∙ ap reading_of e ∙ reading_back r'
@@ -71,9 +67,9 @@ tells form p h s r w = go (is_reel s) refl (records_from p 1 (blocks_of s)) refl
     told x e t = subst (Tells p s) (sym (answer_once r x (read_by form p h s r w ∙ e))) t
 
     go : (t : Bool) → is_reel s ≡ t → (a : Answer (List (List (List ℕ)))) → records_from p 1 (blocks_of s) ≡ a → Tells p s r
-    go false t a e = told NotReel (rw t) t
-    go true t (fine bs) e = told (Read (length bs) (length (joined bs))) (rw (t, e)) (t, (bs, e, refl, refl))
-    go true t (refuse x) e = let b = refused_block p (blocks_of s) x e in told (BadBlock x.place) (rw (t, b)) (t, b)
+    go false t a e = told (Err NotReel) (rw t) t
+    go true t (fine bs) e = told (Ok (record { blocks = length bs; records = length (joined bs) })) (rw (t, e)) (t, (bs, e, refl, refl))
+    go true t (refuse x) e = let b = refused_block p (blocks_of s) x e in told (Err (BadBlock x.place)) (rw (t, b)) (t, b)
 
 -- block i is read as its records
 pub part_read : (p : Plan) (s : List ℕ) (bs : List (List (List ℕ))) → is_reel s ≡ true → records_from p 1 (blocks_of s) ≡ fine bs → (i : ℕ) → i < block_count s
@@ -83,15 +79,15 @@ part_read p s bs t e i l = ap (records_in p) (part_block s i t l) ∙ read_at p 
 -- ---- a block that is read as some records
 
 abbrev pub Starts : Plan → List ℕ → List (List ℕ) → StartRead → Type 0
-Starts p b rs (From c) = records_at p b c.at ≡ some rs
-Starts p b rs NoStart = ⊥
+Starts p b rs (Some c) = records_at p b c.at ≡ some rs
+Starts p b rs None = ⊥
 
 -- the record at a place is the first of those from there on
 abbrev pub GoesOn : Plan → List ℕ → List (List ℕ) → PieceRead → Type 0
-GoesOn p b rs (Found place size third next) =
-    (more : List (List ℕ)) × (rs ≡ take size (drop place b) ∷ more) × (records_at p b next.at ≡ some more) × (least_data p ≤ size)
-GoesOn p b rs End = rs ≡ []
-GoesOn p b rs Bad = ⊥
+GoesOn p b rs (Ok (Some x)) =
+    (more : List (List ℕ)) × (rs ≡ take x.length (drop x.place b) ∷ more) × (records_at p b x.next.at ≡ some more) × (least_data p ≤ x.length)
+GoesOn p b rs (Ok None) = rs ≡ []
+GoesOn p b rs (Err e) = ⊥
 
 module _ (form : Form) (p : Plan) (h : FormIs form p) (w : Accepted p) (b : List ℕ) (rs : List (List ℕ)) where
   pub starts : records_in p b ≡ some rs → Starts p b rs (start_of form b)

@@ -8,49 +8,34 @@ ghost use Rattle.pieces.specs.Form.{plan_by};
 ghost use Rattle.reels.specs.Header.{header_of, block_part};
 ghost use Rattle.reels.specs.Records.{PiecesCounted, BlockSays, ReadAs};
 
-use pieces::{Cursor, Form, PieceRead, StartRead};
+use pieces::{Cursor, Form};
 use terms::Format;
 
-// What a header says: a reel of so many blocks, or no reel.
-#[derive(Clone, Copy)]
-pub enum HeaderRead {
-    Reel { blocks: usize },
-    NoReel,
-}
-
-// Whether s is a reel, and of how many blocks: every offset is looked at once.
-pub fn header(reel: &[u8]) -> HeaderRead
+// How many blocks s has, if it is a reel: every offset is looked at once.
+pub fn header(reel: &[u8]) -> Option<usize>
     ensures { result ≡ header_of reel.now }
 {
     let end = reel.len();
-    if end > 65536 {
-        return HeaderRead::NoReel;
-    }
-    if end < 8 {
-        return HeaderRead::NoReel;
+    if end > 65536 || end < 8 {
+        return None;
     }
     let count = pieces::word(reel, 0);
     // The count may be any 32-bit number: it is compared before it is multiplied.
     if count > (end - 8) / 4 {
-        return HeaderRead::NoReel;
+        return None;
     }
     let mut a = pieces::word(reel, 4);
     if a != 4 * count + 8 {
-        return HeaderRead::NoReel;
+        return None;
     }
-    let mut i = 0;
-    while i < count {
+    for i in 0..count {
         let b = pieces::word(reel, 4 * i + 8);
         if b <= a {
-            return HeaderRead::NoReel;
+            return None;
         }
         a = b;
-        i += 1;
     }
-    if a == end {
-        return HeaderRead::Reel { blocks: count };
-    }
-    HeaderRead::NoReel
+    (a == end).then_some(count)
 }
 
 // The part of a reel from offset i to offset i+1, i from 0: block i. It is empty where the two offsets are not there or do not name a part.
@@ -75,17 +60,16 @@ pub fn block(reel: &[u8], i: usize) -> &[u8]
     &reel[a..e]
 }
 
-// What a block is read as: so many records, or it breaks its rule.
+// What a reel that keeps the rules has: so many blocks and records.
 #[derive(Clone, Copy)]
-enum BlockRead {
-    Records { count: usize },
-    Breaks,
+pub struct Contents {
+    pub blocks: usize,
+    pub records: usize,
 }
 
-// What a reel is read as: so many blocks and records; no reel; or the number, from 1, of the first block that breaks its rule.
+// Why a reel is refused: it is none (11), or the number, from 1, of the first block that breaks its rule (12).
 #[derive(Clone, Copy)]
-pub enum ReelRead {
-    Read { blocks: usize, records: usize },
+pub enum ReelError {
     NotReel,
     BadBlock { block: usize },
 }
@@ -94,123 +78,80 @@ pub enum ReelRead {
 fn least_data(form: Form) -> usize
     ensures { result ≡ least_data (plan_by form) }
 {
-    if form.selects {
-        return form.n;
-    }
-    1
+    if form.selects { form.n } else { 1 }
 }
 
-// The pieces from a place on are counted; each has the least data or more, and there is one.
-fn counted(form: Form, b: &[u8], from: Cursor) -> BlockRead
+// How many pieces there are from a place on, if each has the least data or more, and there is one.
+fn counted(form: Form, b: &[u8], from: Cursor) -> Option<usize>
     ensures { PiecesCounted form b.now from.at result }
 {
     let least = least_data(form);
-    let mut at = from.at;
+    let mut at = from;
     let mut count = 0;
-    loop {
-        let read = pieces::piece(form, b, Cursor { at });
-        match read {
-            PieceRead::Piece {
-                place: _,
-                length,
-                third: _,
-                next,
-            } => {
-                if length < least {
-                    return BlockRead::Breaks;
-                }
-                at = next.at;
-                count += 1;
-            }
-            PieceRead::End => {
-                if count == 0 {
-                    return BlockRead::Breaks;
-                }
-                return BlockRead::Records { count };
-            }
-            PieceRead::Bad => return BlockRead::Breaks,
+    while let Some(piece) = pieces::piece(form, b, at).ok()? {
+        if piece.length < least {
+            return None;
         }
+        at = piece.next;
+        count += 1;
     }
+    (count > 0).then_some(count)
 }
 
 // In FF: the pieces are counted by a division, as all have n bytes. No piece has none.
-fn divided(form: Form, b: &[u8]) -> BlockRead
+fn divided(form: Form, b: &[u8]) -> Option<usize>
     requires format_value { form.format ≡ Format.FF }
     requires in_bounds { (1 ≤ length b.now) × (length b.now ≤ form.m) }
     ensures { BlockSays form b.now result }
 {
     let n = form.n;
     let size = b.len();
-    if n == 0 {
-        return BlockRead::Breaks;
+    if n == 0 || size % n != 0 {
+        return None;
     }
-    if size % n != 0 {
-        return BlockRead::Breaks;
-    }
-    let count = size / n;
-    BlockRead::Records { count }
+    Some(size / n)
 }
 
 // The pieces of a block, from its start on.
-fn walked(form: Form, b: &[u8]) -> BlockRead
+fn walked(form: Form, b: &[u8]) -> Option<usize>
     requires { (1 ≤ length b.now) × (length b.now ≤ form.m) }
     ensures { BlockSays form b.now result }
 {
-    let from = pieces::start(form, b);
-    match from {
-        StartRead::From { cursor } => counted(form, b, cursor),
-        StartRead::NoStart => BlockRead::Breaks,
-    }
+    let from = pieces::start(form, b)?;
+    counted(form, b, from)
 }
 
-// Whether a block obeys its rule, wherever it stands: at most m (or g) bytes, and what it holds are records; and how many it has. No block of a reel is empty.
-fn rule(form: Form, b: &[u8]) -> BlockRead
+// How many records a block has, if it obeys its rule, wherever it stands: at most m (or g) bytes, and what it holds are records. No block of a reel is empty.
+fn rule(form: Form, b: &[u8]) -> Option<usize>
     requires { 1 ≤ length b.now }
     ensures { BlockSays form b.now result }
 {
     if b.len() > form.m {
-        return BlockRead::Breaks;
+        return None;
     }
-    let format = form.format;
-    match format {
+    match form.format {
         Format::FF => divided(form, b),
-        Format::FV => walked(form, b),
-        Format::FU => walked(form, b),
-        Format::FS => walked(form, b),
+        Format::FV | Format::FU | Format::FS => walked(form, b),
     }
 }
 
 // The blocks of a reel, one after the other, up to the first that breaks its rule.
-fn read_blocks(form: Form, reel: &[u8], blocks: usize) -> ReelRead
-    requires { header_of reel.now ≡ HeaderRead.Reel blocks }
+fn read_blocks(form: Form, reel: &[u8], blocks: usize) -> Result<Contents, ReelError>
+    requires { header_of reel.now ≡ Some blocks }
     ensures { ReadAs form reel.now result }
 {
     let mut records = 0;
-    let mut i = 0;
-    while i < blocks {
+    for i in 0..blocks {
         let b = block(reel, i);
-        let read = rule(form, b);
-        match read {
-            BlockRead::Records { count } => {
-                records += count;
-                i += 1;
-            }
-            BlockRead::Breaks => {
-                let block = i + 1;
-                return ReelRead::BadBlock { block };
-            }
-        }
+        records += rule(form, b).ok_or(ReelError::BadBlock { block: i + 1 })?;
     }
-    ReelRead::Read { blocks, records }
+    Ok(Contents { blocks, records })
 }
 
 // What a reel is read as, by what a plan asks of blocks.
-pub fn read_reel(form: Form, reel: &[u8]) -> ReelRead
+pub fn read_reel(form: Form, reel: &[u8]) -> Result<Contents, ReelError>
     ensures { ReadAs form reel.now result }
 {
-    let read = header(reel);
-    match read {
-        HeaderRead::Reel { blocks } => read_blocks(form, reel, blocks),
-        HeaderRead::NoReel => ReelRead::NotReel,
-    }
+    let blocks = header(reel).ok_or(ReelError::NotReel)?;
+    read_blocks(form, reel, blocks)
 }

@@ -2,7 +2,7 @@
 use mathlib.Core.Path.{◌≡◌, sym, ◌∙◌}
 use mathlib.Core.List.{List}
 use Prim.Native.Nat.{ℕ}
-use Rattle.reels.specs.declared.ReelRead.{ReelRead}
+use Rattle.reels.specs.Records.{ReelRead}
 use Rattle.reels.proofs.ReelTold.{answer_once}
 use Rattle.turns.specs.Promise.{SpannedAs}
 

@@ -18,11 +18,10 @@ use Rattle.rules.proofs.Reel.ReelLaws.{length_blocks}
 use Rattle.rules.proofs.Reel.ReelSteps.{offset_most, offset_rises}
 use Rattle.rules.proofs.Spanned.SpannedCounts.{Alike, total_of, plus, blocks_end, total_bad, total_good, total_alike}
 use Rattle.reels.specs.Header.{header_of, block_part}
-use Rattle.reels.specs.declared.HeaderRead.TheVariants.{Reel, NoReel}
-use Rattle.reels.specs.declared.ReelRead.TheVariants.{Read, NotReel, BadBlock}
+use Rattle.std.specs.Prelude.{Some, None, Ok, Err}
+use Rattle.reels.specs.declared.ReelError.TheVariants.{NotReel, BadBlock}
 use Rattle.reels.proofs.HeaderLaws.{reel_told, no_reel_told, part_length, part_step}
 use Rattle.turns.specs.declared.Counts.{Counts}
-use Rattle.turns.specs.declared.TurnsRead.TheVariants.{InTurn, Breaks}
 use Rattle.turns.specs.Turns.{held_of, turned, told_by, Ruled}
 use Rattle.turns.specs.Promise.{spanned_read, SpannedAs}
 use Rattle.turns.proofs.TurnsLaws.{held_closed, held_length}
@@ -53,7 +52,7 @@ record Ends (k : ℕ) (o : Option State) (c : Counts) : Type 0 where
   records : c.records ≡ k + length state.0
   alike : Alike state.1 (held_of c.held)
 
-turned_some : (k : ℕ) (o : Option State) (c : Counts) → told_by (InTurn c) ≡ turned k o → Ends k o c
+turned_some : (k : ℕ) (o : Option State) (c : Counts) → told_by (Some c) ≡ turned k o → Ends k o c
 turned_some k none c e = absurd (none-ne-some _ (sym e))
 turned_some k (some x) c e =
     let q = some-injective (c.records, eqb c.held 0, c.held) (k + length x.0, is_closed x.1, length (sofar x.1)) e in
@@ -76,7 +75,7 @@ pub record Reading (g : ℕ) (s : List ℕ) (blocks : ℕ) (counts : Counts) (i 
   pub low : counts.held ≤ 32752
   pub same : spanned_read g s ≡ counted_from blocks counts.records (total_of (spanned_from g (suc i) (held_of counts.held) (drop i (blocks_of s))))
 
-pub reading_start : (g : ℕ) (s : List ℕ) (k : ℕ) → header_of s ≡ Reel k → Reading g s k (record { records = 0; held = 0 }) 0
+pub reading_start : (g : ℕ) (s : List ℕ) (k : ℕ) → header_of s ≡ Some k → Reading g s k (record { records = 0; held = 0 }) 0
 reading_start g s k e =
     let h = reel_told s k e in
     record {
@@ -102,7 +101,7 @@ module _ {g : ℕ} {s : List ℕ} {blocks : ℕ} {counts : Counts} {i : ℕ} (w 
       ∙ ap (λ (n : ℕ). counted_from blocks counts.records (total_of (finish (suc n) (held_of counts.held)))) z
 
   -- no record is unfinished
-  pub reading_end : blocks ≤ i → counts.held ≡ 0 → SpannedAs g s (Read blocks counts.records)
+  pub reading_end : blocks ≤ i → counts.held ≡ 0 → SpannedAs g s (Ok (record { blocks = blocks; records = counts.records }))
   unfolding total_of
   reading_end l h =
       record {
@@ -112,7 +111,7 @@ module _ {g : ℕ} {s : List ℕ} {blocks : ℕ} {counts : Counts} {i : ℕ} (w 
       }
 
   -- one is
-  pub reading_unfinished : blocks ≤ i → (counts.held ≡ 0 → ⊥) → SpannedAs g s (BadBlock blocks)
+  pub reading_unfinished : blocks ≤ i → (counts.held ≡ 0 → ⊥) → SpannedAs g s (Err (BadBlock blocks))
   unfolding total_of
   reading_unfinished l f = record { is = sym (over l ∙ go counts.held f); most = omega arith }
     where
@@ -132,7 +131,7 @@ module _ {g : ℕ} {s : List ℕ} {blocks : ℕ} {counts : Counts} {i : ℕ} (w 
     left = ap (λ (bs : List (List ℕ)). total_of (spanned_from g (suc i) (held_of counts.held) bs)) (part_step s i w.reel here)
 
     -- its records are counted
-    pub reading_step : (after : Counts) → Ruled g counts (block_part s i) (InTurn after) → Reading g s blocks after (i + 1)
+    pub reading_step : (after : Counts) → Ruled g counts (block_part s i) (Some after) → Reading g s blocks after (i + 1)
     reading_step after j =
         record {
           reel = w.reel;
@@ -154,7 +153,7 @@ module _ {g : ℕ} {s : List ℕ} {blocks : ℕ} {counts : Counts} {i : ℕ} (w 
             ∙ ap₂ (λ (m n : ℕ). counted_from blocks m (total_of (spanned_from g (suc n) (held_of after.held) (drop n (blocks_of s))))) (sym x.records) (sym (add-one i))
 
     -- it breaks its rule
-    pub reading_bad : Ruled g counts (block_part s i) Breaks → SpannedAs g s (BadBlock (i + 1))
+    pub reading_bad : Ruled g counts (block_part s i) None → SpannedAs g s (Err (BadBlock (i + 1)))
     reading_bad j =
         let bs = drop (suc i) (blocks_of s) in
         let bad = total_bad g (suc i) (held_of counts.held) (block_part s i) bs (turned_none counts.records (join_in (held_of counts.held) (segments_in g (block_part s i))) j.is) in
@@ -163,6 +162,6 @@ module _ {g : ℕ} {s : List ℕ} {blocks : ℕ} {counts : Counts} {i : ℕ} (w 
           most = omega arith;
         }
 
-pub not_reel : (g : ℕ) (s : List ℕ) → header_of s ≡ NoReel → SpannedAs g s NotReel
+pub not_reel : (g : ℕ) (s : List ℕ) → header_of s ≡ None → SpannedAs g s (Err NotReel)
 unfolding spanned_read unless ◌>>◌ ◌>>=◌
 not_reel g s e = record { is = rw (no_reel_told s e); most = omega arith }

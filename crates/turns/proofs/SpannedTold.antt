@@ -9,9 +9,9 @@ use Rattle.rules.specs.Base.{joined}
 use Rattle.rules.specs.Answer.{Answer, Refusal, fine, refuse, refused, refused_at, ◌>>=◌, ◌>>◌, unless}
 use Rattle.rules.specs.Reel.{is_reel, blocks_of}
 use Rattle.rules.specs.Spanned.{State, segments_in, join_in, onward, spanned_from}
-use Rattle.reels.specs.Records.{answer_of}
-use Rattle.reels.specs.declared.ReelRead.{ReelRead}
-use Rattle.reels.specs.declared.ReelRead.TheVariants.{Read, NotReel, BadBlock}
+use Rattle.std.specs.Prelude.{Ok, Err}
+use Rattle.reels.specs.Records.{ReelRead, answer_of}
+use Rattle.reels.specs.declared.ReelError.TheVariants.{NotReel, BadBlock}
 use Rattle.reels.proofs.ReelTold.{answer_once}
 use Rattle.turns.specs.Promise.{spanned_read, SpannedAs}
 
@@ -42,11 +42,11 @@ refused_span g i now bs r e =
     e ∙ (λ j. refused_at (w j).0 r.place (w j).1)
 
 abbrev pub Tells : ℕ → List ℕ → ReelRead → Type 0
-Tells g s (Read blocks records) =
+Tells g s (Ok x) =
     (is_reel s ≡ true)
-    × ((recs : List (List (List ℕ))) × (spanned_from g 1 none (blocks_of s) ≡ fine recs) × (blocks ≡ length (blocks_of s)) × (records ≡ length (joined recs)))
-Tells g s NotReel = is_reel s ≡ false
-Tells g s (BadBlock i) = (is_reel s ≡ true) × (spanned_from g 1 none (blocks_of s) ≡ refused 12 i)
+    × ((recs : List (List (List ℕ))) × (spanned_from g 1 none (blocks_of s) ≡ fine recs) × (x.blocks ≡ length (blocks_of s)) × (x.records ≡ length (joined recs)))
+Tells g s (Err NotReel) = is_reel s ≡ false
+Tells g s (Err (BadBlock i)) = (is_reel s ≡ true) × (spanned_from g 1 none (blocks_of s) ≡ refused 12 i)
 
 pub tells : (g : ℕ) (s : List ℕ) (r : ReelRead) → SpannedAs g s r → Tells g s r
 unfolding spanned_read unless ◌>>◌ ◌>>=◌
@@ -56,6 +56,6 @@ tells g s r w = go (is_reel s) refl (spanned_from g 1 none (blocks_of s)) refl
     told x e t = subst (Tells g s) (sym (answer_once r x (w.is ∙ e))) t
 
     go : (t : Bool) → is_reel s ≡ t → (a : Answer (List (List (List ℕ)))) → spanned_from g 1 none (blocks_of s) ≡ a → Tells g s r
-    go false t a e = told NotReel (rw t) t
-    go true t (fine recs) e = told (Read (length (blocks_of s)) (length (joined recs))) (rw (t, e)) (t, (recs, e, refl, refl))
-    go true t (refuse x) e = let b = refused_span g 1 none (blocks_of s) x e in told (BadBlock x.place) (rw (t, b)) (t, b)
+    go false t a e = told (Err NotReel) (rw t) t
+    go true t (fine recs) e = told (Ok (record { blocks = length (blocks_of s); records = length (joined recs) })) (rw (t, e)) (t, (recs, e, refl, refl))
+    go true t (refuse x) e = let b = refused_span g 1 none (blocks_of s) x e in told (Err (BadBlock x.place)) (rw (t, b)) (t, b)

@@ -17,15 +17,13 @@ use Rattle.rules.proofs.Base.Tests.{and_left, and_right}
 use Rattle.rules.proofs.Blocks.CodedWords.{headed_to_exactly}
 use Rattle.rules.proofs.Spanned.SpannedSteps.{walk_at, join_at, in_turn_count, join_start, join_end, join_bad, join_good}
 use Rattle.rules.proofs.Spanned.SpannedCounts.{counted, Alike, counted_alike}
-use Rattle.pieces.specs.Pieces.{found, variable_start, worded_in}
+use Rattle.std.specs.Prelude.{Some, None, Ok}
+use Rattle.pieces.specs.Pieces.{piece_of, bad, variable_start, worded_in}
 use Rattle.pieces.specs.declared.Cursor.{Cursor}
-use Rattle.pieces.specs.declared.StartRead.TheVariants.{From, NoStart}
-use Rattle.pieces.specs.declared.PieceRead.TheVariants.{Piece as Found, End, Bad}
+use Rattle.pieces.specs.declared.FoundPiece.{FoundPiece}
 use Rattle.pieces.proofs.PiecesLaws.{worded_told, worded_untold, worded_further, further, start_told, start_untold}
 use Rattle.turns.specs.declared.Counts.{Counts}
-use Rattle.turns.specs.declared.TurnsRead.{TurnsRead}
-use Rattle.turns.specs.declared.TurnsRead.TheVariants.{InTurn, Breaks}
-use Rattle.turns.specs.Turns.{held_of, in_turn_of, counts_taken, turned, told_by, Walked, Ruled}
+use Rattle.turns.specs.Turns.{TurnsRead, held_of, in_turn_of, counts_taken, turned, told_by, Walked, Ruled}
 
 -- ---- what is open, as a number
 
@@ -180,12 +178,12 @@ pub going_start : (b : List ℕ) (from : ℕ) (before : Counts) → from ≤ len
 going_start b from before l h = record { inside = l; few = omega arith; low = h; same = refl }
 
 module _ {b : List ℕ} {from : ℕ} {before counts : Counts} {i : ℕ} (w : Going b from before counts i) where
-  ended_here : turned counts.records (some ([], held_of counts.held)) ≡ told_by (InTurn counts)
+  ended_here : turned counts.records (some ([], held_of counts.held)) ≡ told_by (Some counts)
   ended_here =
       rw (held_closed counts.held, held_length counts.held)
       (ap (λ (n : ℕ). some (n, eqb counts.held 0, counts.held)) (let z : counts.records + 0 ≡ counts.records = omega arith in z))
 
-  pub going_end : worded_in 3 b i ≡ End → Walked before b from (InTurn counts)
+  pub going_end : worded_in 3 b i ≡ Ok None → Walked before b from (Some counts)
   going_end e =
       let l : length b ≤ i = subst (further i (length b)) e (worded_further 3 b i) in
       record {
@@ -194,7 +192,7 @@ module _ {b : List ℕ} {from : ℕ} {before counts : Counts} {i : ℕ} (w : Goi
         low = w.low;
       }
 
-  pub going_bad : worded_in 3 b i ≡ Bad → Walked before b from Breaks
+  pub going_bad : worded_in 3 b i ≡ bad → Walked before b from None
   going_bad e =
       let u = worded_untold 3 b i e in
       record {
@@ -203,27 +201,27 @@ module _ {b : List ℕ} {from : ℕ} {before counts : Counts} {i : ℕ} (w : Goi
         low = omega arith;
       }
 
-  module _ (place size third : ℕ) (next : Cursor) (e : worded_in 3 b i ≡ Found place size third next) where
+  module _ (x : FoundPiece) (e : worded_in 3 b i ≡ Ok (Some x)) where
     -- what is read: the data's length, the code and the place behind
-    told : (i < length b) × (headed_to 3 5 (drop i b) ≡ true) × (found (piece_at i (drop i b)) ≡ Found place size third next)
-    told = worded_told 3 b i place size third next e
+    told : (i < length b) × (headed_to 3 5 (drop i b) ≡ true) × (piece_of (piece_at i (drop i b)) ≡ x)
+    told = worded_told 3 b i x e
 
-    size_told : word_length (drop i b) - 4 ≡ size
-    size_told = let q = told.2 in cc
+    size_told : word_length (drop i b) - 4 ≡ x.length
+    size_told = ap (λ (y : FoundPiece). y.length) told.2
 
-    code_told : get_or (drop i b) 2 0 ≡ third
-    code_told = let q = told.2 in cc
+    code_told : get_or (drop i b) 2 0 ≡ x.third
+    code_told = ap (λ (y : FoundPiece). y.third) told.2
 
-    next_told : i + 4 + (word_length (drop i b) - 4) ≡ next.at
-    next_told = let q = told.2 in let z : record { at = i + 4 + (word_length (drop i b) - 4) } ≡ next = cc in ap (λ (x : Cursor). x.at) z
+    next_told : i + 4 + (word_length (drop i b) - 4) ≡ x.next.at
+    next_told = ap (λ (y : FoundPiece). y.next.at) told.2
 
-    behind_told : i + word_length (drop i b) ≡ next.at
+    behind_told : i + word_length (drop i b) ≡ x.next.at
     behind_told = omega (arith, next_told, ((headed_to_exactly 3 5 (drop i b)).0 told.1).least)
 
-    pub going_inside : (i < next.at) × (next.at ≤ length b)
-    going_inside = let f : further i (length b) (Found place size third next) = subst (further i (length b)) e (worded_further 3 b i) in (f.2, f.3)
+    pub going_inside : (i < x.next.at) × (x.next.at ≤ length b)
+    going_inside = let f : further i (length b) (Ok (Some x)) = subst (further i (length b)) e (worded_further 3 b i) in (f.2, f.3)
 
-    pub going_out : in_turn_of counts.held third size ≡ false → Walked before b from Breaks
+    pub going_out : in_turn_of counts.held x.third x.length ≡ false → Walked before b from None
     going_out t =
         record {
           is = sym (w.same ∙ turned_out b i told.1 counts (ap₂ (in_turn_of counts.held) code_told size_told ∙ t));
@@ -231,22 +229,22 @@ module _ {b : List ℕ} {from : ℕ} {before counts : Counts} {i : ℕ} (w : Goi
           low = omega arith;
         }
 
-    pub going_step : in_turn_of counts.held third size ≡ true → (after : Counts) → after ≡ counts_taken counts third size → Going b from before after next.at
+    pub going_step : in_turn_of counts.held x.third x.length ≡ true → (after : Counts) → after ≡ counts_taken counts x.third x.length → Going b from before after x.next.at
     going_step t after a =
-        subst (λ (x : Counts). Going b from before x next.at) (sym a)
+        subst (λ (y : Counts). Going b from before y x.next.at) (sym a)
         (record {
           inside = going_inside.1;
-          few = omega (arith, taken_few counts third size, w.few, going_inside);
-          low = taken_low counts third size (in_turn_most counts.held third size t);
+          few = omega (arith, taken_few counts x.third x.length, w.few, going_inside);
+          low = taken_low counts x.third x.length (in_turn_most counts.held x.third x.length t);
           same = w.same
               ∙ turned_in b i told.1 counts (ap₂ (in_turn_of counts.held) code_told size_told ∙ t)
               ∙ ap₂ (λ (c n : ℕ). turned (counts_taken counts c n).records (join_at (held_of (counts_taken counts c n).held) b (i + word_length (drop i b)))) code_told size_told
-              ∙ ap (λ (n : ℕ). turned (counts_taken counts third size).records (join_at (held_of (counts_taken counts third size).held) b n)) behind_told;
+              ∙ ap (λ (n : ℕ). turned (counts_taken counts x.third x.length).records (join_at (held_of (counts_taken counts x.third x.length).held) b n)) behind_told;
         })
 
 -- ---- the ways in which a block breaks its rule before its segments are looked at
 
-no_segments : (before : Counts) (g : ℕ) (b : List ℕ) → segments_in g b ≡ none → Ruled g before b Breaks
+no_segments : (before : Counts) (g : ℕ) (b : List ℕ) → segments_in g b ≡ none → Ruled g before b None
 no_segments before g b e = record { is = sym (ap (λ (o : Option (List Segment)). turned before.records (join_in (held_of before.held) o)) e); few = omega arith; low = omega arith }
 
 long_block : (g : ℕ) (b : List ℕ) → g < length b → segments_in g b ≡ none
@@ -271,20 +269,20 @@ short_block g b l = rw (drop_of_length-le b {i = 4} (omega arith)) (go (headed 4
     go true false e = rw e
     go false u e = refl
 
-pub rule_long : (before : Counts) (g : ℕ) (b : List ℕ) → g < length b → Ruled g before b Breaks
+pub rule_long : (before : Counts) (g : ℕ) (b : List ℕ) → g < length b → Ruled g before b None
 rule_long before g b l = no_segments before g b (long_block g b l)
 
-pub rule_short : (before : Counts) (g : ℕ) (b : List ℕ) → length b < 5 → Ruled g before b Breaks
+pub rule_short : (before : Counts) (g : ℕ) (b : List ℕ) → length b < 5 → Ruled g before b None
 rule_short before g b l = no_segments before g b (short_block g b l)
 
-pub rule_start : (before : Counts) (g : ℕ) (b : List ℕ) → variable_start b ≡ NoStart → Ruled g before b Breaks
+pub rule_start : (before : Counts) (g : ℕ) (b : List ℕ) → variable_start b ≡ None → Ruled g before b None
 rule_start before g b e = no_segments before g b (bad_start g b (start_untold b e))
 
-pub start_inside : (b : List ℕ) (c : Cursor) → variable_start b ≡ From c → 5 ≤ length b → c.at ≤ length b
+pub start_inside : (b : List ℕ) (c : Cursor) → variable_start b ≡ Some c → 5 ≤ length b → c.at ≤ length b
 start_inside b c e l = omega (arith, (start_told b c e).1)
 
 -- the segments decide
-pub rule_walked : (before : Counts) (g : ℕ) (b : List ℕ) (c : Cursor) (r : TurnsRead) → variable_start b ≡ From c → length b ≤ g → 5 ≤ length b
+pub rule_walked : (before : Counts) (g : ℕ) (b : List ℕ) (c : Cursor) (r : TurnsRead) → variable_start b ≡ Some c → length b ≤ g → 5 ≤ length b
     → Walked before b c.at r → Ruled g before b r
 rule_walked before g b c r e m l w =
     let s = start_told b c e in

@@ -5,8 +5,7 @@ use Rattle.rules.specs.Base.{joined}
 use Rattle.rules.specs.Answer.{Answer, fine, ◌>>=◌, ◌>>◌, unless}
 use Rattle.rules.specs.Reel.{is_reel, blocks_of}
 use Rattle.rules.specs.Spanned.{spanned_from}
-use Rattle.reels.specs.Records.{answer_of, record_count}
-use Rattle.reels.specs.declared.ReelRead.{ReelRead}
+use Rattle.reels.specs.Records.{ReelRead, answer_of, record_count}
 
 -- what the rules answer: not a reel, a block that breaks its rule, or its blocks and records counted
 unfoldable pub spanned_read : ℕ → List ℕ → Answer (ℕ × ℕ)

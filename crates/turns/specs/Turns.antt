@@ -1,11 +1,9 @@
 -- The segments of a block as they are counted: the records that end, and how long the open one is.
-use Rattle.std.specs.Prelude.{◌≡◌, Bool, cond, ◌&&◌, List, ℕ, zero, suc, ◌+◌, ◌%◌, ◌≤◌, ltb, leb, eqb, length, replicate}
+use Rattle.std.specs.Prelude.{◌≡◌, Bool, cond, ◌&&◌, List, ℕ, zero, suc, ◌+◌, ◌%◌, ◌≤◌, ltb, leb, eqb, length, replicate, Option as Maybe, Some, None}
 use Rattle.std.proofs.Math.Option.{Option, none, some}
 use Rattle.rules.specs.Spanned.{segments_in, is_closed, sofar, same, State, join_in}
 use Rattle.rules.proofs.Spanned.SpannedSteps.{join_at}
 use Rattle.turns.specs.declared.Counts.{Counts}
-use Rattle.turns.specs.declared.TurnsRead.{TurnsRead}
-use Rattle.turns.specs.declared.TurnsRead.TheVariants.{InTurn, Breaks}
 
 -- no record is open, or one with so many bytes: which they are does not matter
 abbrev pub held_of : ℕ → Option (List ℕ)
@@ -23,22 +21,26 @@ counts_taken counts code size =
     (record { records = counts.records + 1; held = 0 })
     (record { records = counts.records; held = counts.held + size })
 
+-- what a block is read as: the counts behind it; none, if it breaks its rule
+abbrev pub TurnsRead : Type 0
+TurnsRead = Maybe Counts
+
 -- behind so many records: how many recordsEnded, whether none is open then, and how long the open one is
 abbrev pub turned : ℕ → Option State → Option (ℕ × Bool × ℕ)
 turned k none = none
 turned k (some x) = some (k + length x.0, is_closed x.1, length (sofar x.1))
 
 abbrev pub told_by : TurnsRead → Option (ℕ × Bool × ℕ)
-told_by (InTurn counts) = some (counts.records, eqb counts.held 0, counts.held)
-told_by Breaks = none
+told_by (Some counts) = some (counts.records, eqb counts.held 0, counts.held)
+told_by None = none
 
 abbrev pub records_ended : TurnsRead → ℕ
-records_ended (InTurn counts) = counts.records
-records_ended Breaks = 0
+records_ended (Some counts) = counts.records
+records_ended None = 0
 
 abbrev pub held_in : TurnsRead → ℕ
-held_in (InTurn counts) = counts.held
-held_in Breaks = 0
+held_in (Some counts) = counts.held
+held_in None = 0
 
 -- the counts of the rules' records; no block ends more records than it has bytes, and none that is open is too long
 pub record TurnsCounted (before : Counts) (size : ℕ) (o : Option State) (r : TurnsRead) : Type 0 where

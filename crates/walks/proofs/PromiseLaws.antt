@@ -11,7 +11,8 @@ use Rattle.rules.specs.Plan.{Plan}
 use Rattle.rules.specs.Accepted.{Accepted}
 use Rattle.rules.proofs.Base.Lists.{slice_part}
 use Rattle.pieces.specs.declared.Form.{Form}
-use Rattle.reels.specs.declared.ReelRead.TheVariants.{Read}
+use Rattle.std.specs.Prelude.{Ok}
+use Rattle.reels.specs.declared.Contents.{Contents}
 use Rattle.pieces.specs.Form.{FormIs}
 use Rattle.reels.specs.Records.{ReadAs}
 use Rattle.reels.proofs.ReelTold.{tells}
@@ -24,10 +25,10 @@ use Rattle.walks.specs.Promise.{Good, Walks, Begun, Passed, RecordSays, DataInsi
 -- ---- a reel that was read
 
 -- its blocks are good, and so many, and so are its records
-pub good_read : {form : Form} {p : Plan} {s : List ℕ} {blocks records : ℕ} → Accepted p → FormIs form p → ReadAs form s (Read blocks records)
-    → (recs : List (List (List ℕ))) × Good p s recs × (blocks ≡ length recs) × (records ≡ length (joined recs))
-good_read {form} {p} {s} {blocks} {records} ok f x =
-    let y = tells form p f s (Read blocks records) x in
+pub good_read : {form : Form} {p : Plan} {s : List ℕ} {all : Contents} → Accepted p → FormIs form p → ReadAs form s (Ok all)
+    → (recs : List (List (List ℕ))) × Good p s recs × (all.blocks ≡ length recs) × (all.records ≡ length (joined recs))
+good_read {form} {p} {s} {all} ok f x =
+    let y = tells form p f s (Ok all) x in
     (y.1.0, record { accepted = ok; reel = y.0; records = y.1.1 }, y.1.2, y.1.3)
 
 -- ---- a turn of a loop over the records, of which `rest` are left

@@ -1,44 +1,37 @@
 -- The word, and the piece behind it.
-use mathlib.Core.Path.{◌≡◌, sym, ◌∙◌}
-use Prim.Native.Nat.{◌+◌, ◌≤◌}
+use mathlib.Core.Path.{sym, ap, ◌∙◌}
 use native.Mathlib.Omega.{arith}
-use lib.ListN.{length, drop, length-drop}
-use Rattle.pieces.specs.Pieces.{length_word_of}
-use Rattle.pieces.specs.declared.LengthRead.TheVariants.{Length}
-use Rattle.pieces.proofs.PiecesLaws.{length_within, variable_piece, variable_bad}
+use lib.ListN.{drop, length-drop}
+use Rattle.std.proofs.lemmas.Result.{err_from_is_err_and}
+use Rattle.pieces.specs.Pieces.{given}
+use Rattle.pieces.proofs.PiecesLaws.{or_taken, or_missed, length_within, variable_piece, variable_bad}
 use Rattle.pieces.proofs.variable_piece.Goals as goal
 
-pub overflow_sub-size : goal.overflow_sub-size
-overflow_sub-size c =
-    let a_word : length_word_of c.args.top 5 (drop c.args.at c.args.b.now) ≡ Length c.in-Length.length = sym c.length_word-word.ensures ∙ c.in-Length.is in
-    let within : (5 ≤ c.in-Length.length) × (c.args.at + c.in-Length.length ≤ length c.args.b.now) = let a = c.args in
-    let w = length_within a.top 5 (drop a.at a.b.now) _ a_word in
-    let p = c.requires in
-    omega (arith, length-drop a.at a.b.now) in
-    omega (arith, within)
+pub returns-in_err-length : goal.returns-in_err-length
+returns-in_err-length c =
+    let a = c.args in
+    ap given (err_from_is_err_and c.from_residual.result c.from_residual.ensures.1).1
+    ∙ variable_bad a.top a.b.now a.at c.requires (sym c.length_word.ensures ∙ (or_missed _ _ _ c.in_err-length.ensures.value).0)
+
+pub overflow_sub-result : goal.overflow_sub-result
+overflow_sub-result c =
+    let a = c.args in
+    let w = length_within a.top 5 (drop a.at a.b.now) _ (sym c.length_word.ensures ∙ or_taken _ _ _ c.in_ok-length.ensures.value) in
+    omega (arith, w.0)
 
 pub bounds-b-at : goal.bounds-b-at
 bounds-b-at c =
-    let a_word : length_word_of c.args.top 5 (drop c.args.at c.args.b.now) ≡ Length c.in-Length.length = sym c.length_word-word.ensures ∙ c.in-Length.is in
-    let within : (5 ≤ c.in-Length.length) × (c.args.at + c.in-Length.length ≤ length c.args.b.now) = let a = c.args in
-    let w = length_within a.top 5 (drop a.at a.b.now) _ a_word in
-    let p = c.requires in
-    omega (arith, length-drop a.at a.b.now) in
-    omega (arith, within)
+    let a = c.args in
+    let w = length_within a.top 5 (drop a.at a.b.now) _ (sym c.length_word.ensures ∙ or_taken _ _ _ c.in_ok-length.ensures.value) in
+    omega (arith, w, length-drop a.at a.b.now)
 
-pub overflow_add-behind : goal.overflow_add-behind
-overflow_add-behind c =
-    let a_word : length_word_of c.args.top 5 (drop c.args.at c.args.b.now) ≡ Length c.in-Length.length = sym c.length_word-word.ensures ∙ c.in-Length.is in
-    let within : (5 ≤ c.in-Length.length) × (c.args.at + c.in-Length.length ≤ length c.args.b.now) = let a = c.args in
-    let w = length_within a.top 5 (drop a.at a.b.now) _ a_word in
-    let p = c.requires in
-    omega (arith, length-drop a.at a.b.now) in
-    omega (arith, within)
+pub overflow_add-result-2 : goal.overflow_add-result-2
+overflow_add-result-2 c =
+    let a = c.args in
+    let w = length_within a.top 5 (drop a.at a.b.now) _ (sym c.length_word.ensures ∙ or_taken _ _ _ c.in_ok-length.ensures.value) in
+    omega (arith, w, length-drop a.at a.b.now)
 
-pub returns-in-Length : goal.returns-in-Length
-returns-in-Length c =
-    let a_word : length_word_of c.args.top 5 (drop c.args.at c.args.b.now) ≡ Length c.in-Length.length = sym c.length_word-word.ensures ∙ c.in-Length.is in
-    let a = c.args in variable_piece a.top a.b.now a.at _ _ c.requires a_word c.wide-third.ensures.0
-
-pub returns-in-NoLength : goal.returns-in-NoLength
-returns-in-NoLength c = let a = c.args in variable_bad a.top a.b.now a.at c.requires (sym c.length_word-word.ensures ∙ c.in-NoLength.is)
+pub returns : goal.returns
+returns c =
+    let a = c.args in
+    variable_piece a.top a.b.now a.at _ _ c.requires (sym c.length_word.ensures ∙ or_taken _ _ _ c.in_ok-length.ensures.value) c.wide.ensures.0

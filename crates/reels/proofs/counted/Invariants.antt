@@ -4,8 +4,8 @@ use lib.ListN.{length}
 use Rattle.reels.proofs.RecordsLaws.{Counting}
 use Rattle.reels.proofs.counted.Given as goal
 
-abbrev pub invariant-loop-length : goal.invariant-loop-length
-invariant-loop-length l = Counting l.form l.b l.initial.at l.at l.count
+abbrev pub invariant-loop-piece : goal.invariant-loop-piece
+invariant-loop-piece l = Counting l.form l.b l.initial.at.at l.at.at l.count
 
-abbrev pub decreases-loop-length : goal.decreases-loop-length
-decreases-loop-length l = length l.b - l.at
+abbrev pub decreases-loop-piece : goal.decreases-loop-piece
+decreases-loop-piece l = length l.b - l.at.at

@@ -1,16 +1,17 @@
 -- The walk over the offsets holds the count, the number of an offset and the offset; each way out is a law of the header.
 use mathlib.Core.Path.{◌∙◌}
 use native.Mathlib.Omega.{arith}
-use borrow.Author.Tests.{eq-eqb, ne_eqb}
 use Rattle.rules.proofs.Reel.HeaderSteps.{too_long, too_short, count_too_high, first_wrong, walk_start, walk_step, walk_not, walk_end}
-use Rattle.reels.proofs.HeaderLaws.{no_reel, a_reel}
+use Rattle.reels.proofs.HeaderLaws.{no_reel, header_said}
 use Rattle.reels.proofs.header.Goals as goal
+use Rattle.reels.proofs.header.Goals.{then-end-gt65536-via-then-end-gt65536, then-end-gt65536-via-else-end-gt65536+then-end-lt8}
 
 pub returns-then-end-gt65536 : goal.returns-then-end-gt65536
-returns-then-end-gt65536 c = no_reel _ (too_long _ c.if-end-gt65536.true)
-
-pub returns-then-end-lt8 : goal.returns-then-end-lt8
-returns-then-end-lt8 c = no_reel _ (too_short _ c.if-end-lt8.true)
+returns-then-end-gt65536 c =
+    elim c.then-end-gt65536.branch [
+      | then-end-gt65536-via-then-end-gt65536 w ↦ no_reel _ (too_long _ w.if-end-gt65536.true)
+      | then-end-gt65536-via-else-end-gt65536+then-end-lt8 w ↦ no_reel _ (too_short _ w.if-end-lt8.true)
+    ]
 
 pub returns-then-count-end : goal.returns-then-count-end
 returns-then-count-end c = no_reel _ (count_too_high _ (omega arith) (omega arith))
@@ -36,8 +37,5 @@ returns-then-b-a c = no_reel _ (walk_not c.loop-i.invariant _ c.loop-i-test.true
 pub loop-i-preserved : goal.loop-i-preserved
 loop-i-preserved c = walk_step c.loop-i.invariant _ c.loop-i-test.true c.word-b.ensures.0 c.if-b-a.false
 
-pub returns-then-a-end : goal.returns-then-a-end
-returns-then-a-end c = a_reel _ _ (walk_end c.loop-i.invariant c.loop-i-test.false ∙ eq-eqb _ _ c.if-a-end.true) c.loop-i.invariant.count
-
 pub returns : goal.returns
-returns c = no_reel _ (walk_end c.loop-i.invariant c.loop-i-test.false ∙ ne_eqb _ _ c.if-a-end.false)
+returns c = c.then_some.ensures ∙ header_said _ _ _ (walk_end c.loop-i.invariant c.loop-i-test.false) c.loop-i.invariant.count

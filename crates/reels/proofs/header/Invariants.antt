@@ -1,10 +1,6 @@
 -- The walk over the offsets holds the count, the number of an offset and the offset; each way out is a law of the header.
-use Prim.Native.Nat.{◌-◌}
 use Rattle.rules.proofs.Reel.HeaderSteps.{HeaderWalk}
 use Rattle.reels.proofs.header.Given as goal
 
 abbrev pub invariant-loop-i : goal.invariant-loop-i
 invariant-loop-i l = HeaderWalk l.reel l.count l.i l.a
-
-abbrev pub decreases-loop-i : goal.decreases-loop-i
-decreases-loop-i l = l.count - l.i

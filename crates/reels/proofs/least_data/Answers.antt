@@ -5,5 +5,5 @@ use Rattle.reels.proofs.least_data.Goals as goal
 pub returns-then-form : goal.returns-then-form
 returns-then-form c = least_selected _ c.if-form.true
 
-pub returns : goal.returns
-returns c = least_whole _ c.if-form.false
+pub returns-else-form : goal.returns-else-form
+returns-else-form c = least_whole _ c.if-form.false

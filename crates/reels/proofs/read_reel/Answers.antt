@@ -1,13 +1,17 @@
 -- The header, and then the blocks.
-use mathlib.Core.Path.{sym, ◌∙◌}
+use mathlib.Core.Path.{sym, ap, ◌∙◌, subst}
+use Rattle.std.specs.Prelude.{Err}
+use Rattle.std.proofs.lemmas.Result.{err_from_is_err_and}
+use Rattle.pieces.proofs.PiecesLaws.{or_taken, or_missed}
+use Rattle.reels.specs.Records.{ReadAs}
 use Rattle.reels.proofs.ReelReads.{not_reel}
 use Rattle.reels.proofs.read_reel.Goals as goal
 
+pub returns-in_err-blocks : goal.returns-in_err-blocks
+returns-in_err-blocks c =
+    let m = or_missed _ _ _ c.in_err-blocks.ensures.value in
+    let r = err_from_is_err_and c.from_residual.result c.from_residual.ensures.1 in
+    subst (ReadAs c.args.form c.args.reel.now) (sym (r.1 ∙ ap Err (r.2 ∙ m.1))) (not_reel _ _ (sym c.header.ensures ∙ m.0))
+
 pub read_blocks-requires : goal.read_blocks-requires
-read_blocks-requires c = sym c.header-read.ensures ∙ c.in-Reel.is
-
-pub returns-in-Reel : goal.returns-in-Reel
-returns-in-Reel c = c.read_blocks.ensures
-
-pub returns-in-NoReel : goal.returns-in-NoReel
-returns-in-NoReel c = not_reel _ _ (sym c.header-read.ensures ∙ c.in-NoReel.is)
+read_blocks-requires c = sym c.header.ensures ∙ or_taken _ _ _ c.in_ok-blocks.ensures.value

@@ -5,5 +5,5 @@ use Rattle.turns.proofs.taken.Goals as goal
 pub returns-then-code-eq0 : goal.returns-then-code-eq0
 returns-then-code-eq0 c = taken_even _ _ _ c.if-code-eq0.true
 
-pub returns : goal.returns
-returns c = taken_odd _ _ _ c.if-code-eq0.false
+pub returns-else-code-eq0 : goal.returns-else-code-eq0
+returns-else-code-eq0 c = taken_odd _ _ _ c.if-code-eq0.false

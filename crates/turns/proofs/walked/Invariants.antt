@@ -4,8 +4,8 @@ use lib.ListN.{length}
 use Rattle.turns.proofs.TurnsLaws.{Going}
 use Rattle.turns.proofs.walked.Given as goal
 
-abbrev pub invariant-loop-length : goal.invariant-loop-length
-invariant-loop-length l = Going l.b l.initial.at l.initial.counts l.counts l.at
+abbrev pub invariant-loop-segment : goal.invariant-loop-segment
+invariant-loop-segment l = Going l.b l.initial.at.at l.initial.counts l.counts l.at.at
 
-abbrev pub decreases-loop-length : goal.decreases-loop-length
-decreases-loop-length l = length l.b - l.at
+abbrev pub decreases-loop-segment : goal.decreases-loop-segment
+decreases-loop-segment l = length l.b - l.at.at
