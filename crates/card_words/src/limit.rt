@@ -37,7 +37,9 @@ fn is_open(part: &[u8]) -> bool {
 fn size_limits(to: &impl Print, card: &[u8], part: &[u8]) {
     if behind_digits(part) == COMMA {
         say(to, b"1 to 4,096");
-    } else if line_words::column_of(card, b'V') > 0 || line_words::column_of(card, b'S') > 0 {
+    } else if line_words::column_of(card, b'V').is_some()
+        || line_words::column_of(card, b'S').is_some()
+    {
         say(to, b"9 to 32,760");
     } else {
         say(to, b"1 to 32,760");
@@ -117,14 +119,10 @@ fn lengths_in(part: &[u8]) -> Lengths {
 
 // The same of a U card.
 fn lengths_on(card: &[u8]) -> Lengths {
-    let column = line_words::parameter(card, b'A');
-    if column == 0 {
-        return no_lengths();
+    match line_words::parameter(card, b'A') {
+        Some(column) => lengths_in(&card[column - 1..]),
+        None => no_lengths(),
     }
-    if card.len() < column {
-        return no_lengths();
-    }
-    lengths_in(&card[column - 1..])
 }
 
 // Says what key and data are together, where each is within its own limits, and whether that was said.

@@ -21,8 +21,10 @@ use Rattle.rules.proofs.Refusals.AnswerLaws.{bind_fine}
 use Rattle.rules.proofs.Refusals.OrderOutcome.{order_fine}
 use Rattle.rules.proofs.Deck.ScanLaws.{cards_each}
 use Rattle.rules.proofs.Columns.WordColumns.{plain_read, list_plain}
-use Rattle.lines.specs.declared.LineRead.TheVariants.{Line, NoLine}
-use Rattle.lines.specs.Meaning.{IsCard, LineSays}
+use Rattle.std.specs.Prelude.{None, Some}
+use Rattle.lines.specs.declared.CardRead.{CardRead}
+use Rattle.lines.specs.declared.LineRead.{LineRead}
+use Rattle.lines.specs.Meaning.{CardSays, IsCard, LineSays}
 use Rattle.cards.specs.declared.ListRead.{ListRead}
 use Rattle.cards.specs.declared.Noted.{Noted}
 use Rattle.cards.specs.declared.FsCards.{FsCards}
@@ -43,35 +45,39 @@ lent_list card t deck from to h r row = subst (λ (o : List ℕ). ListSays card 
 
 -- ---- the card at a place
 
-module _ (deck : List ℕ) (at end next : ℕ) (h : LineSays deck at (Line end next)) where
-  line_first : cards_in (drop at deck) ≡ card_of (slice at end deck) ∷ cards_in (drop next deck)
+module _ (deck : List ℕ) (at : ℕ) (line : LineRead) (h : LineSays deck at (Some line)) where
+  abbrev bytes : List ℕ
+  bytes = slice at line.end deck
+
+  line_first : cards_in (drop at deck) ≡ card_of bytes ∷ cards_in (drop line.next deck)
   line_first = ap (map card_of) h.4
 
-  pub line_card : All IsCard (cards_in (drop at deck)) → IsCard (card_of (slice at end deck))
+  -- what is said of the line as it is lent, `&deck[at..line.end]`
+  pub lent_line : (r : CardRead) → CardSays (take (line.end - at) (drop at deck)) (Some r) → CardSays bytes (Some r)
+  lent_line r = subst (λ (l : List ℕ). CardSays l (Some r)) (sym (slice_part at line.end deck h.1))
+
+  pub line_card : All IsCard (cards_in (drop at deck)) → IsCard (card_of bytes)
   line_card a = all_head (subst (All IsCard) line_first a)
 
-  pub line_length : length (slice at end deck) ≡ end - at
-  line_length = length-slice at end deck h.2
+  pub line_length : length bytes ≡ line.end - at
+  line_length = length-slice at line.end deck h.2
 
-  pub operand_at : (card : List ℕ → Card) (start stop : ℕ) → start ≤ stop → stop ≤ length (slice at end deck)
-      → card_of (slice at end deck) ≡ some (card (slice start stop (slice at end deck))) → OperandAt card deck at (at + start) (at + stop) next
+  pub operand_at : (card : List ℕ → Card) (start stop : ℕ) → start ≤ stop → stop ≤ length bytes → card_of bytes ≡ some (card (slice start stop bytes))
+      → OperandAt card deck at (at + start) (at + stop) line.next
   operand_at card start stop l m e =
-      let n : at + stop ≤ end = omega (arith, line_length, h.1) in
+      let n : at + stop ≤ line.end = omega (arith, line_length, h.1) in
       record {
         on = omega (arith, h.0, h.1, h.3);
         within = omega (arith, h.3);
         from = omega arith;
         upto = omega (arith, h.2);
-        is = line_first ∙ ap (◌∷ cards_in (drop next deck)) (e ∙ ap (λ (o : List ℕ). some (card o)) (slice_within at end start stop deck n));
+        is = line_first ∙ ap (◌∷ cards_in (drop line.next deck)) (e ∙ ap (λ (o : List ℕ). some (card o)) (slice_within at line.end start stop deck n));
       }
 
-  pub end_at : card_of (slice at end deck) ≡ some end_card → Operandless (cards_in (drop at deck))
-  end_at e = subst Operandless (sym (line_first ∙ ap (◌∷ cards_in (drop next deck)) e)) tt
+  pub end_at : card_of bytes ≡ some end_card → Operandless (cards_in (drop at deck))
+  end_at e = subst Operandless (sym (line_first ∙ ap (◌∷ cards_in (drop line.next deck)) e)) tt
 
-  pub none_at : card_of (slice at end deck) ≡ none → Operandless (cards_in (drop at deck))
-  none_at e = subst Operandless (sym (line_first ∙ ap (◌∷ cards_in (drop next deck)) e)) tt
-
-pub nothing_at : (deck : List ℕ) (at : ℕ) → LineSays deck at NoLine → Operandless (cards_in (drop at deck))
+pub nothing_at : (deck : List ℕ) (at : ℕ) → LineSays deck at None → Operandless (cards_in (drop at deck))
 nothing_at deck at h = subst Operandless (sym (ap (map card_of) h.1)) tt
 
 -- ---- the FS cards

@@ -1,7 +1,7 @@
 // From a deck's bytes to what its cards ask for (document 01, "The deck"): refusals 1 to 7.
 #![tactic(auto)]
 
-ghost use Rattle.std.specs.Prelude.{◌≡◌, List, [], ◌+◌, ◌≤◌, length, drop, get_or};
+ghost use Rattle.std.specs.Prelude.{◌≡◌, List, [], ◌+◌, ◌≤◌, length, drop, get_or, Some};
 ghost use Rattle.rules.specs.Places.{All};
 ghost use Rattle.rules.specs.Answer.{fine};
 ghost use Rattle.rules.specs.Reader.{list_of, rest_of};
@@ -13,7 +13,6 @@ ghost use Rattle.rows.specs.Kept.{row_of};
 ghost use Rattle.readers.specs.declared.UParameter.TheVariants.{ModeIs, FormatIs, InputIs, OutputIs};
 ghost use Rattle.readers.specs.Meaning.{parameter_of};
 ghost use Rattle.limits.specs.Limits.{Reaches};
-ghost use Rattle.lines.specs.declared.LineRead.TheVariants.{Line};
 ghost use Rattle.lines.specs.Meaning.{IsCard, LineSays};
 ghost use Rattle.cards.specs.Selected.{nothing_noted, field_counted, key_noted, field_noted, cv_noted, Keepable, kept_row, ListSays, no_selection};
 ghost use Rattle.cards.specs.Parameters.{no_parameter, with_part, with_parameter, none_outside, with_numbers, u_read, UListed};
@@ -21,7 +20,7 @@ ghost use Rattle.cards.specs.Deck.{cards_in, fs_first, CardAtSays, FsSaid, FsFin
 ghost use Rattle.cards.specs.CardRefusals.{is_complete, u_outside, limits_of, card_refusal_of, asked_for, judged_as};
 ghost use Rattle.cards.specs.Promise.{refused_deck, nothing_asked, InOrder, DeckReads, DeckSays, card_of_field};
 
-use lines::{CardRead, LineRead, OrderRead};
+use lines::{CardRead, LineRead};
 use readers::{ItemRead, ParameterRead, UParameter};
 use terms::{Asked, Field, Format, Input, Mode, Part, Size};
 
@@ -455,34 +454,26 @@ enum CardAt {
     NoOperand,
 }
 
-// The card on a line that begins at `at` and ends at `end`.
-fn card_on(deck: &[u8], at: usize, end: usize, next: usize) -> CardAt
-    requires line_says { LineSays deck.now at (Line end next) }
+// The card on a line that begins at `at`.
+fn card_on(deck: &[u8], at: usize, line: LineRead) -> CardAt
+    requires line_says { LineSays deck.now at (Some line) }
     requires all { All IsCard (cards_in (drop at deck.now)) }
     ensures { CardAtSays deck.now at result }
 {
-    let read = lines::operand(&deck[at..end]);
+    let next = line.next;
+    let read = lines::operand(&deck[at..line.end]);
     match read {
-        CardRead::UCard { start, end: stop } => {
-            let u_start = at + start;
-            let u_end = at + stop;
-            CardAt::UAt {
-                start: u_start,
-                end: u_end,
-                next,
-            }
-        }
-        CardRead::FsCard { start, end: stop } => {
-            let fs_start = at + start;
-            let fs_end = at + stop;
-            CardAt::FsAt {
-                start: fs_start,
-                end: fs_end,
-                next,
-            }
-        }
+        CardRead::UCard { start, end } => CardAt::UAt {
+            start: at + start,
+            end: at + end,
+            next,
+        },
+        CardRead::FsCard { start, end } => CardAt::FsAt {
+            start: at + start,
+            end: at + end,
+            next,
+        },
         CardRead::EndCard => CardAt::NoOperand,
-        CardRead::NoCard => CardAt::NoOperand,
     }
 }
 
@@ -491,10 +482,9 @@ fn card_at(deck: &[u8], at: usize) -> CardAt
     requires { All IsCard (cards_in (drop at deck.now)) }
     ensures { CardAtSays deck.now at result }
 {
-    let found = lines::line(deck, at);
-    match found {
-        LineRead::Line { end, next } => card_on(deck, at, end, next),
-        LineRead::NoLine => CardAt::NoOperand,
+    match lines::line(deck, at) {
+        Some(line) => card_on(deck, at, line),
+        None => CardAt::NoOperand,
     }
 }
 
@@ -759,10 +749,9 @@ fn read_cards(deck: &[u8], row: &mut [u16; 320]) -> DeckRead
     requires { row.old ≡ row_of [] }
     ensures { (length row.new ≡ 320) × DeckReads deck.now result row.new }
 {
-    let order = lines::order(deck);
-    match order {
-        OrderRead::Refused { number, place } => refused(number, place, 0),
-        OrderRead::Ordered { cards } => read_ordered(deck, cards - 2, row),
+    match lines::order(deck) {
+        Ok(cards) => read_ordered(deck, cards - 2, row),
+        Err(disorder) => refused(disorder.number(), disorder.place(), 0),
     }
 }
 

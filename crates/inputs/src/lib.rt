@@ -9,7 +9,7 @@ ghost use Rattle.lines.specs.Ordering.{answer_of};
 ghost use Rattle.inputs.specs.Reading.{read_as, ReadSays, FillSays, fed_of, FedSays, whole_deck, long_deck, LongDeckSays, DeckBytesSays};
 
 pub use arguments::{argument, argument_count, read_argument};
-use lines::OrderRead;
+use lines::Disorder;
 use scans::Scanner;
 use std::io::{Error, Read};
 
@@ -158,17 +158,17 @@ fn whole(read: BytesRead) -> DeckBytes
 
 // A deck that filled the room, by what the scan of it comes to. A right deck has at most 5,184 bytes, so a longer one is refused by 1 or 2; that
 // its cards are in order does not arise (`long_deck_refused`).
-fn long_deck(read: OrderRead, failed: bool) -> DeckBytes
+fn long_deck(read: Result<usize, Disorder>, failed: bool) -> DeckBytes
     ensures { result ≡ long_deck (answer_of read) failed }
 {
     match read {
-        OrderRead::Refused { number, place } => DeckBytes {
+        Err(disorder) => DeckBytes {
             length: 0,
-            refusal: number,
-            place,
+            refusal: disorder.number(),
+            place: disorder.place(),
             failed,
         },
-        OrderRead::Ordered { cards: _ } => DeckBytes {
+        Ok(_) => DeckBytes {
             length: 65536,
             refusal: 0,
             place: 0,

@@ -14,69 +14,23 @@ const EBCDIC: [u8; 3] = [0x61, 0x61, 0x40];
 
 // ---- how a line begins
 
-// The byte, as a capital where it is a small letter.
-fn capital(byte: u8) -> u8 {
-    if byte < b'a' {
-        return byte;
-    }
-    if b'z' < byte {
-        return byte;
-    }
-    byte - 32
-}
-
 // Whether the line, in capital letters, begins with the text.
 fn begins_in_capitals(line: &[u8], text: &[u8]) -> bool {
-    let mut i = 0;
-    while i < text.len() {
-        if line.len() <= i {
-            return false;
-        }
-        if capital(line[i]) != text[i] {
-            return false;
-        }
-        i += 1;
-    }
-    true
+    text.len() <= line.len()
+        && line
+            .iter()
+            .zip(text)
+            .all(|(byte, capital)| byte.to_ascii_uppercase() == *capital)
 }
 
-// Whether the line begins with the text.
-fn begins(line: &[u8], text: &[u8]) -> bool {
-    let mut i = 0;
-    while i < text.len() {
-        if line.len() <= i {
-            return false;
-        }
-        if line[i] != text[i] {
-            return false;
-        }
-        i += 1;
-    }
-    true
+// The column of the first small letter.
+fn small(line: &[u8]) -> Option<usize> {
+    card::column_where(line, |byte| byte.is_ascii_lowercase())
 }
 
-// The column of the first small letter, or 0.
-fn small(line: &[u8]) -> usize {
-    let mut i = 0;
-    while i < line.len() {
-        if capital(line[i]) != line[i] {
-            return i + 1;
-        }
-        i += 1;
-    }
-    0
-}
-
-// The column of the first byte that is not printable, or 0.
-fn unprintable(line: &[u8]) -> usize {
-    let mut i = 0;
-    while i < line.len() {
-        if line[i] < 0x20 || 0x7E < line[i] {
-            return i + 1;
-        }
-        i += 1;
-    }
-    0
+// The column of the first byte that is not printable.
+fn unprintable(line: &[u8]) -> Option<usize> {
+    card::column_where(line, |byte| byte < 0x20 || 0x7E < byte)
 }
 
 // ---- the shapes of cards
@@ -127,7 +81,7 @@ fn initials(to: &impl Print, first: u8, second: u8) {
 
 // Says what is wrong with a line that begins as a U card does.
 fn u_shape(to: &impl Print, line: &[u8]) {
-    if begins(line, b"// UTT") {
+    if line.starts_with(b"// UTT") {
         no_blank(to, b"// UTT");
         return;
     }
@@ -148,19 +102,19 @@ fn u_shape(to: &impl Print, line: &[u8]) {
 fn shape(to: &impl Print, line: &[u8]) {
     if is_card_in_capitals(line) {
         say(to, b"cards are in capital letters, and column ");
-        number(to, small(line));
+        number(to, small(line).unwrap_or(0));
         say(to, b" has a small one");
         return;
     }
-    if begins(line, b"// U") && !begins(line, b"// UPSI ") {
+    if line.starts_with(b"// U") && !line.starts_with(b"// UPSI ") {
         u_shape(to, line);
         return;
     }
-    if begins(line, b"// FS") {
+    if line.starts_with(b"// FS") {
         no_blank(to, b"// FS");
         return;
     }
-    if begins(line, b"// END") {
+    if line.starts_with(b"// END") {
         behind_end(to, card::byte(line, 7));
         return;
     }
@@ -187,8 +141,7 @@ fn written(to: &impl Print, line: &[u8]) {
         say(to, b"this line is empty");
         return;
     }
-    let column = unprintable(line);
-    if column > 0 {
+    if let Some(column) = unprintable(line) {
         byte_in(to, line, column);
         return;
     }
@@ -203,7 +156,7 @@ fn written(to: &impl Print, line: &[u8]) {
 
 // Says why a line is no card.
 fn explain(to: &impl Print, line: &[u8]) {
-    if begins(line, &EBCDIC) {
+    if line.starts_with(&EBCDIC) {
         say(
             to,
             b"the deck is in EBCDIC: this line begins with hex 61 61 40, which is '// ' there; a deck is in ASCII",
@@ -217,8 +170,7 @@ fn explain(to: &impl Print, line: &[u8]) {
         );
         return;
     }
-    let column = card::column_of(line, TAB);
-    if column > 0 {
+    if let Some(column) = card::column_of(line, TAB) {
         say(to, b"there is a tab in column ");
         number(to, column);
         say(to, b"; a card has blanks");

@@ -5,7 +5,7 @@ use words::say;
 
 // Whether no parameter of the card has this letter.
 fn is_missing(card: &[u8], letter: u8) -> bool {
-    card::parameter(card, letter) == 0
+    card::parameter(card, letter).is_none()
 }
 
 // Says a letter that is missing, after others or before some.

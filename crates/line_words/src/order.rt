@@ -6,20 +6,14 @@ use words::{number, say};
 
 // Whether the card of a place is an END card.
 fn is_end(deck: &[u8], place: usize) -> bool {
-    let kind = lines::kind(card::card_at(deck, place));
-    match kind {
-        CardKind::Utility => false,
-        CardKind::Select => false,
-        CardKind::End => true,
-        CardKind::Other => false,
-    }
+    lines::kind(card::card_at(deck, place)) == Some(CardKind::End)
 }
 
 // Says which card stands first in place of the U card.
-fn first_card(to: &impl Print, kind: CardKind) {
+fn first_card(to: &impl Print, kind: Option<CardKind>) {
     say(to, b"the first card is the U card, and this is an ");
     match kind {
-        CardKind::End => say(to, b"END card"),
+        Some(CardKind::End) => say(to, b"END card"),
         _ => say(to, b"FS card"),
     }
 }
@@ -49,7 +43,7 @@ fn no_end(to: &impl Print, last: usize) {
 
 // Says why a card is at fault that is not the first. It is the first at fault, so that an END card before it is the one just before. Where no card is at fault
 // there is none at the place.
-fn later_card(to: &impl Print, kind: CardKind, deck: &[u8], place: usize, before: usize) {
+fn later_card(to: &impl Print, kind: Option<CardKind>, deck: &[u8], place: usize, before: usize) {
     if is_end(deck, before) {
         say(to, b"card ");
         number(to, before);
@@ -57,8 +51,8 @@ fn later_card(to: &impl Print, kind: CardKind, deck: &[u8], place: usize, before
         return;
     }
     match kind {
-        CardKind::Other => no_end(to, before),
-        _ => before_end(to, kind, place),
+        None => no_end(to, before),
+        Some(kind) => before_end(to, kind, place),
     }
 }
 

@@ -4,6 +4,7 @@ use mathlib.Core.Path.{◌≡◌, refl, ap, sym, ◌∙◌, subst}
 use mathlib.Core.Logic.{inl, inr}
 use mathlib.Core.Bool.{Bool, true, false}
 use mathlib.Core.List.{List, [], ◌∷◌}
+use Rattle.std.specs.Prelude.{None, Some, is_none}
 use mathlib.Core.Option.{Option, none, some}
 use Prim.Native.Nat.{ℕ, ◌+◌, ◌≤◌, ◌<◌}
 use Prim.Native.String.{String}
@@ -24,10 +25,9 @@ use Rattle.rules.proofs.Deck.CardLaws.{operand_of, card_exactly}
 use Rattle.rules.proofs.Deck.LineLaws.{next_line, last_line, no_line}
 use Rattle.rules.proofs.Deck.CardPlaces.{after_other, after_short, after_end, operand_slice, operand_blank, operand_end, card_untidy, card_u, card_utt, card_fs, card_end, card_end_blank, card_end_other, card_none}
 use Rattle.lines.specs.Meaning.{BeginsSays, OperandEnds, CardSays, IsCard, inner, PassedSays, LineSays}
-use Rattle.lines.specs.Ordering.{card_kind_of, is_other}
+use Rattle.lines.specs.Ordering.{card_kind_of}
 use Rattle.lines.specs.declared.CardRead.TheVariants.{UCard, FsCard, EndCard}
-use Rattle.lines.specs.declared.CardKind.TheVariants.{Utility, Select, End, Other}
-use Rattle.lines.specs.declared.LineRead.TheVariants.{Line, NoLine}
+use Rattle.lines.specs.declared.CardKind.TheVariants.{Utility, Select, End}
 
 pub not_both : true ≡ false → ⊥
 not_both e = let z : ◌≡◌ {A = ℕ} 0 1 = cc in omega arith
@@ -64,46 +64,46 @@ unfolding text
 text_read t l b = b.1
 
 module _ (l : List ℕ) where
-  pub kind_untidy : tidy l ≡ false → Other ≡ card_kind_of (card_of l)
+  pub kind_untidy : tidy l ≡ false → None ≡ card_kind_of (card_of l)
   kind_untidy e = rw (card_untidy l e)
 
   module _ (plain : tidy l ≡ true) where
-    pub kind_u : BeginsSays (ascii "// U ") l true → Utility ≡ card_kind_of (card_of l)
+    pub kind_u : BeginsSays (ascii "// U ") l true → Some Utility ≡ card_kind_of (card_of l)
     kind_u b = rw (card_u l plain (drop 5 l) tt (text_read "// U " l b))
 
-    pub kind_utt : BeginsSays (ascii "// UTT ") l true → Utility ≡ card_kind_of (card_of l)
+    pub kind_utt : BeginsSays (ascii "// UTT ") l true → Some Utility ≡ card_kind_of (card_of l)
     kind_utt b = rw (card_utt l plain (drop 7 l) tt (text_read "// UTT " l b))
 
-    pub kind_fs : BeginsSays (ascii "// FS ") l true → Select ≡ card_kind_of (card_of l)
+    pub kind_fs : BeginsSays (ascii "// FS ") l true → Some Select ≡ card_kind_of (card_of l)
     kind_fs b = rw (card_fs l plain (drop 6 l) tt (text_read "// FS " l b))
 
     -- END alone, or with a blank behind it
-    pub kind_end : BeginsSays (ascii "// END") l true → length l ≡ 6 → End ≡ card_kind_of (card_of l)
+    pub kind_end : BeginsSays (ascii "// END") l true → length l ≡ 6 → Some End ≡ card_kind_of (card_of l)
     kind_end b e =
         rw (card_end l plain tt (text_read "// END" l b ∙ ap (λ (x : List ℕ). read tt x) (drop_of_length-le l {i = 6} (omega arith))))
 
-    pub kind_end_blank : BeginsSays (ascii "// END") l true → 6 < length l → get_or l 6 0 ≡ 0x20 → End ≡ card_kind_of (card_of l)
+    pub kind_end_blank : BeginsSays (ascii "// END") l true → 6 < length l → get_or l 6 0 ≡ 0x20 → Some End ≡ card_kind_of (card_of l)
     kind_end_blank b h e =
         rw (card_end_blank l plain tt (drop 7 l)
         (text_read "// END" l b ∙ ap (λ (x : List ℕ). read tt x) (drop-cons l 6 0 h ∙ ap (λ (z : ℕ). z ∷ drop 7 l) e)))
 
-  pub kind_end_other : BeginsSays (ascii "// END") l true → 6 < length l → (get_or l 6 0 ≡ 0x20 → ⊥) → Other ≡ card_kind_of (card_of l)
+  pub kind_end_other : BeginsSays (ascii "// END") l true → 6 < length l → (get_or l 6 0 ≡ 0x20 → ⊥) → None ≡ card_kind_of (card_of l)
   kind_end_other b h n =
       rw (card_end_other l tt (get_or l 6 0) (drop 7 l) (text_read "// END" l b ∙ ap (λ (x : List ℕ). read tt x) (drop-cons l 6 0 h)) n)
 
   pub kind_none : BeginsSays (ascii "// U ") l false → BeginsSays (ascii "// UTT ") l false → BeginsSays (ascii "// FS ") l false
-      → BeginsSays (ascii "// END") l false → Other ≡ card_kind_of (card_of l)
+      → BeginsSays (ascii "// END") l false → None ≡ card_kind_of (card_of l)
   unfolding text
   kind_none a b c d = rw (card_none l a b c d)
 
--- a line of another kind is no card, and every other line is one
-pub other_none : (card : Option Card) → is_other (card_kind_of card) ≡ true → card ≡ none
+-- a line of no kind is no card, and every other line is one
+pub other_none : (card : Option Card) → is_none (card_kind_of card) ≡ true → card ≡ none
 other_none none e = refl
 other_none (some (u_card b o)) e = absurd (not_both (sym e))
 other_none (some (fs_card o)) e = absurd (not_both (sym e))
 other_none (some end_card) e = absurd (not_both (sym e))
 
-pub known_card : (card : Option Card) → is_other (card_kind_of card) ≡ false → IsCard card
+pub known_card : (card : Option Card) → is_none (card_kind_of card) ≡ false → IsCard card
 known_card none e = absurd (not_both e)
 known_card (some c) e = tt
 
@@ -159,20 +159,20 @@ module _ (l : List ℕ) (known : IsCard (card_of l)) where
   pub five_bytes : 5 ≤ length l
   five_bytes = text_five card_text.2
 
-  pub card_says_end : get_or l 3 0 ≡ 0x45 → CardSays l EndCard
+  pub card_says_end : get_or l 3 0 ≡ 0x45 → CardSays l (Some EndCard)
   card_says_end e = card_text.1 ∙ ap some (text_end card_text.2 e)
 
   module _ (letter : get_or l 3 0 ≡ 0x46) where
     pub six_bytes : 6 ≤ length l
     six_bytes = (text_fs card_text.2 letter).0
 
-    pub card_says_fs : {e : ℕ} → OperandEnds l 6 e → CardSays l (FsCard 6 e)
+    pub card_says_fs : {e : ℕ} → OperandEnds l 6 e → CardSays l (Some (FsCard 6 e))
     card_says_fs o =
         let t = text_fs card_text.2 letter in
         (t.1, o.from, o.upto, card_text.1 ∙ ap some (t.2 ∙ ap fs_card o.is))
 
   module _ (not_fs : get_or l 3 0 ≡ 0x46 → ⊥) (not_end : get_or l 3 0 ≡ 0x45 → ⊥) where
-    pub card_says_u : {e : ℕ} → get_or l 4 0 ≡ 0x20 → OperandEnds l 5 e → CardSays l (UCard 5 e)
+    pub card_says_u : {e : ℕ} → get_or l 4 0 ≡ 0x20 → OperandEnds l 5 e → CardSays l (Some (UCard 5 e))
     card_says_u b o =
         let t = text_u card_text.2 not_fs not_end b in
         (inl t.0, o.from, o.upto, card_text.1 ∙ ap some (t.1 ∙ ap (u_card 5) o.is))
@@ -181,7 +181,7 @@ module _ (l : List ℕ) (known : IsCard (card_of l)) where
       pub seven_bytes : 7 ≤ length l
       seven_bytes = (text_utt card_text.2 not_fs not_end fifth).0
 
-      pub card_says_utt : {e : ℕ} → OperandEnds l 7 e → CardSays l (UCard 7 e)
+      pub card_says_utt : {e : ℕ} → OperandEnds l 7 e → CardSays l (Some (UCard 7 e))
       card_says_utt o =
           let t = text_utt card_text.2 not_fs not_end fifth in
           (inr t.1, o.from, o.upto, card_text.1 ∙ ap some (t.2 ∙ ap (u_card 7) o.is))
@@ -207,13 +207,13 @@ passed_block deck at end n p h e = (
 )
 
 module _ (deck : List ℕ) (at : ℕ) where
-  pub line_says_none : length deck ≤ at → LineSays deck at NoLine
+  pub line_says_none : length deck ≤ at → LineSays deck at None
   line_says_none h = (h, no_line deck at h)
 
-  pub line_says_next : (t : ℕ) → at ≤ t → t < length deck → All Inner (slice at t deck) → get_or deck t 0 ≡ 0x0A → LineSays deck at (Line t (t + 1))
+  pub line_says_next : (t : ℕ) → at ≤ t → t < length deck → All Inner (slice at t deck) → get_or deck t 0 ≡ 0x0A → LineSays deck at (Some (record { end = t; next = t + 1 }))
   line_says_next t h k a e = (omega arith, h, omega arith, omega arith, next_line deck at t h k a e)
 
-  pub line_says_last : (t : ℕ) → at < length deck → t ≤ length deck → length deck ≤ t → All Inner (slice at t deck) → LineSays deck at (Line t t)
+  pub line_says_last : (t : ℕ) → at < length deck → t ≤ length deck → length deck ≤ t → All Inner (slice at t deck) → LineSays deck at (Some (record { end = t; next = t }))
   line_says_last t h k e a =
       let z : t ≡ length deck = omega arith in
       let s : slice at t deck ≡ drop at deck = ap (λ (n : ℕ). slice at n deck) z ∙ ap (drop at) (take-length deck) in (

@@ -3,6 +3,7 @@
 use mathlib.Core.Path.{◌≡◌, refl, ap, sym, ◌∙◌}
 use mathlib.Core.Bool.{Bool, true, false}
 use mathlib.Core.List.{List, [], ◌∷◌, ◌++◌, map}
+use Rattle.std.specs.Prelude.{Option as Perhaps, None, Some, is_none}
 use mathlib.Core.Option.{Option, none, some}
 use Prim.Native.Nat.{ℕ, suc, ◌+◌, ◌≤◌, ◌<◌}
 use native.Mathlib.Omega.{arith}
@@ -17,60 +18,57 @@ use Rattle.rules.proofs.Refusals.AnswerLaws.{not_fine}
 use Rattle.rules.proofs.Deck.LineLaws.{lines_most}
 use Rattle.rules.proofs.Deck.ScanLaws.{cards_each, made_refused}
 use Rattle.lines.specs.Meaning.{LineSays}
-use Rattle.lines.specs.Ordering.{most, one_more, card_kind_of, is_other, closed, misplaced, with_line, order_of, card_count}
+use Rattle.lines.specs.Ordering.{most, one_more, card_kind_of, closed, misplaced, with_line, order_of, card_count}
 use Rattle.lines.specs.declared.CardKind.{CardKind}
-use Rattle.lines.specs.declared.CardKind.TheVariants.{Utility, Select, End, Other}
+use Rattle.lines.specs.declared.CardKind.TheVariants.{Utility, Select, End}
 use Rattle.lines.specs.declared.LinesSeen.{LinesSeen}
-use Rattle.lines.specs.declared.LineRead.TheVariants.{Line, NoLine}
+use Rattle.lines.specs.declared.LineRead.{LineRead}
 use Rattle.lines.proofs.SeenSteps.{one_more_below, first_stays, first_place, first_unmarked, faulty_first, faulty_ended, faulty_past, order_bad, order_fault, order_cards, order_open}
 
 -- no line has been judged
 abbrev pub no_line : LinesSeen
-no_line = record { lines = 0; bad = 0; fault = 0; ended = false }
+no_line = record { lines = 0; bad = None; fault = None; ended = false }
 
 -- lines are judged one after another
-abbrev pub with_lines : LinesSeen → List CardKind → LinesSeen
+abbrev pub with_lines : LinesSeen → List (Perhaps CardKind) → LinesSeen
 with_lines t [] = t
 with_lines t (k ∷ ks) = with_lines (with_line t k) ks
 
-pub with_lines_more : (t : LinesSeen) (ks : List CardKind) (k : CardKind) → with_lines t (ks ++ (k ∷ [])) ≡ with_line (with_lines t ks) k
+pub with_lines_more : (t : LinesSeen) (ks : List (Perhaps CardKind)) (k : Perhaps CardKind) → with_lines t (ks ++ (k ∷ [])) ≡ with_line (with_lines t ks) k
 with_lines_more t [] k = refl
 with_lines_more t (j ∷ ks) k = with_lines_more (with_line t j) ks k
 
-abbrev pub kinds : List (List ℕ) → List CardKind
+abbrev pub kinds : List (List ℕ) → List (Perhaps CardKind)
 kinds ls = map (λ l. card_kind_of (card_of l)) ls
 
-abbrev faces : List Card → List CardKind
+abbrev faces : List Card → List (Perhaps CardKind)
 faces cs = map (λ c. card_kind_of (some c)) cs
 
 -- n lines have been judged, and nothing is marked
 record Clear (t : LinesSeen) (n : ℕ) (ended : Bool) : Type 0 where
   pub count : t.lines ≡ n
-  pub good : t.bad ≡ 0
-  pub right : t.fault ≡ 0
+  pub good : t.bad ≡ None
+  pub right : t.fault ≡ None
   pub end : t.ended ≡ ended
 
 -- ---- what is marked stays
 
-pub bad_stays : (t : LinesSeen) (ks : List CardKind) → (t.bad ≡ 0 → ⊥) → (with_lines t ks).bad ≡ t.bad
-bad_stays t [] h = refl
-bad_stays t (k ∷ ks) h =
-    let e : (with_line t k).bad ≡ t.bad = first_stays t.bad (is_other k) (one_more t.lines) h in
-    bad_stays (with_line t k) ks (λ z. h (sym e ∙ z)) ∙ e
+pub bad_stays : (t : LinesSeen) (ks : List (Perhaps CardKind)) (p : ℕ) → t.bad ≡ Some p → (with_lines t ks).bad ≡ Some p
+bad_stays t [] p e = e
+bad_stays t (k ∷ ks) p e = bad_stays (with_line t k) ks p (first_stays (is_none k) (one_more t.lines) t.bad p e)
 
-pub fault_stays : (t : LinesSeen) (ks : List CardKind) → (t.fault ≡ 0 → ⊥) → (with_lines t ks).fault ≡ t.fault
-fault_stays t [] h = refl
-fault_stays t (k ∷ ks) h =
-    let e : (with_line t k).fault ≡ t.fault = first_stays t.fault (misplaced k (one_more t.lines) t.ended) (one_more t.lines) h in
-    fault_stays (with_line t k) ks (λ z. h (sym e ∙ z)) ∙ e
+pub fault_stays : (t : LinesSeen) (ks : List (Perhaps CardKind)) (p : ℕ) → t.fault ≡ Some p → (with_lines t ks).fault ≡ Some p
+fault_stays t [] p e = e
+fault_stays t (k ∷ ks) p e =
+    fault_stays (with_line t k) ks p (first_stays (misplaced k (one_more t.lines) t.ended) (one_more t.lines) t.fault p e)
 
-is_card : (c : Card) → is_other (card_kind_of (some c)) ≡ false
+is_card : (c : Card) → is_none (card_kind_of (some c)) ≡ false
 is_card (u_card b o) = refl
 is_card (fs_card o) = refl
 is_card end_card = refl
 
 card_good : (t : LinesSeen) (c : Card) → (with_line t (card_kind_of (some c))).bad ≡ t.bad
-card_good t c = first_unmarked t.bad (is_other (card_kind_of (some c))) (one_more t.lines) (is_card c)
+card_good t c = first_unmarked (is_none (card_kind_of (some c))) (one_more t.lines) t.bad (is_card c)
 
 cards_good : (t : LinesSeen) (cs : List Card) → (with_lines t (faces cs)).bad ≡ t.bad
 cards_good t [] = refl
@@ -82,8 +80,8 @@ pub next_place : (t : LinesSeen) (n : ℕ) → t.lines ≡ n → n < most → on
 next_place t n e h = let l : t.lines < most = omega arith in omega (arith, one_more_below t.lines l)
 
 -- the first line that is no card is marked
-bad_first : (n : ℕ) (ls : List (List ℕ)) (r : Refusal) (t : LinesSeen) → t.lines ≡ n → t.bad ≡ 0 → n + length ls ≤ most → cards_from (suc n) ls ≡ refuse r
-    → (r.number ≡ 1) × (r.place ≡ (with_lines t (kinds ls)).bad) × (1 ≤ r.place) × (r.column ≡ 0)
+bad_first : (n : ℕ) (ls : List (List ℕ)) (r : Refusal) (t : LinesSeen) → t.lines ≡ n → t.bad ≡ None → n + length ls ≤ most → cards_from (suc n) ls ≡ refuse r
+    → (r.number ≡ 1) × ((with_lines t (kinds ls)).bad ≡ Some r.place) × (r.column ≡ 0)
 bad_first n [] r t e g h f = absurd (not_fine r [] (sym f))
 bad_first n (l ∷ ls) r t e g h f =
     go (λ k p q u. bad_first (suc n) ls r (with_line t k) p q (omega arith) u) (card_of l) refl
@@ -91,17 +89,16 @@ bad_first n (l ∷ ls) r t e g h f =
     place : one_more t.lines ≡ suc n
     place = next_place t n e (omega arith)
 
-    go : ((k : CardKind) → (with_line t k).lines ≡ suc n → (with_line t k).bad ≡ 0 → cards_from (suc (suc n)) ls ≡ refuse r
-        → (r.number ≡ 1) × (r.place ≡ (with_lines (with_line t k) (kinds ls)).bad) × (1 ≤ r.place) × (r.column ≡ 0))
-        → (o : Option Card) → card_of l ≡ o → (r.number ≡ 1) × (r.place ≡ (with_lines t (kinds (l ∷ ls))).bad) × (1 ≤ r.place) × (r.column ≡ 0)
+    go : ((k : Perhaps CardKind) → (with_line t k).lines ≡ suc n → (with_line t k).bad ≡ None → cards_from (suc (suc n)) ls ≡ refuse r
+        → (r.number ≡ 1) × ((with_lines (with_line t k) (kinds ls)).bad ≡ Some r.place) × (r.column ≡ 0))
+        → (o : Option Card) → card_of l ≡ o → (r.number ≡ 1) × ((with_lines t (kinds (l ∷ ls))).bad ≡ Some r.place) × (r.column ≡ 0)
     go ih none d =
         let v : refuse (record { number = 1; place = suc n; column = 0 }) ≡ refuse r = rw d at f in
         let w : record { number = 1; place = suc n; column = 0 } ≡ r = cc in
         let p : suc n ≡ r.place = ap (λ (z : Refusal). z.place) w in
-        let b : (with_line t Other).bad ≡ suc n = first_place t.bad true (one_more t.lines) g refl ∙ place in (
+        let b : (with_line t None).bad ≡ Some r.place = first_place true (one_more t.lines) t.bad g refl ∙ ap Some (place ∙ p) in (
           sym (ap (λ (z : Refusal). z.number) w),
-          rw d (sym p ∙ sym b ∙ sym (bad_stays (with_line t Other) (kinds ls) (λ z. omega arith))),
-          omega arith,
+          rw d (bad_stays (with_line t None) (kinds ls) r.place b),
           sym (ap (λ (z : Refusal). z.column) w),
         )
     go ih (some c) d =
@@ -114,24 +111,24 @@ bad_first n (l ∷ ls) r t e g h f =
 module _ {t : LinesSeen} {n : ℕ} {e : Bool} (clear : Clear t n e) (less : n < most) where
   at_fault : (c : Card) (cs : List Card) → misplaced (card_kind_of (some c)) (suc n) e ≡ true → order_of (with_lines t (faces (c ∷ cs))) ≡ refused 2 (suc n)
   at_fault c cs m =
-      let k : CardKind = card_kind_of (some c) in
+      let k : Perhaps CardKind = card_kind_of (some c) in
       let place : one_more t.lines ≡ suc n = next_place t n clear.count less in
       let marked : misplaced k (one_more t.lines) t.ended ≡ true = rw (place, clear.end) m in
-      let f : (with_line t k).fault ≡ suc n = first_place t.fault (misplaced k (one_more t.lines) t.ended) (one_more t.lines) clear.right marked ∙ place in
-      let g : (with_lines (with_line t k) (faces cs)).fault ≡ suc n = fault_stays (with_line t k) (faces cs) (λ z. omega arith) ∙ f in
-      let b : (with_lines (with_line t k) (faces cs)).bad ≡ 0 = cards_good (with_line t k) cs ∙ card_good t c ∙ clear.good in
-      order_fault (with_lines (with_line t k) (faces cs)) b (λ z. omega arith) ∙ ap (λ (p : ℕ). refused 2 p) g
+      let f : (with_line t k).fault ≡ Some (suc n)
+      = first_place (misplaced k (one_more t.lines) t.ended) (one_more t.lines) t.fault clear.right marked ∙ ap Some place in
+      let b : (with_lines (with_line t k) (faces cs)).bad ≡ None = cards_good (with_line t k) cs ∙ card_good t c ∙ clear.good in
+      order_fault (with_lines (with_line t k) (faces cs)) b (suc n) (fault_stays (with_line t k) (faces cs) (suc n) f)
 
   -- the card is in its place
   in_place : (c : Card) → misplaced (card_kind_of (some c)) (suc n) e ≡ false → Clear (with_line t (card_kind_of (some c))) (suc n) (closed (card_kind_of (some c)) e)
   in_place c m =
-      let k : CardKind = card_kind_of (some c) in
+      let k : Perhaps CardKind = card_kind_of (some c) in
       let place : one_more t.lines ≡ suc n = next_place t n clear.count less in
       let marked : misplaced k (one_more t.lines) t.ended ≡ false = rw (place, clear.end) m in
       record {
         count = place;
         good = card_good t c ∙ clear.good;
-        right = first_unmarked t.fault (misplaced k (one_more t.lines) t.ended) (one_more t.lines) marked ∙ clear.right;
+        right = first_unmarked (misplaced k (one_more t.lines) t.ended) (one_more t.lines) t.fault marked ∙ clear.right;
         end = ap (closed k) clear.end;
       }
 
@@ -167,12 +164,12 @@ fs_seen : (t : LinesSeen) (n : ℕ) (cs : List Card) → 1 ≤ n → Clear t n f
     → order_of (with_lines t (faces cs)) ≡ answer_from n (fs_from (suc n) cs)
 fs_seen t n [] one k h = none_left k (omega arith) refl
 fs_seen t n (u_card b o ∷ cs) one k h = at_fault k (omega arith) (u_card b o) cs (lt-ltb 1 (suc n) (omega arith))
-fs_seen t n (fs_card o ∷ cs) one k h = go (λ j. fs_seen (with_line t Select) (suc n) cs (omega arith) j (omega arith)) (leb (suc n) 64) refl
+fs_seen t n (fs_card o ∷ cs) one k h = go (λ j. fs_seen (with_line t (Some Select)) (suc n) cs (omega arith) j (omega arith)) (leb (suc n) 64) refl
   where
-    wrong : misplaced Select (suc n) false ≡ ltb 64 (suc n)
+    wrong : misplaced (Some Select) (suc n) false ≡ ltb 64 (suc n)
     wrong = faulty_past (suc n) false (λ z. omega arith) refl
 
-    go : (Clear (with_line t Select) (suc n) false → order_of (with_lines (with_line t Select) (faces cs)) ≡ answer_from (suc n) (fs_from (suc (suc n)) cs))
+    go : (Clear (with_line t (Some Select)) (suc n) false → order_of (with_lines (with_line t (Some Select)) (faces cs)) ≡ answer_from (suc n) (fs_from (suc (suc n)) cs))
         → (b : Bool) → leb (suc n) 64 ≡ b
         → order_of (with_lines t (faces (fs_card o ∷ cs))) ≡ answer_from n (fs_from (suc n) (fs_card o ∷ cs))
     go ih true b =
@@ -182,13 +179,13 @@ fs_seen t n (fs_card o ∷ cs) one k h = go (λ j. fs_seen (with_line t Select) 
     go ih false b = rw b (at_fault k (omega arith) (fs_card o) cs (wrong ∙ lt-ltb 64 (suc n) (leb-false (suc n) 64 b)))
 fs_seen t n (end_card ∷ cs) one k h = go (leb (suc n) 64) refl
   where
-    wrong : misplaced End (suc n) false ≡ ltb 64 (suc n)
+    wrong : misplaced (Some End) (suc n) false ≡ ltb 64 (suc n)
     wrong = faulty_past (suc n) false (λ z. omega arith) refl
 
     go : (b : Bool) → leb (suc n) 64 ≡ b → order_of (with_lines t (faces (end_card ∷ cs))) ≡ answer_from n (fs_from (suc n) (end_card ∷ cs))
     go true b =
         rw b
-        (end_seen (with_line t End) n cs (in_place k (omega arith) end_card (wrong ∙ le-ltb 64 (suc n) (leb-true (suc n) 64 b))) (omega arith))
+        (end_seen (with_line t (Some End)) n cs (in_place k (omega arith) end_card (wrong ∙ le-ltb 64 (suc n) (leb-true (suc n) 64 b))) (omega arith))
     go false b = rw b (at_fault k (omega arith) end_card cs (wrong ∙ lt-ltb 64 (suc n) (leb-false (suc n) 64 b)))
 
 u_first : (b : ℕ) (o : List ℕ) (x : Answer (List (List ℕ))) → answer_from 1 x ≡ card_count (x >>= λ os. fine (record { before = b; u = o; fs = os }))
@@ -201,7 +198,7 @@ ordered_seen : (t : LinesSeen) (cs : List Card) → Clear t 0 false → length c
 unfolding ◌>>=◌
 ordered_seen t [] k h = none_left k (omega arith) refl
 ordered_seen t (u_card b o ∷ cs) k h =
-    fs_seen (with_line t Utility) 1 cs (omega arith) (in_place k (omega arith) (u_card b o) (le-ltb 1 1 (omega arith))) (omega arith)
+    fs_seen (with_line t (Some Utility)) 1 cs (omega arith) (in_place k (omega arith) (u_card b o) (le-ltb 1 1 (omega arith))) (omega arith)
     ∙ u_first b o (fs_from 2 cs)
 ordered_seen t (fs_card o ∷ cs) k h = at_fault k (omega arith) (fs_card o) cs (faulty_first 1 false refl)
 ordered_seen t (end_card ∷ cs) k h = at_fault k (omega arith) end_card cs (faulty_first 1 false refl)
@@ -224,12 +221,12 @@ lines_seen t ls k h = go (cards_from 1 ls) refl
     go : (x : Answer (List Card)) → cards_from 1 ls ≡ x → order_of (with_lines t (kinds ls)) ≡ card_count (x >>= ordered)
     go (refuse r) e =
         let w = bad_first 0 ls r t k.count k.good (omega arith) e in
-        order_bad (with_lines t (kinds ls)) (λ z. omega (arith, w.1, w.2)) ∙ rw (w.0, w.1, w.3) refl
+        order_bad (with_lines t (kinds ls)) r.place w.1 ∙ rw (w.0, w.2) refl
     go (fine cs) e =
         let m = cards_each 1 ls cs e in
         let f : kinds ls ≡ faces cs = rw (← map_kinds ls, m) (map_faces cs) in
         let s : length cs ≡ length ls = sym (length-map cs some) ∙ sym (ap length m) ∙ length-map ls card_of in
-        ap (λ (ks : List CardKind). order_of (with_lines t ks)) f ∙ ordered_seen t cs k (omega arith)
+        ap (λ (ks : List (Perhaps CardKind)). order_of (with_lines t ks)) f ∙ ordered_seen t cs k (omega arith)
 
 -- all lines of a deck
 pub deck_seen : (x : List ℕ) → length x < most → order_of (with_lines no_line (kinds (lines x))) ≡ card_count (operands_of x)
@@ -244,10 +241,10 @@ abbrev pub Left : List ℕ → ℕ → LinesSeen → Type 0
 Left x at t = with_lines no_line (kinds (lines x)) ≡ with_lines t (kinds (lines (drop at x)))
 
 -- one more is judged
-pub left_line : (x : List ℕ) (at end next : ℕ) (t : LinesSeen) → LineSays x at (Line end next) → Left x at t
-    → Left x next (with_line t (card_kind_of (card_of (slice at end x))))
-left_line x at end next t l e = e ∙ ap (λ (ls : List (List ℕ)). with_lines t (kinds ls)) l.4
+pub left_line : (x : List ℕ) (at : ℕ) (line : LineRead) (t : LinesSeen) → LineSays x at (Some line) → Left x at t
+    → Left x line.next (with_line t (card_kind_of (card_of (slice at line.end x))))
+left_line x at line t l e = e ∙ ap (λ (ls : List (List ℕ)). with_lines t (kinds ls)) l.4
 
 -- none is left
-pub left_none : (x : List ℕ) (at : ℕ) (t : LinesSeen) → LineSays x at NoLine → Left x at t → with_lines no_line (kinds (lines x)) ≡ t
+pub left_none : (x : List ℕ) (at : ℕ) (t : LinesSeen) → LineSays x at None → Left x at t → with_lines no_line (kinds (lines x)) ≡ t
 left_none x at t l e = e ∙ ap (λ (ls : List (List ℕ)). with_lines t (kinds ls)) l.1

@@ -1,77 +1,65 @@
 -- A line more, and what all come to, for code that judges them: what each way through the code answers is what the definitions say. By the tests on the
 -- way.
+use Rattle.std.specs.Prelude.{Option, None, Some}
+use Rattle.std.specs.Option.{option_or}
+use Rattle.std.specs.Bool.{then_some}
 use mathlib.Core.Path.{◌≡◌, refl}
-use mathlib.Core.Bool.{Bool, true, false, cond, ◌&&◌}
+use mathlib.Core.Bool.{Bool, true, false}
 use Prim.Native.Nat.{ℕ, ◌+◌, ◌≤◌, ◌<◌}
-use lib.Dec.{ltb, eqb}
-use borrow.Author.Tests.{eq-eqb, ne_eqb, lt-ltb, le-ltb}
+use native.Mathlib.Omega.{arith}
+use lib.Dec.{ltb}
+use borrow.Author.Tests.{eq-eqb, ne_eqb}
 use Rattle.rules.specs.Answer.{fine, refused}
-use Rattle.lines.specs.Ordering.{most, one_more, first_marked, is_other, closed, faulty, misplaced, with_line, order_of}
-use Rattle.lines.specs.declared.CardKind.{CardKind}
+use Rattle.lines.specs.Ordering.{most, one_more, first_marked, faulty, order_of}
 use Rattle.lines.specs.declared.LinesSeen.{LinesSeen}
 
 -- ---- places
 
 pub one_more_below : (n : ℕ) → n < most → one_more n ≡ n + 1
-unfolding one_more
-one_more_below n h = rw (lt-ltb n most h)
+one_more_below n h = omega arith
 
-pub one_more_most : (n : ℕ) → most ≤ n → one_more n ≡ n
-unfolding one_more
-one_more_most n h = rw (le-ltb n most h)
+pub one_more_most : (n : ℕ) → most ≤ n → one_more n ≡ most
+one_more_most n h = omega arith
 
-module _ (old : ℕ) (marked : Bool) (place : ℕ) where
-  pub first_stays : (old ≡ 0 → ⊥) → first_marked old marked place ≡ old
-  unfolding first_marked
-  first_stays n = rw (ne_eqb old 0 n)
+module _ (marked : Bool) (place : ℕ) where
+  pub first_stays : (old : Option ℕ) (p : ℕ) → old ≡ Some p → first_marked old marked place ≡ Some p
+  first_stays old p e = rw e
 
-  pub first_place : old ≡ 0 → marked ≡ true → first_marked old marked place ≡ place
-  unfolding first_marked
-  first_place e m = rw (eq-eqb old 0 e, m)
+  pub first_place : (old : Option ℕ) → old ≡ None → marked ≡ true → first_marked old marked place ≡ Some place
+  first_place old e m = rw (e, m)
 
-  pub first_unmarked : marked ≡ false → first_marked old marked place ≡ old
-  unfolding first_marked
-  first_unmarked m = go (eqb old 0)
-    where
-      go : (t : Bool) → cond (t && marked) place old ≡ old
-      go true = rw m
-      go false = refl
+  pub first_unmarked : (old : Option ℕ) → marked ≡ false → first_marked old marked place ≡ old
+  first_unmarked None m = rw m
+  first_unmarked (Some p) m = refl
+
+-- as code finds it
+pub first_or : (old : Option ℕ) (marked : Bool) (place : ℕ) → option_or old (then_some marked place) ≡ first_marked old marked place
+first_or (Some p) marked place = refl
+first_or None true place = refl
+first_or None false place = refl
 
 module _ (place : ℕ) (ended : Bool) where
   pub faulty_first : place ≡ 1 → faulty place ended ≡ true
-  unfolding faulty
   faulty_first e = rw (eq-eqb place 1 e)
 
   pub faulty_ended : (place ≡ 1 → ⊥) → ended ≡ true → faulty place ended ≡ true
-  unfolding faulty
   faulty_ended n e = rw (ne_eqb place 1 n, e)
 
   pub faulty_past : (place ≡ 1 → ⊥) → ended ≡ false → faulty place ended ≡ ltb 64 place
-  unfolding faulty
   faulty_past n e = rw (ne_eqb place 1 n, e)
 
 -- ---- lines
 
--- a line more, judged in five answers
-pub with_line_is : (t : LinesSeen) (k : CardKind) {place bad fault : ℕ} {other apart ended : Bool} → place ≡ one_more t.lines → other ≡ is_other k
-    → bad ≡ first_marked t.bad other place → apart ≡ misplaced k place t.ended → fault ≡ first_marked t.fault apart place → ended ≡ closed k t.ended
-    → ◌≡◌ {A = LinesSeen} (record { lines = place; bad = bad; fault = fault; ended = ended }) (with_line t k)
-with_line_is t k a b c d e f = rw (f, e, d, c, b, a)
-
 module _ (t : LinesSeen) where
-  pub order_bad : (t.bad ≡ 0 → ⊥) → order_of t ≡ refused 1 t.bad
-  unfolding order_of
-  order_bad n = rw (ne_eqb t.bad 0 n)
+  pub order_bad : (p : ℕ) → t.bad ≡ Some p → order_of t ≡ refused 1 p
+  order_bad p e = rw e
 
-  module _ (good : t.bad ≡ 0) where
-    pub order_fault : (t.fault ≡ 0 → ⊥) → order_of t ≡ refused 2 t.fault
-    unfolding order_of
-    order_fault n = rw (eq-eqb t.bad 0 good, ne_eqb t.fault 0 n)
+  module _ (good : t.bad ≡ None) where
+    pub order_fault : (p : ℕ) → t.fault ≡ Some p → order_of t ≡ refused 2 p
+    order_fault p e = rw (good, e)
 
-    pub order_cards : t.fault ≡ 0 → t.ended ≡ true → order_of t ≡ fine t.lines
-    unfolding order_of
-    order_cards e f = rw (eq-eqb t.bad 0 good, eq-eqb t.fault 0 e, f)
+    pub order_cards : t.fault ≡ None → t.ended ≡ true → order_of t ≡ fine t.lines
+    order_cards e f = rw (good, e, f)
 
-    pub order_open : t.fault ≡ 0 → t.ended ≡ false → order_of t ≡ refused 2 (one_more t.lines)
-    unfolding order_of
-    order_open e f = rw (eq-eqb t.bad 0 good, eq-eqb t.fault 0 e, f)
+    pub order_open : t.fault ≡ None → t.ended ≡ false → order_of t ≡ refused 2 (one_more t.lines)
+    order_open e f = rw (good, e, f)

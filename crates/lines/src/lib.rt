@@ -1,21 +1,19 @@
 // The lines of a deck, what card a line is, and the order of the cards (document 01, "The deck"): refusals 1 and 2.
 #![tactic(auto)]
 
-ghost use Rattle.std.specs.Prelude.{◌≡◌, true, ◌≤◌, length};
+ghost use Rattle.std.specs.Prelude.{◌≡◌, true, ◌≤◌, length, Some, Err};
 ghost use Rattle.rules.specs.Base.{ascii, within, every};
+ghost use Rattle.rules.specs.Answer.{refusal_of, place_of};
 ghost use Rattle.rules.specs.Deck.{tidy, card_of};
 ghost use Rattle.rules.specs.Order.{operands_of};
 ghost use Rattle.lines.specs.Meaning.{BeginsSays, OperandEnds, CardSays, IsCard, inner, PassedSays, LineSays};
-ghost use Rattle.lines.specs.Ordering.{one_more, card_kind_of, first_marked, is_other, faulty, misplaced, closed, with_line, order_of, card_count, answer_of};
+ghost use Rattle.lines.specs.Ordering.{card_kind_of, faulty, misplaced, closed, with_line, order_of, card_count, answer_of};
 
 // The most bytes of a card.
 pub const LONGEST: usize = 80;
 
 // The most cards of a deck.
 const CARDS: usize = 64;
-
-// The highest number.
-const MOST: usize = 18446744073709551615;
 
 const BLANK: u8 = 0x20;
 
@@ -92,85 +90,72 @@ fn operand_end(line: &[u8], start: usize) -> usize
     i
 }
 
-// What a line is: a card, with where its operand starts and ends, or no card.
-#[derive(Clone, Copy)]
+// A card: a U or UTT card or an FS card, with where its operand starts and ends, or an END card.
+#[derive(Clone, Copy, PartialEq, Eq)]
 pub enum CardRead {
     UCard { start: usize, end: usize },
     FsCard { start: usize, end: usize },
     EndCard,
-    NoCard,
 }
 
 // Which card a line is.
-#[derive(Clone, Copy)]
+#[derive(Clone, Copy, PartialEq, Eq)]
 pub enum CardKind {
     Utility,
     Select,
     End,
-    Other,
-}
-
-fn is_other(kind: CardKind) -> bool
-    ensures { result ≡ is_other kind }
-{
-    match kind {
-        CardKind::Utility => false,
-        CardKind::Select => false,
-        CardKind::End => false,
-        CardKind::Other => true,
-    }
 }
 
 // A line that begins as an END card does: that is all of it, or a blank follows.
-fn end_kind(line: &[u8]) -> CardKind
+fn end_kind(line: &[u8]) -> Option<CardKind>
     requires line_value { tidy line.now ≡ true }
     requires begins_says { BeginsSays (ascii "// END") line.now true }
     ensures { result ≡ card_kind_of (card_of line.now) }
 {
     if line.len() == 6 {
-        return CardKind::End;
+        return Some(CardKind::End);
     }
     if line[6] == BLANK {
-        return CardKind::End;
+        return Some(CardKind::End);
     }
-    CardKind::Other
+    None
 }
 
 // A line that has the length and the bytes of a card: its first bytes say which it is.
-fn tidy_kind(line: &[u8]) -> CardKind
+fn tidy_kind(line: &[u8]) -> Option<CardKind>
     requires { tidy line.now ≡ true }
     ensures { result ≡ card_kind_of (card_of line.now) }
 {
     if begins(line, b"// U ") {
-        return CardKind::Utility;
+        return Some(CardKind::Utility);
     }
     if begins(line, b"// UTT ") {
-        return CardKind::Utility;
+        return Some(CardKind::Utility);
     }
     if begins(line, b"// FS ") {
-        return CardKind::Select;
+        return Some(CardKind::Select);
     }
     if begins(line, b"// END") {
         return end_kind(line);
     }
-    CardKind::Other
+    None
 }
 
 // Where an operand ends is not looked for: the order of the cards does not ask it.
-pub fn kind(line: &[u8]) -> CardKind
+pub fn kind(line: &[u8]) -> Option<CardKind>
     ensures { result ≡ card_kind_of (card_of line.now) }
 {
     if is_tidy(line) {
         return tidy_kind(line);
     }
-    CardKind::Other
+    None
 }
 
 // What card a line is that is known to be one. FS and END are told by the fourth byte, U and UTT by the fifth, so no other byte of the kind is looked
 // at again.
 pub fn operand(line: &[u8]) -> CardRead
     requires { IsCard (card_of line.now) }
-    ensures { CardSays line.now result }
+    ensures { CardSays line.now (Some result) }
 {
     let letter = line[3];
     if letter == b'F' {
@@ -188,22 +173,21 @@ pub fn operand(line: &[u8]) -> CardRead
     CardRead::UCard { start: 7, end }
 }
 
-// What card a line is.
-pub fn card(line: &[u8]) -> CardRead
+// What card a line is, if it is one.
+pub fn card(line: &[u8]) -> Option<CardRead>
     ensures { CardSays line.now result }
 {
-    let kind = kind(line);
-    if is_other(kind) {
-        return CardRead::NoCard;
+    if kind(line).is_none() {
+        return None;
     }
-    operand(line)
+    Some(operand(line))
 }
 
 // A line of a deck: where it ends, and where the next one begins.
-#[derive(Clone, Copy)]
-pub enum LineRead {
-    Line { end: usize, next: usize },
-    NoLine,
+#[derive(Clone, Copy, PartialEq, Eq)]
+pub struct LineRead {
+    pub end: usize,
+    pub next: usize,
 }
 
 // Whether no line ends in a part.
@@ -236,111 +220,99 @@ fn passed(deck: &[u8], at: usize) -> usize
     end
 }
 
-// The line that begins at a place. The last one may lack its end.
-pub fn line(deck: &[u8], at: usize) -> LineRead
+// The line that begins at a place, if one does. The last one may lack its end.
+pub fn line(deck: &[u8], at: usize) -> Option<LineRead>
     ensures { LineSays deck.now at result }
 {
     if deck.len() <= at {
-        return LineRead::NoLine;
+        return None;
     }
     let mut end = passed(deck, at);
     while end < deck.len() {
         if deck[end] == LINE_END {
             let next = end + 1;
-            return LineRead::Line { end, next };
+            return Some(LineRead { end, next });
         }
         end += 1;
     }
-    LineRead::Line { end, next: end }
+    Some(LineRead { end, next: end })
 }
 
 // What the lines that have ended come to.
-#[derive(Clone, Copy)]
+#[derive(Clone, Copy, Default)]
 pub struct LinesSeen {
     // How many there are.
     pub lines: usize,
-    // The first that is no card, or 0.
-    pub bad: usize,
-    // The first card at fault, or 0.
-    pub fault: usize,
+    // The first that is no card.
+    pub bad: Option<usize>,
+    // The first card at fault.
+    pub fault: Option<usize>,
     // Whether an END card has stood.
     pub ended: bool,
 }
 
-// What the lines of a deck come to: a refusal, or cards in order.
-#[derive(Clone, Copy)]
-pub enum OrderRead {
-    Refused { number: usize, place: usize },
-    Ordered { cards: usize },
+// Why the cards of a deck are not in order: a line is no card, or a card stands where it may not or is missing.
+#[derive(Clone, Copy, PartialEq, Eq)]
+pub enum Disorder {
+    NoCard { place: usize },
+    Misplaced { place: usize },
 }
 
-// One more. The highest number stays, so that no deck is too long to be judged.
-fn one_more(n: usize) -> usize
-    ensures { result ≡ one_more n }
-{
-    if n < MOST {
-        return n + 1;
+impl Disorder {
+    // The number of the refusal.
+    pub fn number(self) -> usize
+        ensures { result ≡ refusal_of (answer_of (Err self)) }
+    {
+        match self {
+            Disorder::NoCard { place: _ } => 1,
+            Disorder::Misplaced { place: _ } => 2,
+        }
     }
-    n
+
+    pub fn place(self) -> usize
+        ensures { result ≡ place_of (answer_of (Err self)) }
+    {
+        match self {
+            Disorder::NoCard { place } => place,
+            Disorder::Misplaced { place } => place,
+        }
+    }
 }
 
-// The first place that is marked stays.
-fn first_marked(old: usize, marked: bool, place: usize) -> usize
-    ensures { result ≡ first_marked old marked place }
-{
-    if old != 0 {
-        return old;
-    }
-    if marked {
-        return place;
-    }
-    old
-}
-
-// Whether an END card has stood, with this one.
-fn closes(kind: CardKind, ended: bool) -> bool
+// Whether an END card has stood, with this line.
+fn closes(kind: Option<CardKind>, ended: bool) -> bool
     ensures { result ≡ closed kind ended }
 {
-    match kind {
-        CardKind::Utility => ended,
-        CardKind::Select => ended,
-        CardKind::End => true,
-        CardKind::Other => ended,
-    }
+    ended || kind == Some(CardKind::End)
 }
 
 // Whether an FS or END card is at fault at its place: first, after an END card, or past the 64th.
 fn is_faulty(place: usize, ended: bool) -> bool
     ensures { result ≡ faulty place ended }
 {
-    if place == 1 {
-        return true;
-    }
-    if ended {
-        return true;
-    }
-    CARDS < place
+    place == 1 || ended || CARDS < place
 }
 
 // Whether a card is at fault at its place. A U card can only be the first.
-fn is_misplaced(kind: CardKind, place: usize, ended: bool) -> bool
+fn is_misplaced(kind: Option<CardKind>, place: usize, ended: bool) -> bool
     ensures { result ≡ misplaced kind place ended }
 {
     match kind {
-        CardKind::Utility => 1 < place,
-        CardKind::Select => is_faulty(place, ended),
-        CardKind::End => is_faulty(place, ended),
-        CardKind::Other => false,
+        None => false,
+        Some(CardKind::Utility) => 1 < place,
+        Some(CardKind::Select) => is_faulty(place, ended),
+        Some(CardKind::End) => is_faulty(place, ended),
     }
 }
 
-// A line more is judged.
-pub fn with_line(seen: LinesSeen, kind: CardKind) -> LinesSeen
+// A line more is judged. The first place that is marked stays, and so does the highest number of lines, so that no deck is too long to be judged.
+pub fn with_line(seen: LinesSeen, kind: Option<CardKind>) -> LinesSeen
     ensures { result ≡ with_line seen kind }
 {
-    let place = one_more(seen.lines);
-    let bad = first_marked(seen.bad, is_other(kind), place);
-    let fault = first_marked(seen.fault, is_misplaced(kind, place, seen.ended), place);
+    let place = seen.lines.saturating_add(1);
+    let bad = seen.bad.or(kind.is_none().then_some(place));
+    let misplaced = is_misplaced(kind, place, seen.ended);
+    let fault = seen.fault.or(misplaced.then_some(place));
     let ended = closes(kind, seen.ended);
     LinesSeen {
         lines: place,
@@ -351,49 +323,31 @@ pub fn with_line(seen: LinesSeen, kind: CardKind) -> LinesSeen
 }
 
 // The lowest refusal: a line that is no card, before a card at fault, before an END card that is missing.
-pub fn order_of(seen: LinesSeen) -> OrderRead
+pub fn order_of(seen: LinesSeen) -> Result<usize, Disorder>
     ensures { answer_of result ≡ order_of seen }
 {
-    let bad = seen.bad;
-    if bad != 0 {
-        return OrderRead::Refused {
-            number: 1,
-            place: bad,
-        };
+    if let Some(place) = seen.bad {
+        return Err(Disorder::NoCard { place });
     }
-    let fault = seen.fault;
-    if fault != 0 {
-        return OrderRead::Refused {
-            number: 2,
-            place: fault,
-        };
+    if let Some(place) = seen.fault {
+        return Err(Disorder::Misplaced { place });
     }
     if seen.ended {
-        return OrderRead::Ordered { cards: seen.lines };
+        return Ok(seen.lines);
     }
-    OrderRead::Refused {
-        number: 2,
-        place: one_more(seen.lines),
-    }
+    let place = seen.lines.saturating_add(1);
+    Err(Disorder::Misplaced { place })
 }
 
-// The order of a whole deck's cards. All of a line is here, so no byte is copied.
-pub fn order(deck: &[u8]) -> OrderRead
+// The order of a whole deck's cards, and how many there are. All of a line is here, so no byte is copied.
+pub fn order(deck: &[u8]) -> Result<usize, Disorder>
     ensures { answer_of result ≡ card_count (operands_of deck.now) }
 {
-    let mut seen = LinesSeen {
-        lines: 0,
-        bad: 0,
-        fault: 0,
-        ended: false,
-    };
+    let mut seen = LinesSeen::default();
     let mut at = 0;
-    loop {
-        let read = line(deck, at);
-        let LineRead::Line { end, next } = read else {
-            return order_of(seen);
-        };
+    while let Some(LineRead { end, next }) = line(deck, at) {
         seen = with_line(seen, kind(&deck[at..end]));
         at = next;
     }
+    order_of(seen)
 }

@@ -14,10 +14,11 @@ use Rattle.rules.specs.Order.{operands_of}
 use Rattle.rules.proofs.Deck.LineLaws.{Passed, passed_none, passed_byte, passed_end, passed_all, passed_last}
 use Rattle.rules.proofs.Deck.CardPlaces.{tidy_long, card_untidy}
 use Rattle.lines.specs.Ordering.{most, card_kind_of, with_line, order_of, card_count}
+use Rattle.std.specs.Prelude.{Option}
 use Rattle.lines.specs.declared.CardKind.{CardKind}
 use Rattle.lines.specs.declared.LinesSeen.{LinesSeen}
 use Rattle.lines.proofs.SeenLaws.{no_line, with_lines, with_lines_more, kinds, deck_seen}
-use Rattle.scans.specs.Scanning.{begun_kind, seen_of, line_ended, with_byte, step_of, no_bytes, scan_from, scanned_of}
+use Rattle.scans.specs.Scanning.{begun_kind, line_ended, with_byte, step_of, no_bytes, scan_from, scanned_of}
 use Rattle.scans.specs.declared.Scanner.{Scanner}
 use Rattle.scans.proofs.StepLaws.{begun_long, begun_short, byte_kept, byte_past, step_end, step_byte, scanned_between, scanned_inside}
 
@@ -30,8 +31,7 @@ scan_pieces st (b ∷ x) y = scan_pieces (step_of st b) x y
 
 -- ---- what a state holds
 
-seen_ended : (st : Scanner) → seen_of (line_ended st) ≡ with_line (seen_of st) (begun_kind st)
-unfolding line_ended
+seen_ended : (st : Scanner) → (line_ended st).seen ≡ with_line st.seen (begun_kind st)
 seen_ended st = refl
 
 -- after the bytes x
@@ -39,7 +39,7 @@ pub record Held (x : List ℕ) (st : Scanner) : Type 0 where
   pub done : List (List ℕ)
   pub line : List ℕ
   pub passed : Passed x done line
-  pub seen : seen_of st ≡ with_lines no_line (kinds done)
+  pub seen : st.seen ≡ with_lines no_line (kinds done)
   pub room : length st.begun ≡ 80
   pub long : st.size ≡ min (length line) 81
   pub kept : length line ≤ 80 → take (length line) st.begun ≡ line
@@ -62,18 +62,17 @@ held_kind {x} {st} h = go (leb (length h.line) 80) refl
         let m : 80 < length h.line = leb-false (length h.line) 80 t in
         begun_long st (omega (arith, h.long)) ∙ sym (ap card_kind_of (card_untidy h.line (tidy_long h.line m)))
 
-held_seen : {x : List ℕ} {st : Scanner} (h : Held x st) → seen_of (line_ended st) ≡ with_lines no_line (kinds (h.done ++ (h.line ∷ [])))
+held_seen : {x : List ℕ} {st : Scanner} (h : Held x st) → (line_ended st).seen ≡ with_lines no_line (kinds (h.done ++ (h.line ∷ [])))
 held_seen {x} {st} h =
-    let k : CardKind = card_kind_of (card_of h.line) in
+    let k : Option CardKind = card_kind_of (card_of h.line) in
     seen_ended st
-    ∙ ap (with_line (seen_of st)) (held_kind h)
+    ∙ ap (with_line st.seen) (held_kind h)
     ∙ ap (λ (t : LinesSeen). with_line t k) h.seen
     ∙ sym (with_lines_more no_line (kinds h.done) k)
     ∙ ap (with_lines no_line) (sym (map-append (λ l. card_kind_of (card_of l)) h.done (h.line ∷ [])))
 
 -- a line ends
 held_end : {x : List ℕ} {st : Scanner} → Held x st → Held (x ++ (0x0A ∷ [])) (line_ended st)
-unfolding line_ended
 held_end {x} {st} h =
     record {
       done = h.done ++ (h.line ∷ []);

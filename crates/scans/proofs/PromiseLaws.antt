@@ -5,7 +5,8 @@ use mathlib.Core.Bool.{Bool}
 use mathlib.Core.List.{List}
 use Prim.Native.Nat.{ℕ}
 use Rattle.lines.specs.Ordering.{answer_of}
-use Rattle.lines.specs.declared.OrderRead.{OrderRead}
+use Rattle.std.specs.Prelude.{Result}
+use Rattle.lines.specs.declared.Disorder.{Disorder}
 use Rattle.lines.proofs.PromiseLaws.{answer_once}
 use Rattle.scans.specs.Scanning.{no_bytes, scan_from, scanned_of, settled}
 use Rattle.scans.specs.declared.Scanner.{Scanner}
@@ -17,7 +18,7 @@ module _ (st : Scanner) where
   pub scan_only_one : (piece : List ℕ) {r q : Scanner} → r ≡ scan_from st piece → q ≡ scan_from st piece → r ≡ q
   scan_only_one piece e f = e ∙ sym f
 
-  pub scanned_only_one : (r q : OrderRead) → answer_of r ≡ scanned_of st → answer_of q ≡ scanned_of st → r ≡ q
+  pub scanned_only_one : (r q : Result ℕ Disorder) → answer_of r ≡ scanned_of st → answer_of q ≡ scanned_of st → r ≡ q
   scanned_only_one r q e f = answer_once r q (e ∙ sym f)
 
   pub is_settled_only_one : {r q : Bool} → r ≡ settled st → q ≡ settled st → r ≡ q

@@ -3,48 +3,29 @@
 
 ghost use Rattle.std.specs.Prelude.{◌≡◌};
 ghost use Rattle.lines.specs.Ordering.{answer_of};
-ghost use Rattle.scans.specs.Scanning.{begun_kind, seen_of, line_ended, with_byte, step_of, no_bytes, scan_from, scanned_of, settled};
+ghost use Rattle.scans.specs.Scanning.{begun_kind, line_ended, with_byte, step_of, no_bytes, scan_from, scanned_of, settled};
 
-use lines::{CardKind, LINE_END, LONGEST, LinesSeen, OrderRead};
+use lines::{CardKind, Disorder, LINE_END, LONGEST, LinesSeen};
 
 // How far a scan has come: what it must know of the bytes before to go on with the next. A deck can so be scanned piece by piece.
 #[derive(Clone, Copy)]
 pub struct Scanner {
-    // How many lines have ended.
-    pub lines: usize,
+    // What the lines that have ended come to.
+    pub seen: LinesSeen,
     // The bytes of the line that is begun.
     pub begun: [u8; 80],
     // How many there are, or 81 for more than a card has.
     pub size: usize,
-    // The first line that is no card, or 0.
-    pub bad: usize,
-    // The first card at fault, or 0.
-    pub fault: usize,
-    // Whether an END card has stood.
-    pub ended: bool,
 }
 
 // Which card the begun line is. One of more than 80 bytes is none.
-fn begun_kind(state: Scanner) -> CardKind
+fn begun_kind(state: Scanner) -> Option<CardKind>
     ensures { result ≡ begun_kind state }
 {
-    let size = state.size;
-    if LONGEST < size {
-        return CardKind::Other;
+    if LONGEST < state.size {
+        return None;
     }
-    let begun = state.begun;
-    lines::kind(&begun[..size])
-}
-
-fn seen_of(state: Scanner) -> LinesSeen
-    ensures { result ≡ seen_of state }
-{
-    LinesSeen {
-        lines: state.lines,
-        bad: state.bad,
-        fault: state.fault,
-        ended: state.ended,
-    }
+    lines::kind(&state.begun[..state.size])
 }
 
 // The begun line has ended and is judged; the next has no bytes yet.
@@ -52,15 +33,12 @@ fn line_ended(state: Scanner) -> Scanner
     ensures { result ≡ line_ended state }
 {
     let kind = begun_kind(state);
-    let next = lines::with_line(seen_of(state), kind);
+    let seen = lines::with_line(state.seen, kind);
     let begun = state.begun;
     Scanner {
-        lines: next.lines,
+        seen,
         begun,
         size: 0,
-        bad: next.bad,
-        fault: next.fault,
-        ended: next.ended,
     }
 }
 
@@ -93,12 +71,9 @@ pub fn begin() -> Scanner
     ensures { result ≡ no_bytes }
 {
     Scanner {
-        lines: 0,
+        seen: LinesSeen::default(),
         begun: [0u8; 80],
         size: 0,
-        bad: 0,
-        fault: 0,
-        ended: false,
     }
 }
 
@@ -107,30 +82,26 @@ pub fn scan(state: Scanner, piece: &[u8]) -> Scanner
     ensures { result ≡ scan_from state piece.now }
 {
     let mut current = state;
-    let mut i = 0;
-    while i < piece.len() {
-        current = step(current, piece[i]);
-        i += 1;
+    for byte in piece {
+        current = step(current, *byte);
     }
     current
 }
 
 // What the scan comes to, where the deck ends here. A line that is begun is the last.
-pub fn scanned(state: Scanner) -> OrderRead
+pub fn scanned(state: Scanner) -> Result<usize, Disorder>
     ensures { answer_of result ≡ scanned_of state }
 {
     if state.size == 0 {
-        return lines::order_of(seen_of(state));
+        return lines::order_of(state.seen);
     }
-    lines::order_of(seen_of(line_ended(state)))
+    let last = line_ended(state);
+    lines::order_of(last.seen)
 }
 
 // Whether nothing that follows changes what the scan comes to: a line that is no card has ended, or the begun one is longer than any card.
 pub fn is_settled(state: Scanner) -> bool
     ensures { result ≡ settled state }
 {
-    if 0 < state.bad {
-        return true;
-    }
-    LONGEST < state.size
+    state.seen.bad.is_some() || LONGEST < state.size
 }

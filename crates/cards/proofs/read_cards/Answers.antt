@@ -4,23 +4,23 @@ use mathlib.Core.List.{[]}
 use native.Mathlib.Omega.{arith}
 use lib.ListN.{length}
 use Rattle.rows.proofs.RowLaws.{length_row}
-use Rattle.lines.specs.Ordering.{answer_of}
+use Rattle.lines.proofs.PromiseLaws.{answer_refused}
 use Rattle.cards.specs.declared.DeckRead.{DeckRead}
 use Rattle.cards.specs.Promise.{DeckReads}
 use Rattle.cards.proofs.OrderedLaws.{order_refused, order_many, in_order}
 use Rattle.cards.proofs.read_cards.Goals as goal
 
 pub overflow_sub-cards : goal.overflow_sub-cards
-overflow_sub-cards c = order_many c.args.deck.now c.in-Ordered.cards (sym c.order-order.ensures ∙ ap answer_of c.in-Ordered.is)
+overflow_sub-cards c = order_many c.args.deck.now c.in-Ok.cards (sym c.in-Ok.ensures)
 
 pub read_ordered-requires : goal.read_ordered-requires
-read_ordered-requires c = record { in_order = in_order c.args.deck.now c.in-Ordered.cards (sym c.order-order.ensures ∙ ap answer_of c.in-Ordered.is); row_value = c.requires }
+read_ordered-requires c = record { in_order = in_order c.args.deck.now c.in-Ok.cards (sym c.in-Ok.ensures); row_value = c.requires }
 
-pub returns-in-Refused : goal.returns-in-Refused
-returns-in-Refused c =
-    let g = c.in-Refused in
+pub returns-in-Err : goal.returns-in-Err
+returns-in-Err c =
+    let d = c.in-Err.disorder in
     let row = c.args.row.now in (
       ap length c.requires ∙ length_row [] (omega arith),
       subst (λ (r : DeckRead). DeckReads c.args.deck.now r row) (sym c.refused.ensures)
-          (order_refused c.args.deck.now g.number g.place (sym c.order-order.ensures ∙ ap answer_of g.is) row),
+          (rw (c.number.ensures, c.place.ensures) (order_refused c.args.deck.now _ _ (sym c.in-Err.ensures ∙ answer_refused d) row)),
     )

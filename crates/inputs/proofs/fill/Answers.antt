@@ -1,6 +1,5 @@
 -- What was read lies within the room, which keeps its length, and is what the reads so far brought; the room that is left falls at each read that brings
 -- a byte.
-use Prim.Native.Nat.{◌-◌}
 use borrow.Author.Rules.{rules}
 use Rattle.io.proofs.Counting.{prefix_len_of_le}
 use Rattle.inputs.proofs.ReadingLaws.{left_behind, filled_none, filled_more, filled_last, filled_all}
