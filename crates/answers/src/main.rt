@@ -211,7 +211,10 @@ fn file(rt: &HostRuntime, argument: usize) {
     let length = inputs::argument(rt, argument, &mut path);
     match open(rt, &path[..length]) {
         Ok(file) => cases(rt, file),
-        Err(why) => words::fail(&rt.stderr(), &path[..length], why),
+        Err(why) => {
+            words::say_bytes(&rt.stderr(), &path[..length]);
+            words::because(&rt.stderr(), why);
+        }
     }
 }
 

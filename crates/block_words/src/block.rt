@@ -3,7 +3,7 @@ use crate::{segment, word};
 use pieces::{Cursor, Form, PieceRead};
 use std::io::Print;
 use terms::Format;
-use words::{many, number, say};
+use words::{many, say};
 
 // What A, or B for a reel from elsewhere, asks of blocks: their form, how long the key is, or 0, and whether a single number stands there, g and not n and m.
 #[derive(Clone, Copy)]
@@ -17,25 +17,25 @@ pub struct Asks {
 // Says whose numbers are asked: A's or B's.
 fn say_whose(to: &impl Print, asks: Asks) {
     if asks.is_theirs {
-        say(to, b"B's ");
+        say(to, "B's ");
     } else {
-        say(to, b"A's ");
+        say(to, "A's ");
     }
 }
 
 // What is said where nothing else was found.
 fn say_wrong(to: &impl Print, asks: Asks) {
-    say(to, b"this block is not one that the U card's F and ");
+    say(to, "this block is not one that the U card's F and ");
     if asks.is_theirs {
-        say(to, b"B allow");
+        say(to, "B allow");
     } else {
-        say(to, b"A allow");
+        say(to, "A allow");
     }
 }
 
 fn say_size(to: &impl Print, b: &[u8]) {
-    say(to, b"it has ");
-    many(to, b.len(), b"byte");
+    say(to, "it has ");
+    many(to, b.len(), "byte");
 }
 
 // Whether a block is longer than m, or g, which is then said.
@@ -45,14 +45,14 @@ fn said_too_long(to: &impl Print, asks: Asks, b: &[u8]) -> bool {
         return false;
     }
     say_size(to, b);
-    say(to, b", more than ");
+    say(to, ", more than ");
     say_whose(to, asks);
     if asks.is_single {
-        say(to, b"g, ");
+        say(to, "g, ");
     } else {
-        say(to, b"m, ");
+        say(to, "m, ");
     }
-    number(to, form.m);
+    say(to, form.m);
     true
 }
 
@@ -61,16 +61,16 @@ fn fixed(to: &impl Print, asks: Asks, b: &[u8]) {
     let form = asks.form;
     if asks.key > 0 {
         say_size(to, b);
-        say(to, b", and key and data have ");
-        number(to, form.n);
+        say(to, ", and key and data have ");
+        say(to, form.n);
         return;
     }
     if said_too_long(to, asks, b) {
         return;
     }
     say_size(to, b);
-    say(to, b", which is no multiple of the record length, ");
-    number(to, form.n);
+    say(to, ", which is no multiple of the record length, ");
+    say(to, form.n);
 }
 
 // The least data of a record.
@@ -114,12 +114,12 @@ fn say_few(to: &impl Print, asks: Asks, b: &[u8], at: usize) {
     if length < 4 {
         return;
     }
-    say(to, b"it has ");
-    many(to, length - 4, b"byte");
-    say(to, b" of data, fewer than ");
+    say(to, "it has ");
+    many(to, length - 4, "byte");
+    say(to, " of data, fewer than ");
     say_whose(to, asks);
-    say(to, b"n, ");
-    number(to, form.n);
+    say(to, "n, ");
+    say(to, form.n);
 }
 
 // In FV, of the records of a block whose own word is right.
@@ -129,29 +129,29 @@ fn records(to: &impl Print, asks: Asks, b: &[u8]) {
         say_wrong(to, asks);
         return;
     }
-    word::say_piece(to, b"record", at);
-    if !word::said_piece(to, b"record", b, at, 0) {
+    word::say_piece(to, "record", at);
+    if !word::said_piece(to, "record", b, at, 0) {
         say_few(to, asks, b, at);
     }
 }
 
 // Whether a block with words is too long or too short, or its own word is wrong, which is then said.
-fn said_wrong(to: &impl Print, asks: Asks, name: &[u8], b: &[u8]) -> bool {
+fn said_wrong(to: &impl Print, asks: Asks, name: &str, b: &[u8]) -> bool {
     if said_too_long(to, asks, b) {
         return true;
     }
     if b.len() < 5 {
         say_size(to, b);
-        say(to, b", and a block has at least 9: its word, that of a ");
+        say(to, ", and a block has at least 9: its word, that of a ");
         say(to, name);
-        say(to, b", and a byte");
+        say(to, ", and a byte");
         return true;
     }
     word::said_wrong(to, b)
 }
 
 fn variable(to: &impl Print, asks: Asks, b: &[u8]) {
-    if !said_wrong(to, asks, b"record", b) {
+    if !said_wrong(to, asks, "record", b) {
         records(to, asks, b);
     }
 }
@@ -166,7 +166,7 @@ fn undefined(to: &impl Print, asks: Asks, b: &[u8]) {
 // In FS. Blocks count from 0.
 fn spanned(to: &impl Print, asks: Asks, reel: &[u8], i: usize) {
     let b = reels::block(reel, i);
-    if said_wrong(to, asks, b"segment", b) {
+    if said_wrong(to, asks, "segment", b) {
         return;
     }
     segment::explain(to, reel, i);
@@ -174,12 +174,12 @@ fn spanned(to: &impl Print, asks: Asks, reel: &[u8], i: usize) {
 
 // Says the first thing by which the block of a place, from 1, breaks its rule.
 pub fn wrong_block(to: &impl Print, asks: Asks, reel: &[u8], place: usize) {
-    say(to, b", at block ");
-    number(to, place);
+    say(to, ", at block ");
+    say(to, place);
     if asks.is_theirs {
-        say(to, b" of theirs: ");
+        say(to, " of theirs: ");
     } else {
-        say(to, b" of the input: ");
+        say(to, " of the input: ");
     }
     if place == 0 {
         say_wrong(to, asks);

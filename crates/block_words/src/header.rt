@@ -2,7 +2,7 @@
 ghost use Rattle.std.specs.Prelude.{◌<◌};
 
 use std::io::Print;
-use words::{many, number, say};
+use words::{many, say};
 
 // The number at a place of a file, or 0 where the file has ended.
 fn word(reel: &[u8], at: usize) -> usize
@@ -41,23 +41,23 @@ fn first_fallen(reel: &[u8], count: usize) -> usize {
 // Says an offset by its block, or as the last one.
 fn say_offset(to: &impl Print, reel: &[u8], count: usize, i: usize) {
     if i >= count {
-        say(to, b"the last offset, the reel's end, is ");
+        say(to, "the last offset, the reel's end, is ");
     } else {
-        say(to, b"the offset of block ");
-        number(to, i + 1);
-        say(to, b" is ");
+        say(to, "the offset of block ");
+        say(to, i + 1);
+        say(to, " is ");
     }
-    number(to, offset(reel, i));
+    say(to, offset(reel, i));
 }
 
 // Says an offset that is not greater than the one before it, which is that of a block.
 fn say_fallen(to: &impl Print, reel: &[u8], count: usize, i: usize) {
     say_offset(to, reel, count, i);
-    say(to, b", not greater than that of block ");
-    number(to, i);
+    say(to, ", not greater than that of block ");
+    say(to, i);
     if i > 0 {
-        say(to, b", ");
-        number(to, offset(reel, i - 1));
+        say(to, ", ");
+        say(to, offset(reel, i - 1));
     }
 }
 
@@ -65,12 +65,12 @@ fn say_fallen(to: &impl Print, reel: &[u8], count: usize, i: usize) {
 fn offsets(to: &impl Print, reel: &[u8], count: usize) {
     let first = offset(reel, 0);
     if count < 16384 && first != 4 * count + 8 {
-        say(to, b"the first offset is ");
-        number(to, first);
-        say(to, b", and with ");
-        many(to, count, b"block");
-        say(to, b" it has to be ");
-        number(to, 4 * count + 8);
+        say(to, "the first offset is ");
+        say(to, first);
+        say(to, ", and with ");
+        many(to, count, "block");
+        say(to, " it has to be ");
+        say(to, 4 * count + 8);
         return;
     }
     let fallen = first_fallen(reel, count);
@@ -79,8 +79,8 @@ fn offsets(to: &impl Print, reel: &[u8], count: usize) {
         return;
     }
     say_offset(to, reel, count, count);
-    say(to, b", and the file has ");
-    many(to, reel.len(), b"byte");
+    say(to, ", and the file has ");
+    many(to, reel.len(), "byte");
 }
 
 // Says what is wrong with a file of 8 bytes or more. The count may be any 32-bit number: it is compared before it is multiplied.
@@ -90,28 +90,28 @@ fn counted(to: &impl Print, reel: &[u8], left: usize) {
         offsets(to, reel, count);
         return;
     }
-    say(to, b"its block count says ");
-    many(to, count, b"block");
-    say(to, b", for whose offsets ");
-    number(to, 4 * count + 8);
-    say(to, b" bytes are needed, and it has ");
-    number(to, reel.len());
+    say(to, "its block count says ");
+    many(to, count, "block");
+    say(to, ", for whose offsets ");
+    say(to, 4 * count + 8);
+    say(to, " bytes are needed, and it has ");
+    say(to, reel.len());
 }
 
 // Says the first thing by which a file of this name is no reel.
-pub fn no_reel(to: &impl Print, name: &[u8], reel: &[u8]) {
-    say(to, b": ");
+pub fn no_reel(to: &impl Print, name: &str, reel: &[u8]) {
+    say(to, ": ");
     say(to, name);
-    say(to, b" is no reel: ");
+    say(to, " is no reel: ");
     let end = reel.len();
     if end > 65536 {
-        say(to, b"it has more than 65,536 bytes");
+        say(to, "it has more than 65,536 bytes");
         return;
     }
     if end < 8 {
-        say(to, b"it has ");
-        many(to, end, b"byte");
-        say(to, b", and a reel has at least 8");
+        say(to, "it has ");
+        many(to, end, "byte");
+        say(to, ", and a reel has at least 8");
         return;
     }
     counted(to, reel, end - 8);

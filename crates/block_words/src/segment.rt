@@ -2,7 +2,7 @@
 use crate::word;
 use pieces::{Cursor, PieceRead};
 use std::io::Print;
-use words::{number, say};
+use words::say;
 
 // The highest length of a record.
 const LONGEST: usize = 32752;
@@ -82,12 +82,12 @@ fn held_before(reel: &[u8], block: usize) -> usize {
 }
 
 fn say_code(to: &impl Print, code: u8) {
-    say(to, b"its code is ");
+    say(to, "its code is ");
     match code {
-        0 => say(to, b"0, for a whole record"),
-        1 => say(to, b"1, for the first segment of a record"),
-        2 => say(to, b"2, for the last segment of a record"),
-        _ => say(to, b"3, for a segment between the first and the last"),
+        0 => say(to, "0, for a whole record"),
+        1 => say(to, "1, for the first segment of a record"),
+        2 => say(to, "2, for the last segment of a record"),
+        _ => say(to, "3, for a segment between the first and the last"),
     }
 }
 
@@ -96,9 +96,9 @@ fn say_long(to: &impl Print, held: usize, length: usize) {
     if length < 4 {
         return;
     }
-    say(to, b"with it its record has ");
-    number(to, held_behind(held, 1, length - 4));
-    say(to, b" bytes, and a record has at most 32,752");
+    say(to, "with it its record has ");
+    say(to, held_behind(held, 1, length - 4));
+    say(to, " bytes, and a record has at most 32,752");
 }
 
 // Says why a segment is not in turn whose word is right.
@@ -106,12 +106,12 @@ fn say_turn(to: &impl Print, b: &[u8], open: Open) {
     let code = word::third(b, open.at);
     if begins(terms::wide(code)) && open.held > 0 {
         say_code(to, code);
-        say(to, b", and the record before it is not finished");
+        say(to, ", and the record before it is not finished");
         return;
     }
     if !begins(terms::wide(code)) && open.held == 0 {
         say_code(to, code);
-        say(to, b", and no record is begun");
+        say(to, ", and no record is begun");
         return;
     }
     say_long(to, open.held, word::length(b, open.at));
@@ -124,12 +124,12 @@ pub(crate) fn explain(to: &impl Print, reel: &[u8], block: usize) {
     if b.len() <= open.at {
         say(
             to,
-            b"the reel ends here, and its last record is not finished: a segment of code 2 has to follow",
+            "the reel ends here, and its last record is not finished: a segment of code 2 has to follow",
         );
         return;
     }
-    word::say_piece(to, b"segment", open.at);
-    if !word::said_piece(to, b"segment", b, open.at, 3) {
+    word::say_piece(to, "segment", open.at);
+    if !word::said_piece(to, "segment", b, open.at, 3) {
         say_turn(to, b, open);
     }
 }

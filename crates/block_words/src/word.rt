@@ -3,7 +3,7 @@
 ghost use Rattle.std.specs.Prelude.{◌<◌};
 
 use std::io::Print;
-use words::{many, number, say};
+use words::{many, say, say_bytes};
 
 // A byte of a block, from 0, or 0 where the block has ended.
 fn byte(b: &[u8], at: usize) -> u8 {
@@ -42,10 +42,10 @@ pub(crate) fn length(b: &[u8], at: usize) -> usize
 // Says which byte of a block, from 0, is in its word or in that of a piece, and what it is.
 fn say_byte(to: &impl Print, b: &[u8], at: usize) {
     if at < b.len() {
-        say(to, b"byte ");
-        number(to, at + 1);
-        say(to, b" of the block, in its word, is hex ");
-        say(to, &hexadecimal::hex(b[at]));
+        say(to, "byte ");
+        say(to, at + 1);
+        say(to, " of the block, in its word, is hex ");
+        say_bytes(to, &hexadecimal::hex(b[at]));
     }
 }
 
@@ -54,15 +54,15 @@ fn said_flags(to: &impl Print, b: &[u8], third: usize, top: u8) -> bool {
     if byte(b, third) > top {
         say_byte(to, b, third);
         if top == 0 {
-            say(to, b", and has to be 00");
+            say(to, ", and has to be 00");
         } else {
-            say(to, b", and a code is 00 to 03");
+            say(to, ", and a code is 00 to 03");
         }
         return true;
     }
     if third < b.len() && byte(b, third + 1) != 0 {
         say_byte(to, b, third + 1);
-        say(to, b", and has to be 00");
+        say(to, ", and has to be 00");
         return true;
     }
     false
@@ -70,10 +70,10 @@ fn said_flags(to: &impl Print, b: &[u8], third: usize, top: u8) -> bool {
 
 // Says that the word of a block says another length than it has.
 fn say_length(to: &impl Print, b: &[u8], said: usize) {
-    say(to, b"its word says ");
-    many(to, said, b"byte");
-    say(to, b", and it has ");
-    number(to, b.len());
+    say(to, "its word says ");
+    many(to, said, "byte");
+    say(to, ", and it has ");
+    say(to, b.len());
 }
 
 // Whether the word of a block is wrong, which is then said, in the order in which `pieces` looks at it.
@@ -94,43 +94,43 @@ pub(crate) fn said_wrong(to: &impl Print, b: &[u8]) -> bool {
 }
 
 // Says which piece, a record or a segment, stands at a place of a block.
-pub(crate) fn say_piece(to: &impl Print, name: &[u8], at: usize) {
-    say(to, b"the ");
+pub(crate) fn say_piece(to: &impl Print, name: &str, at: usize) {
+    say(to, "the ");
     say(to, name);
-    say(to, b" at byte ");
+    say(to, " at byte ");
     if at < 65536 {
-        number(to, at + 1);
+        say(to, at + 1);
     }
-    say(to, b" of the block: ");
+    say(to, " of the block: ");
 }
 
 // Whether the length in the word of a piece is wrong, where so many bytes of the block are left; that is then said.
-fn said_length(to: &impl Print, name: &[u8], said: usize, left: usize) -> bool {
+fn said_length(to: &impl Print, name: &str, said: usize, left: usize) -> bool {
     if left < 4 {
-        say(to, b"the block has ");
-        many(to, left, b"byte");
-        say(to, b" left, and a word has 4");
+        say(to, "the block has ");
+        many(to, left, "byte");
+        say(to, " left, and a word has 4");
         return true;
     }
     if said > 4 && said <= left {
         return false;
     }
-    say(to, b"its word says ");
-    many(to, said, b"byte");
+    say(to, "its word says ");
+    many(to, said, "byte");
     if said > left {
-        say(to, b", and the block has ");
-        number(to, left);
-        say(to, b" left");
+        say(to, ", and the block has ");
+        say(to, left);
+        say(to, " left");
     } else {
-        say(to, b", and a ");
+        say(to, ", and a ");
         say(to, name);
-        say(to, b" has at least 5 with its word");
+        say(to, " has at least 5 with its word");
     }
     true
 }
 
 // Whether the word of the piece at a place is wrong, which is then said. Its third byte is at most top: 0 for a record, 3 for a segment.
-pub(crate) fn said_piece(to: &impl Print, name: &[u8], b: &[u8], at: usize, top: u8) -> bool {
+pub(crate) fn said_piece(to: &impl Print, name: &str, b: &[u8], at: usize, top: u8) -> bool {
     if b.len() <= at {
         return false;
     }

@@ -4,7 +4,7 @@ use crate::field;
 use readers::ItemRead;
 use std::io::Print;
 use terms::{Asked, Field, Part};
-use words::{number, say};
+use words::say;
 
 const SLASH: u8 = b'/';
 
@@ -78,44 +78,44 @@ fn last(from: usize, size: usize) -> usize {
 
 fn bytes(to: &impl Print, from: usize, last: usize) {
     if from == last {
-        say(to, b" byte ");
-        number(to, from);
+        say(to, " byte ");
+        say(to, from);
         return;
     }
-    say(to, b" bytes ");
-    number(to, from);
-    say(to, b" to ");
-    number(to, last);
+    say(to, " bytes ");
+    say(to, from);
+    say(to, " to ");
+    say(to, last);
 }
 
 fn length(to: &impl Print, size: usize) {
-    number(to, size);
+    say(to, size);
     if size == 1 {
-        say(to, b" byte");
+        say(to, " byte");
     } else {
-        say(to, b" bytes");
+        say(to, " bytes");
     }
 }
 
 // Says how long a record is, or in FV the part of it that each record has.
-fn record(to: &impl Print, asked: Asked, name: &[u8], size: usize) {
-    say(to, b", and the ");
+fn record(to: &impl Print, asked: Asked, name: &str, size: usize) {
+    say(to, ", and the ");
     let format = asked.format;
     if terms::is_fv(format) {
-        say(to, b"fixed part of the ");
+        say(to, "fixed part of the ");
     }
     say(to, name);
-    say(to, b" record has ");
+    say(to, " record has ");
     length(to, size);
 }
 
 fn key_part(to: &impl Print, size: usize) {
-    say(to, b" of the key, and the key has ");
+    say(to, " of the key, and the key has ");
     length(to, size);
 }
 
 fn data_part(to: &impl Print, size: usize) {
-    say(to, b" of the data, and the data have ");
+    say(to, " of the data, and the data have ");
     length(to, size);
 }
 
@@ -140,7 +140,7 @@ fn part_size(to: &impl Print, asked: Asked, part: Part, size: usize) {
         Part::Key => key_part(to, size),
         Part::Data => {
             if asked.key == 0 {
-                record(to, asked, b"input", size);
+                record(to, asked, "input", size);
             } else {
                 data_part(to, size);
             }
@@ -149,16 +149,16 @@ fn part_size(to: &impl Print, asked: Asked, part: Part, size: usize) {
 }
 
 fn reads(to: &impl Print, asked: Asked, part: Part, f: Field) {
-    say(to, b", reads");
+    say(to, ", reads");
     bytes(to, f.r, last(f.r, f.input));
     part_size(to, asked, part, room(asked, part));
 }
 
 fn writes(to: &impl Print, asked: Asked, f: Field) {
     let output = asked.output;
-    say(to, b", writes");
+    say(to, ", writes");
     bytes(to, f.t, last(f.t, f.output));
-    record(to, asked, b"output", terms::record_length(output));
+    record(to, asked, "output", terms::record_length(output));
 }
 
 // Says a field, from 1, as on its card: r counts in its part.
@@ -179,7 +179,7 @@ pub fn outside_records(to: &impl Print, deck: &[u8], asked: Asked, place: usize)
         used: _,
     } = read
     else {
-        say(to, b"this field reaches outside its records");
+        say(to, "this field reaches outside its records");
         return;
     };
     named(to, deck, place, part, field);

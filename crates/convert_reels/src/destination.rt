@@ -24,7 +24,7 @@ fn argument_mode(rt: &HostRuntime, argument: usize) -> u32 {
     if mode == mode::WRONG || n == 0 {
         notices::say(
             &rt.stderr(),
-            b"the mode has to be digits in octal, at most 7777, or -\n",
+            "the mode has to be digits in octal, at most 7777, or -\n",
         );
         return mode::WRONG;
     }

@@ -48,7 +48,7 @@ fn nameless(to: &impl Print, form: Form, entry: &[u8]) {
         files::say_name(to, files::front(entry, 60));
         notices::say(
             to,
-            b": before a name its mode, in octal, or nothing, and a blank have to stand\n",
+            ": before a name its mode, in octal, or nothing, and a blank have to stand\n",
         );
     }
 }
@@ -64,7 +64,7 @@ pub(crate) fn is_usable(to: &impl Print, form: Form, entry: &[u8]) -> bool {
         files::say_name(to, files::front(name, 60));
         notices::say(
             to,
-            b"..: this name has more than 4,095 bytes, and no file has such a one\n",
+            "..: this name has more than 4,095 bytes, and no file has such a one\n",
         );
         return false;
     }
@@ -72,7 +72,7 @@ pub(crate) fn is_usable(to: &impl Print, form: Form, entry: &[u8]) -> bool {
         files::say_name(to, name);
         notices::say(
             to,
-            b": the mode before this name has to be digits in octal, at most 7777, or nothing\n",
+            ": the mode before this name has to be digits in octal, at most 7777, or nothing\n",
         );
         return false;
     }

@@ -57,6 +57,6 @@ pub(crate) fn print(rt: &HostRuntime, ran: Ran, name: &[u8], end: u8) {
     let named = put_name(&mut room, numbered, name);
     let n = files::put(&mut room, named, &[end]);
     if let Err(why) = rt.write_all(&room[..n]) {
-        notices::fail(&rt.stderr(), b"standard output", why);
+        notices::fail(&rt.stderr(), "standard output", why);
     }
 }

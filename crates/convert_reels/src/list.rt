@@ -18,7 +18,7 @@ fn read_some(rt: &HostRuntime, room: &mut [u8]) -> usize
     match rt.stdin().read(room) {
         Ok(n) => n,
         Err(why) => {
-            notices::fail(&rt.stderr(), b"standard input", why);
+            notices::fail(&rt.stderr(), "standard input", why);
             0
         }
     }

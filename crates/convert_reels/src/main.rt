@@ -74,14 +74,14 @@ fn main(rt: HostRuntime) {
         convert_named(&rt, form);
         return;
     }
-    notices::say(&rt.stderr(), b"usage: convert_reels --check DECK REEL\n");
+    notices::say(&rt.stderr(), "usage: convert_reels --check DECK REEL\n");
     notices::say(
         &rt.stderr(),
-        b"       convert_reels --file MODE DECK OUT REEL\n",
+        "       convert_reels --file MODE DECK OUT REEL\n",
     );
-    notices::say(&rt.stderr(), b"       convert_reels DECK OUTDIR REEL..\n");
+    notices::say(&rt.stderr(), "       convert_reels DECK OUTDIR REEL..\n");
     notices::say(
         &rt.stderr(),
-        b"       convert_reels [--null | --modes] DECK OUTDIR <LIST\n",
+        "       convert_reels [--null | --modes] DECK OUTDIR <LIST\n",
     );
 }

@@ -14,13 +14,13 @@ pub fn name(rt: &HostRuntime, argument: usize, room: &mut [u8]) -> usize
         Ok(0) => {
             notices::say(
                 &rt.stderr(),
-                b"an argument is empty; it has to name a file\n",
+                "an argument is empty; it has to name a file\n",
             );
             0
         }
         Ok(n) => n,
         Err(why) => {
-            notices::fail(&rt.stderr(), b"an argument", why);
+            notices::fail(&rt.stderr(), "an argument", why);
             0
         }
     }

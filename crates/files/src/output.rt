@@ -187,7 +187,7 @@ pub fn write(rt: &HostRuntime, path: &[u8], bytes: &[u8], mode: u32) -> bool {
         shown::say_name(&rt.stderr(), path);
         notices::say(
             &rt.stderr(),
-            b": is a device or a pipe, and no file takes its place\n",
+            ": is a device or a pipe, and no file takes its place\n",
         );
         return false;
     }

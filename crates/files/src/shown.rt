@@ -106,12 +106,11 @@ fn put_name(room: &mut [u8], name: &[u8]) -> usize
 pub fn say_name(to: &impl Print, name: &[u8]) {
     let mut room = shown_room();
     let n = put_name(&mut room, name);
-    notices::say(to, &room[..n]);
+    notices::say_bytes(to, &room[..n]);
 }
 
 // Says what failed with the file of this name, and why.
 pub fn fail(to: &impl Print, path: &[u8], why: Error) {
-    let mut room = shown_room();
-    let n = put_name(&mut room, path);
-    notices::fail(to, &room[..n], why);
+    say_name(to, path);
+    notices::because(to, why);
 }

@@ -3,7 +3,7 @@ ghost use Rattle.std.specs.Prelude.{◌*◌, ◌≤◌, length};
 ghost use Rattle.rows.specs.Flat.{Fielded};
 ghost use Rattle.rows.specs.Fair.{PlanFair};
 
-use notices::{number, say};
+use notices::{say, say_bytes};
 use std::io::Print;
 use terms::{Asked, Field, Task};
 
@@ -45,13 +45,13 @@ fn last_writer(fields: &[u16], position: usize) -> usize
 fn say_writer(to: &impl Print, deck: &[u8], asked: Asked, fields: &[u16], position: usize) {
     let last = last_writer(fields, position);
     if last > 0 {
-        say(to, b"; ");
+        say(to, "; ");
         notices::field_on_card(to, deck, asked.key, last, rows::field_at(fields, last - 1));
-        say(to, b", writes it");
+        say(to, ", writes it");
         return;
     }
     if asked.cv > 0 {
-        say(to, b"; it is of the tail, which CV carries");
+        say(to, "; it is of the tail, which CV carries");
     }
 }
 
@@ -71,12 +71,12 @@ fn say_byte(
     if theirs.len() <= at {
         return;
     }
-    say(to, b" in byte ");
-    number(to, at + 1);
-    say(to, b": ours gives ");
-    say(to, &hexadecimal::hex(ours[at]));
-    say(to, b", theirs has ");
-    say(to, &hexadecimal::hex(theirs[at]));
+    say(to, " in byte ");
+    say(to, at + 1);
+    say(to, ": ours gives ");
+    say_bytes(to, &hexadecimal::hex(ours[at]));
+    say(to, ", theirs has ");
+    say_bytes(to, &hexadecimal::hex(theirs[at]));
     say_writer(to, deck, asked, fields, at + 1);
 }
 
@@ -144,7 +144,7 @@ pub(crate) fn explain(
 )
     requires { PlanFair asked fields.now }
 {
-    say(to, b"differs");
+    say(to, "differs");
     let mode = asked.mode;
     if terms::selects(mode) {
         say_selected(to, deck, asked, fields, ours, theirs);

@@ -22,7 +22,7 @@ fn say_refused(
     if refusal == 8 && (plan.answer.refusal != 8 || plan.answer.place != place) {
         notices::say(
             to,
-            b"refused by 8, at card 1: a reel from elsewhere is judged with TR or TRF alone, and this deck has TC or TF\n",
+            "refused by 8, at card 1: a reel from elsewhere is judged with TR or TRF alone, and this deck has TC or TF\n",
         );
         return;
     }
@@ -120,5 +120,5 @@ fn main(rt: HostRuntime) {
         judge_named(&rt);
         return;
     }
-    notices::say(&rt.stderr(), b"usage: judge_reel DECK OURS THEIRS\n");
+    notices::say(&rt.stderr(), "usage: judge_reel DECK OURS THEIRS\n");
 }

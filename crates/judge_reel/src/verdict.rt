@@ -3,7 +3,7 @@ ghost use Rattle.std.specs.Prelude.{◌≤◌, length};
 ghost use Rattle.rows.specs.Fair.{PlanFair};
 
 use crate::difference;
-use notices::{number, say};
+use notices::say;
 use plans::DeckPlan;
 use reports::many;
 use std::io::Print;
@@ -15,9 +15,9 @@ pub(crate) fn yes(to: &impl Print, plan: DeckPlan, theirs: &[u8]) {
     let task = tasks::task_of(asked);
     let mut nothing = gathers::record_room();
     let found = gathers::gather(tasks::form_under(task), theirs, 0, &mut nothing);
-    say(to, b"theirs is a true conversion of ours, of ");
-    many(to, found.records, b"record");
-    say(to, b"\n");
+    say(to, "theirs is a true conversion of ours, of ");
+    many(to, found.records, "record");
+    say(to, "\n");
     notices::loss(to, plan);
 }
 
@@ -54,23 +54,23 @@ fn left(records: usize, passed: usize) -> usize {
 
 // Says which record of the output is apart, and which one it is in our input; where ours has none, theirs has it.
 fn say_record(to: &impl Print, apart: usize, place: usize, is_ours: bool) {
-    say(to, b"record ");
-    number(to, apart);
+    say(to, "record ");
+    say(to, apart);
     if is_ours {
-        say(to, b" of the output, record ");
-        number(to, place);
-        say(to, b" of our input, ");
+        say(to, " of the output, record ");
+        say(to, place);
+        say(to, " of our input, ");
     } else {
-        say(to, b" of theirs ");
+        say(to, " of theirs ");
     }
 }
 
 // Says that a record has no partner, by the counts of both sides.
 fn say_counts(to: &impl Print, ours: usize, theirs: usize) {
-    say(to, b"lacks a partner: ours gives ");
-    many(to, ours, b"record");
-    say(to, b", theirs has ");
-    number(to, theirs);
+    say(to, "lacks a partner: ours gives ");
+    many(to, ours, "record");
+    say(to, ", theirs has ");
+    say(to, theirs);
 }
 
 // Says how a record of theirs is apart from one of ours: by its length, or by a byte.
@@ -82,10 +82,10 @@ fn say_pair(to: &impl Print, deck: &[u8], asked: Asked, fields: &[u16], ours: &[
         difference::explain(to, deck, asked, fields, ours, theirs);
         return;
     }
-    say(to, b"has another length: ours gives ");
-    many(to, n, b"byte");
-    say(to, b", theirs has ");
-    number(to, theirs.len());
+    say(to, "has another length: ours gives ");
+    many(to, n, "byte");
+    say(to, ", theirs has ");
+    say(to, theirs.len());
 }
 
 // Says which record is apart, by its number in the output, and why.
@@ -107,7 +107,7 @@ pub(crate) fn no(
     let taken = gathers::gather(tasks::form_of(task), ours, place, &mut room);
     let mut other = gathers::record_room();
     let found = gathers::gather(tasks::form_under(task), theirs, apart, &mut other);
-    say(to, b"theirs is no true conversion of ours: ");
+    say(to, "theirs is no true conversion of ours: ");
     say_record(to, apart, place, place <= taken.records);
     if taken.records < place || found.records < apart {
         say_counts(to, left(taken.records, before), found.records);
@@ -116,5 +116,5 @@ pub(crate) fn no(
         let m = found.length;
         say_pair(to, deck, asked, fields, &room[..n], &other[..m]);
     }
-    say(to, b"\n");
+    say(to, "\n");
 }

@@ -4,7 +4,7 @@ ghost use Rattle.std.specs.Prelude.{◌≤◌, length, IfSome};
 
 use lines::CardRead;
 use std::io::Print;
-use words::{number, say};
+use words::{say, say_bytes};
 
 pub const BLANK: u8 = b' ';
 
@@ -12,11 +12,11 @@ pub const COMMA: u8 = b',';
 
 // Says a card, and a column of it where there is one. Kept (a): a column is a number, 0 for none, in the answers that C sees.
 pub fn spot(to: &impl Print, card: usize, column: usize) {
-    say(to, b"card ");
-    number(to, card);
+    say(to, "card ");
+    say(to, card);
     if column > 0 {
-        say(to, b", column ");
-        number(to, column);
+        say(to, ", column ");
+        say(to, column);
     }
 }
 
@@ -56,12 +56,12 @@ pub fn show(to: &impl Print, deck: &[u8], place: usize, column: usize) {
     if column == 0 || column > 81 {
         return;
     }
-    say(to, card_at(deck, place));
-    say(to, b"\n");
+    say_bytes(to, card_at(deck, place));
+    say(to, "\n");
     let blanks = [BLANK; 80];
     let n = column - 1;
-    say(to, &blanks[..n]);
-    say(to, b"^\n");
+    say_bytes(to, &blanks[..n]);
+    say(to, "^\n");
 }
 
 // The byte in a column; a blank where there is none.

@@ -3,7 +3,7 @@
 use crate::card;
 use crate::card::BLANK;
 use std::io::Print;
-use words::{number, say};
+use words::{say, say_bytes};
 
 const TAB: u8 = 0x09;
 
@@ -53,57 +53,57 @@ fn is_card_in_capitals(line: &[u8]) -> bool {
 }
 
 // Says that no blank follows where one has to.
-fn no_blank(to: &impl Print, text: &[u8]) {
-    say(to, b"a blank is missing behind '");
+fn no_blank(to: &impl Print, text: &str) {
+    say(to, "a blank is missing behind '");
     say(to, text);
-    say(to, b"'");
+    say(to, "'");
 }
 
 // Says what follows END.
 fn behind_end(to: &impl Print, byte: u8) {
     say(
         to,
-        b"'// END' stands alone or has a blank behind it, and column 7 has '",
+        "'// END' stands alone or has a blank behind it, and column 7 has '",
     );
-    say(to, &[byte]);
-    say(to, b"'");
+    say_bytes(to, &[byte]);
+    say(to, "'");
 }
 
 // Says which program's card a U card with two letters behind the U is: they are its initials (document 001).
 fn initials(to: &impl Print, first: u8, second: u8) {
-    say(to, b"the initials ");
-    say(to, &[first, second]);
+    say(to, "the initials ");
+    say_bytes(to, &[first, second]);
     say(
         to,
-        b" are not those of tape to tape, whose card begins with '// U ' or '// UTT '",
+        " are not those of tape to tape, whose card begins with '// U ' or '// UTT '",
     );
 }
 
 // Says what is wrong with a line that begins as a U card does.
 fn u_shape(to: &impl Print, line: &[u8]) {
     if line.starts_with(b"// UTT") {
-        no_blank(to, b"// UTT");
+        no_blank(to, "// UTT");
         return;
     }
     let first = card::byte(line, 5);
     let second = card::byte(line, 6);
     if second == BLANK {
-        no_blank(to, b"// U");
+        no_blank(to, "// U");
         return;
     }
     if card::byte(line, 7) == BLANK {
         initials(to, first, second);
         return;
     }
-    no_blank(to, b"// U");
+    no_blank(to, "// U");
 }
 
 // Says what is wrong with the shape of a line of 1 to 80 printable bytes. UPSI is of job control, and no U card.
 fn shape(to: &impl Print, line: &[u8]) {
     if is_card_in_capitals(line) {
-        say(to, b"cards are in capital letters, and column ");
-        number(to, small(line).unwrap_or(0));
-        say(to, b" has a small one");
+        say(to, "cards are in capital letters, and column ");
+        say(to, small(line).unwrap_or(0));
+        say(to, " has a small one");
         return;
     }
     if line.starts_with(b"// U") && !line.starts_with(b"// UPSI ") {
@@ -111,7 +111,7 @@ fn shape(to: &impl Print, line: &[u8]) {
         return;
     }
     if line.starts_with(b"// FS") {
-        no_blank(to, b"// FS");
+        no_blank(to, "// FS");
         return;
     }
     if line.starts_with(b"// END") {
@@ -120,7 +120,7 @@ fn shape(to: &impl Print, line: &[u8]) {
     }
     say(
         to,
-        b"this line begins with none of '// U ', '// UTT ', '// FS ' and is not '// END'",
+        "this line begins with none of '// U ', '// UTT ', '// FS ' and is not '// END'",
     );
 }
 
@@ -128,17 +128,17 @@ fn shape(to: &impl Print, line: &[u8]) {
 
 // Says which byte is not printable.
 fn byte_in(to: &impl Print, line: &[u8], column: usize) {
-    say(to, b"column ");
-    number(to, column);
-    say(to, b" has the byte hex ");
-    say(to, &hexadecimal::hex(card::byte(line, column)));
-    say(to, b", which is no printable one of ASCII");
+    say(to, "column ");
+    say(to, column);
+    say(to, " has the byte hex ");
+    say_bytes(to, &hexadecimal::hex(card::byte(line, column)));
+    say(to, ", which is no printable one of ASCII");
 }
 
 // Says what is wrong with the bytes of a line, how many they are, or their shape.
 fn written(to: &impl Print, line: &[u8]) {
     if line.len() == 0 {
-        say(to, b"this line is empty");
+        say(to, "this line is empty");
         return;
     }
     if let Some(column) = unprintable(line) {
@@ -146,9 +146,9 @@ fn written(to: &impl Print, line: &[u8]) {
         return;
     }
     if line.len() > lines::LONGEST {
-        say(to, b"this line has ");
-        number(to, line.len());
-        say(to, b" bytes; a card has at most 80");
+        say(to, "this line has ");
+        say(to, line.len());
+        say(to, " bytes; a card has at most 80");
         return;
     }
     shape(to, line);
@@ -159,21 +159,21 @@ fn explain(to: &impl Print, line: &[u8]) {
     if line.starts_with(&EBCDIC) {
         say(
             to,
-            b"the deck is in EBCDIC: this line begins with hex 61 61 40, which is '// ' there; a deck is in ASCII",
+            "the deck is in EBCDIC: this line begins with hex 61 61 40, which is '// ' there; a deck is in ASCII",
         );
         return;
     }
     if card::byte(line, line.len()) == RETURN {
         say(
             to,
-            b"this line ends with a carriage return, as lines of Windows do (CRLF); a card's line ends with a line feed alone",
+            "this line ends with a carriage return, as lines of Windows do (CRLF); a card's line ends with a line feed alone",
         );
         return;
     }
     if let Some(column) = card::column_of(line, TAB) {
-        say(to, b"there is a tab in column ");
-        number(to, column);
-        say(to, b"; a card has blanks");
+        say(to, "there is a tab in column ");
+        say(to, column);
+        say(to, "; a card has blanks");
         return;
     }
     written(to, line);
@@ -184,7 +184,7 @@ pub fn no_card(to: &impl Print, deck: &[u8], place: usize) {
     if deck.len() == 0 {
         say(
             to,
-            b"this line is none of the cards: '// U ', '// UTT ', '// FS ' or '// END', 1 to 80 printable bytes, no tab and no carriage return",
+            "this line is none of the cards: '// U ', '// UTT ', '// FS ' or '// END', 1 to 80 printable bytes, no tab and no carriage return",
         );
         return;
     }

@@ -9,15 +9,15 @@ fn is_missing(card: &[u8], letter: u8) -> bool {
 }
 
 // Says a letter that is missing, after others or before some.
-fn name(to: &impl Print, letter: &[u8], missing: bool, after: bool, before: bool) {
+fn name(to: &impl Print, letter: &str, missing: bool, after: bool, before: bool) {
     if !missing {
         return;
     }
     if after {
         if before {
-            say(to, b", ");
+            say(to, ", ");
         } else {
-            say(to, b" and ");
+            say(to, " and ");
         }
     }
     say(to, letter);
@@ -30,9 +30,9 @@ pub fn lacking(to: &impl Print, deck: &[u8]) {
     let f = is_missing(card, b'F');
     let a = is_missing(card, b'A');
     let b = is_missing(card, b'B');
-    say(to, b"the U card lacks ");
-    name(to, b"T", t, false, false);
-    name(to, b"F", f, t, a || b);
-    name(to, b"A", a, t || f, b);
-    name(to, b"B", b, t || f || a, false);
+    say(to, "the U card lacks ");
+    name(to, "T", t, false, false);
+    name(to, "F", f, t, a || b);
+    name(to, "A", a, t || f, b);
+    name(to, "B", b, t || f || a, false);
 }

@@ -2,7 +2,7 @@
 use crate::card;
 use lines::CardKind;
 use std::io::Print;
-use words::{number, say};
+use words::say;
 
 // Whether the card of a place is an END card.
 fn is_end(deck: &[u8], place: usize) -> bool {
@@ -11,23 +11,23 @@ fn is_end(deck: &[u8], place: usize) -> bool {
 
 // Says which card stands first in place of the U card.
 fn first_card(to: &impl Print, kind: Option<CardKind>) {
-    say(to, b"the first card is the U card, and this is an ");
+    say(to, "the first card is the U card, and this is an ");
     match kind {
-        Some(CardKind::End) => say(to, b"END card"),
-        _ => say(to, b"FS card"),
+        Some(CardKind::End) => say(to, "END card"),
+        _ => say(to, "FS card"),
     }
 }
 
 fn too_many(to: &impl Print, place: usize) {
-    say(to, b"this is card ");
-    number(to, place);
-    say(to, b"; a deck has at most 64");
+    say(to, "this is card ");
+    say(to, place);
+    say(to, "; a deck has at most 64");
 }
 
 // Says why a card is at fault behind one that is not the END card. An FS or END card is so past the 64th alone.
 fn before_end(to: &impl Print, kind: CardKind, place: usize) {
     match kind {
-        CardKind::Utility => say(to, b"this is a second U card; a deck has one"),
+        CardKind::Utility => say(to, "this is a second U card; a deck has one"),
         _ => too_many(to, place),
     }
 }
@@ -36,18 +36,18 @@ fn before_end(to: &impl Print, kind: CardKind, place: usize) {
 fn no_end(to: &impl Print, last: usize) {
     say(
         to,
-        b"the END card is missing; the last card of the deck is card ",
+        "the END card is missing; the last card of the deck is card ",
     );
-    number(to, last);
+    say(to, last);
 }
 
 // Says why a card is at fault that is not the first. It is the first at fault, so that an END card before it is the one just before. Where no card is at fault
 // there is none at the place.
 fn later_card(to: &impl Print, kind: Option<CardKind>, deck: &[u8], place: usize, before: usize) {
     if is_end(deck, before) {
-        say(to, b"card ");
-        number(to, before);
-        say(to, b" is the END card, and nothing stands behind it");
+        say(to, "card ");
+        say(to, before);
+        say(to, " is the END card, and nothing stands behind it");
         return;
     }
     match kind {
@@ -61,7 +61,7 @@ fn unseen(to: &impl Print, place: usize) {
     if place < 2 {
         say(
             to,
-            b"the deck is empty, or is longer than 65,536 bytes and begins with no U card",
+            "the deck is empty, or is longer than 65,536 bytes and begins with no U card",
         );
         return;
     }
@@ -69,10 +69,7 @@ fn unseen(to: &impl Print, place: usize) {
         too_many(to, place);
         return;
     }
-    say(
-        to,
-        b"this is a second U card, or a card behind the END card",
-    );
+    say(to, "this is a second U card, or a card behind the END card");
 }
 
 // Says what refusal 2 found at a place.

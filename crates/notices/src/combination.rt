@@ -2,39 +2,39 @@
 // 02, orders 5 and 6).
 use std::io::Print;
 use terms::{Asked, Format, Mode, Size};
-use words::{number, say};
+use words::say;
 
 // ---- what the deck has
 
 fn mode_name(to: &impl Print, mode: Mode) {
     match mode {
-        Mode::TC => say(to, b"TC"),
-        Mode::TF => say(to, b"TF"),
-        Mode::TR => say(to, b"TR"),
-        Mode::TRF => say(to, b"TRF"),
+        Mode::TC => say(to, "TC"),
+        Mode::TF => say(to, "TF"),
+        Mode::TR => say(to, "TR"),
+        Mode::TRF => say(to, "TRF"),
     }
 }
 
 fn format_name(to: &impl Print, format: Format) {
     match format {
-        Format::FF => say(to, b"FF"),
-        Format::FV => say(to, b"FV"),
-        Format::FU => say(to, b"FU"),
-        Format::FS => say(to, b"FS"),
+        Format::FF => say(to, "FF"),
+        Format::FV => say(to, "FV"),
+        Format::FU => say(to, "FU"),
+        Format::FS => say(to, "FS"),
     }
 }
 
 // Says what goes only with another function than the deck has.
-fn not_with_mode(to: &impl Print, rule: &[u8], mode: Mode) {
+fn not_with_mode(to: &impl Print, rule: &str, mode: Mode) {
     say(to, rule);
-    say(to, b", and this deck has ");
+    say(to, ", and this deck has ");
     mode_name(to, mode);
 }
 
 // The same of another format.
-fn not_with_format(to: &impl Print, rule: &[u8], format: Format) {
+fn not_with_format(to: &impl Print, rule: &str, format: Format) {
     say(to, rule);
-    say(to, b", and this deck has ");
+    say(to, ", and this deck has ");
     format_name(to, format);
 }
 
@@ -42,16 +42,16 @@ fn not_with_format(to: &impl Print, rule: &[u8], format: Format) {
 fn size_on_card(to: &impl Print, size: Size) {
     match size {
         Size::Two { n, m } => {
-            say(to, b"(");
-            number(to, n);
-            say(to, b",");
-            number(to, m);
-            say(to, b")");
+            say(to, "(");
+            say(to, n);
+            say(to, ",");
+            say(to, m);
+            say(to, ")");
         }
         Size::One { g } => {
-            say(to, b"(");
-            number(to, g);
-            say(to, b")");
+            say(to, "(");
+            say(to, g);
+            say(to, ")");
         }
     }
 }
@@ -64,11 +64,11 @@ fn key_broken(to: &impl Print, mode: Mode, format: Format, key: usize) -> bool {
         return false;
     }
     if !terms::selects(mode) {
-        not_with_mode(to, b"a key in A goes only with TF or TRF", mode);
+        not_with_mode(to, "a key in A goes only with TF or TRF", mode);
         return true;
     }
     if !terms::is_ff(format) {
-        not_with_format(to, b"a key in A goes only with FF", format);
+        not_with_format(to, "a key in A goes only with FF", format);
         return true;
     }
     false
@@ -78,14 +78,14 @@ fn key_broken(to: &impl Print, mode: Mode, format: Format, key: usize) -> bool {
 fn copy_broken(to: &impl Print, mode: Mode, format: Format, first: usize) -> bool {
     if !terms::is_tc(mode) {
         if terms::is_fu(format) {
-            not_with_mode(to, b"FU goes only with TC", mode);
+            not_with_mode(to, "FU goes only with TC", mode);
             return true;
         }
         return false;
     }
     if first != 1 {
-        say(to, b"TC goes only with R1, and this deck has R");
-        number(to, first);
+        say(to, "TC goes only with R1, and this deck has R");
+        say(to, first);
         return true;
     }
     false
@@ -109,24 +109,24 @@ fn wants_two(mode: Mode, format: Format) -> bool {
 }
 
 // Says how many numbers A or B has, by this format and, in FV, this function.
-fn count_rule(to: &impl Print, mode: Mode, format: Format, name: &[u8]) {
-    say(to, b"in ");
+fn count_rule(to: &impl Print, mode: Mode, format: Format, name: &str) {
+    say(to, "in ");
     format_name(to, format);
     if terms::is_fv(format) {
-        say(to, b" with ");
+        say(to, " with ");
         mode_name(to, mode);
     }
-    say(to, b" ");
+    say(to, " ");
     say(to, name);
     if wants_two(mode, format) {
-        say(to, b" has two numbers, (n,m), and this deck has one");
+        say(to, " has two numbers, (n,m), and this deck has one");
     } else {
-        say(to, b" has one number, (g), and this deck has two");
+        say(to, " has one number, (g), and this deck has two");
     }
 }
 
 // FF: two numbers each. FU and FS: one. FV: two with TF or TRF, else one.
-fn count_broken(to: &impl Print, mode: Mode, format: Format, size: Size, name: &[u8]) -> bool {
+fn count_broken(to: &impl Print, mode: Mode, format: Format, size: Size, name: &str) -> bool {
     if has_two(size) == wants_two(mode, format) {
         return false;
     }
@@ -144,9 +144,9 @@ fn copy_differs(to: &impl Print, mode: Mode, a: Size, b: Size) -> bool {
             return false;
         }
     }
-    say(to, b"TC wants A equal to B, and here A is ");
+    say(to, "TC wants A equal to B, and here A is ");
     size_on_card(to, a);
-    say(to, b" and B is ");
+    say(to, " and B is ");
     size_on_card(to, b);
     true
 }
@@ -159,24 +159,24 @@ fn card_missing(to: &impl Print, mode: Mode, fs: usize) -> bool {
     if fs > 0 {
         return false;
     }
-    say(to, b"TF and TRF need an FS card, and there is none");
+    say(to, "TF and TRF need an FS card, and there is none");
     true
 }
 
 // FF: m a multiple of n.
-fn multiple_broken(to: &impl Print, n: usize, m: usize, name: &[u8]) -> bool {
+fn multiple_broken(to: &impl Print, n: usize, m: usize, name: &str) -> bool {
     if n == 0 {
         return false;
     }
     if m % n == 0 {
         return false;
     }
-    say(to, b"in FF m is a multiple of n, and in ");
+    say(to, "in FF m is a multiple of n, and in ");
     say(to, name);
-    say(to, b" ");
-    number(to, m);
-    say(to, b" is none of ");
-    number(to, n);
+    say(to, " ");
+    say(to, m);
+    say(to, " is none of ");
+    say(to, n);
     true
 }
 
@@ -187,11 +187,11 @@ fn lengths_differ(to: &impl Print, n: usize, n2: usize) -> bool {
     }
     say(
         to,
-        b"with TR the record lengths of A and B are equal, and these are ",
+        "with TR the record lengths of A and B are equal, and these are ",
     );
-    number(to, n);
-    say(to, b" and ");
-    number(to, n2);
+    say(to, n);
+    say(to, " and ");
+    say(to, n2);
     true
 }
 
@@ -210,19 +210,19 @@ fn counts_differ(to: &impl Print, a: usize, b: usize) -> bool {
     }
     say(
         to,
-        b"with TF as many records stand in a block of A as in one of B, and these are ",
+        "with TF as many records stand in a block of A as in one of B, and these are ",
     );
-    number(to, a);
-    say(to, b" and ");
-    number(to, b);
+    say(to, a);
+    say(to, " and ");
+    say(to, b);
     true
 }
 
 fn fixed_broken(to: &impl Print, mode: Mode, n: usize, m: usize, n2: usize, m2: usize) -> bool {
-    if multiple_broken(to, n, m, b"A") {
+    if multiple_broken(to, n, m, "A") {
         return true;
     }
-    if multiple_broken(to, n2, m2, b"B") {
+    if multiple_broken(to, n2, m2, "B") {
         return true;
     }
     match mode {
@@ -234,18 +234,18 @@ fn fixed_broken(to: &impl Print, mode: Mode, n: usize, m: usize, n2: usize, m2: 
 }
 
 // FV with two numbers: n+8 at most m.
-fn room_broken(to: &impl Print, n: usize, m: usize, name: &[u8]) -> bool {
+fn room_broken(to: &impl Print, n: usize, m: usize, name: &str) -> bool {
     if m >= 8 {
         if n <= m - 8 {
             return false;
         }
     }
-    say(to, b"in FV n+8 is at most m, and in ");
+    say(to, "in FV n+8 is at most m, and in ");
     say(to, name);
-    say(to, b" n is ");
-    number(to, n);
-    say(to, b" and m is ");
-    number(to, m);
+    say(to, " n is ");
+    say(to, n);
+    say(to, " and m is ");
+    say(to, m);
     true
 }
 
@@ -253,10 +253,10 @@ fn variable_broken(to: &impl Print, mode: Mode, n: usize, m: usize, n2: usize, m
     if !terms::selects(mode) {
         return false;
     }
-    if room_broken(to, n, m, b"A") {
+    if room_broken(to, n, m, "A") {
         return true;
     }
-    room_broken(to, n2, m2, b"B")
+    room_broken(to, n2, m2, "B")
 }
 
 // Format FS only with TC and TR.
@@ -264,7 +264,7 @@ fn spanned_broken(to: &impl Print, mode: Mode) -> bool {
     if !terms::selects(mode) {
         return false;
     }
-    not_with_mode(to, b"format FS goes only with TC or TR", mode);
+    not_with_mode(to, "format FS goes only with TC or TR", mode);
     true
 }
 
@@ -290,10 +290,10 @@ fn sizes_broken(to: &impl Print, asked: Asked) -> bool {
     let format = asked.format;
     let input = asked.input;
     let output = asked.output;
-    if count_broken(to, mode, format, input, b"A") {
+    if count_broken(to, mode, format, input, "A") {
         return true;
     }
-    if count_broken(to, mode, format, output, b"B") {
+    if count_broken(to, mode, format, output, "B") {
         return true;
     }
     if copy_differs(to, mode, input, output) {
@@ -316,7 +316,7 @@ fn u_card_broken(to: &impl Print, asked: Asked) {
         return;
     }
     if !sizes_broken(to, asked) {
-        say(to, b"the parameters do not go together");
+        say(to, "the parameters do not go together");
     }
 }
 
@@ -325,16 +325,16 @@ fn fs_card_broken(to: &impl Print, asked: Asked, place: usize) {
     let mode = asked.mode;
     let format = asked.format;
     if !terms::selects(mode) {
-        not_with_mode(to, b"an FS card goes only with TF or TRF", mode);
+        not_with_mode(to, "an FS card goes only with TF or TRF", mode);
         return;
     }
     if asked.cv == place && !terms::is_fv(format) {
-        not_with_format(to, b"CV goes only with FV", format);
+        not_with_format(to, "CV goes only with FV", format);
         return;
     }
     say(
         to,
-        b"(K,r) goes only with a key in A, (K=l,D=l), and this deck has none",
+        "(K,r) goes only with a key in A, (K=l,D=l), and this deck has none",
     );
 }
 

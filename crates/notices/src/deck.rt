@@ -2,13 +2,13 @@
 use crate::{combination, half};
 use cards::DeckRead;
 use std::io::Print;
-use words::{number, say};
+use words::say;
 
 // What refusal 3 says.
 fn unread(to: &impl Print) {
     say(
         to,
-        b"what stands on this card cannot be read from this column on; look at its letters, commas, slashes and parentheses, and for a blank that ends it too early",
+        "what stands on this card cannot be read from this column on; look at its letters, commas, slashes and parentheses, and for a blank that ends it too early",
     );
 }
 
@@ -16,7 +16,7 @@ fn unread(to: &impl Print) {
 fn twice(to: &impl Print, deck: &[u8], place: usize, column: usize) {
     say(
         to,
-        b"a parameter, or CV, stands here for the second time; the first stands at ",
+        "a parameter, or CV, stands here for the second time; the first stands at ",
     );
     line_words::first(to, deck, place, column);
 }
@@ -44,7 +44,7 @@ fn asking(to: &impl Print, deck: &[u8], refusal: usize, place: usize) {
     let read = read(deck);
     let asked = read.asked;
     if read.refusal != 0 {
-        say(to, b"the cards do not go together");
+        say(to, "the cards do not go together");
         return;
     }
     if refusal == 8 {
@@ -63,11 +63,11 @@ fn key(deck: &[u8]) -> usize {
 
 // A card and a column, a field, a half byte.
 fn where_it_is(to: &impl Print, deck: &[u8], refusal: usize, place: usize, column: usize) {
-    say(to, b", at ");
+    say(to, ", at ");
     match refusal {
         9 => {
-            say(to, b"field ");
-            number(to, place);
+            say(to, "field ");
+            say(to, place);
         }
         10 => half(to, place, key(deck)),
         _ => line_words::spot(to, place, column),
@@ -76,13 +76,13 @@ fn where_it_is(to: &impl Print, deck: &[u8], refusal: usize, place: usize, colum
 
 pub(crate) fn explain(to: &impl Print, deck: &[u8], refusal: usize, place: usize, column: usize) {
     where_it_is(to, deck, refusal, place, column);
-    say(to, b": ");
+    say(to, ": ");
     match refusal {
-        6 => say(to, b"the 65th field stands on this card; 64 are allowed"),
+        6 => say(to, "the 65th field stands on this card; 64 are allowed"),
         8 | 9 => asking(to, deck, refusal, place),
         10 => say(
             to,
-            b"no value of this half byte would do for all fields that read it",
+            "no value of this half byte would do for all fields that read it",
         ),
         _ => reading(to, deck, refusal, place, column),
     }

@@ -12,86 +12,86 @@ pub use card_words::field_on_card;
 use plans::DeckPlan;
 use std::io::Print;
 pub use taken::{left_out, none_taken};
-pub use words::{fail, number, say};
+pub use words::{because, fail, say, say_bytes};
 
 // The numbers on standard output, with a blank between.
 pub fn line(rt: &HostRuntime, numbers: &[usize]) {
     for i in 0..numbers.len() {
         if i > 0 {
-            say(rt, b" ");
+            say(rt, " ");
         }
-        number(rt, numbers[i]);
+        say(rt, numbers[i]);
     }
     if let Err(why) = rt.write_all(b"\n") {
-        fail(&rt.stderr(), b"standard output", why);
+        fail(&rt.stderr(), "standard output", why);
     }
 }
 
 // A byte of an input record, from 1: behind a key of so many bytes people count those of the data from 1 again, as cards do.
 fn byte(to: &impl Print, n: usize, key: usize) {
     if key == 0 {
-        number(to, n);
+        say(to, n);
         return;
     }
     if n <= key {
-        number(to, n);
-        say(to, b" of the key");
+        say(to, n);
+        say(to, " of the key");
         return;
     }
-    number(to, n - key);
-    say(to, b" of the data");
+    say(to, n - key);
+    say(to, " of the data");
 }
 
 // Half 2i is the high half of byte i, from 0, through the key first.
 pub fn half_of_byte(to: &impl Print, place: usize, key: usize) {
     if place % 2 == 0 {
-        say(to, b"the high half of byte ");
+        say(to, "the high half of byte ");
     } else {
-        say(to, b"the low half of byte ");
+        say(to, "the low half of byte ");
     }
     byte(to, place / 2 + 1, key);
 }
 
 fn half(to: &impl Print, place: usize, key: usize) {
-    say(to, b"half byte ");
-    number(to, place);
-    say(to, b", ");
+    say(to, "half byte ");
+    say(to, place);
+    say(to, ", ");
     half_of_byte(to, place, key);
-    say(to, b" of the input record");
+    say(to, " of the input record");
 }
 
 // A refusal of a deck, by its number, its place and its column, or 0 for none; the deck has the card.
 pub fn refused(to: &impl Print, deck: &[u8], refusal: usize, place: usize, column: usize) {
-    say(to, b"refused by ");
-    number(to, refusal);
+    say(to, "refused by ");
+    say(to, refusal);
     if refusal < 11 {
         deck::explain(to, deck, refusal, place, column);
     } else {
         say(
             to,
-            b": the plan keeps: no two records become alike, so there are no twins to show",
+            ": the plan keeps: no two records become alike, so there are no twins to show",
         );
     }
-    say(to, b"\n");
+    say(to, "\n");
     line_words::show(to, deck, place, column);
 }
 
 // A half byte of the first n bytes is lost, or the tail, whose place is 2n.
 fn lost(to: &impl Print, n: usize, key: usize, place: usize) {
-    say(to, b"the plan loses: ");
+    say(to, "the plan loses: ");
     if place / 2 == n {
-        say(to, b"the tail, all data past the first ");
-        number(to, n);
+        say(to, "the tail, all data past the first ");
+        say(to, n);
         say(
             to,
-            b" bytes, is dropped; records that differ only there become alike\n",
+            " bytes, is dropped; records that differ only there become alike\n",
         );
         return;
     }
     half(to, place, key);
     say(
         to,
-        b", is not in the output; records that differ only there become alike\n",
+        ", is not in the output; records that differ only there become alike\n",
     );
 }
 
@@ -101,6 +101,6 @@ pub fn loss(to: &impl Print, plan: DeckPlan) {
         let asked = plan.asked;
         let input = asked.input;
         lost(to, terms::record_length(input), asked.key, plan.answer.lost);
-        say(to, b"'./bhexodana twins DECK' shows two such records\n");
+        say(to, "'./bhexodana twins DECK' shows two such records\n");
     }
 }

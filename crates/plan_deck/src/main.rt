@@ -40,7 +40,7 @@ fn whole(rt: &HostRuntime, deck: &[u8]) {
 
 fn say_failure(rt: &HostRuntime, from: &Source<Stdin>) {
     if let Some(why) = from.failure {
-        notices::fail(&rt.stderr(), b"standard input", why);
+        notices::fail(&rt.stderr(), "standard input", why);
     }
 }
 

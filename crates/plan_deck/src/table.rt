@@ -9,7 +9,7 @@ ghost use Rattle.sources.specs.Promise.{RowInside};
 use terms::{Asked, Field};
 
 // A word and numbers.
-fn line(rt: &HostRuntime, word: &[u8], numbers: &[usize]) {
+fn line(rt: &HostRuntime, word: &str, numbers: &[usize]) {
     notices::say(rt, word);
     notices::line(rt, numbers);
 }
@@ -20,7 +20,7 @@ fn sizes(rt: &HostRuntime, asked: Asked) {
     let output = asked.output;
     line(
         rt,
-        b"records ",
+        "records ",
         &[
             terms::record_length(input),
             terms::block_length(input),
@@ -39,7 +39,7 @@ fn field(rt: &HostRuntime, deck: &[u8], number: usize, f: Field)
     let kind = f.kind;
     line(
         rt,
-        b"field ",
+        "field ",
         &[
             number,
             cards::field_card(deck, number - 1),
@@ -94,7 +94,7 @@ fn all_losses(rt: &HostRuntime, asked: Asked, fields: &[u16])
         if halves[h] > 0 {
             line(
                 rt,
-                b"lost ",
+                "lost ",
                 &[
                     h,
                     end - 1,
@@ -112,14 +112,14 @@ fn tail(rt: &HostRuntime, asked: Asked)
     requires { record_length (size_of asked.input) ≤ 4096 }
 {
     if losses::is_tail_lost(asked) {
-        line(rt, b"tail ", &[2]);
+        line(rt, "tail ", &[2]);
         return;
     }
     if asked.cv > 0 {
-        line(rt, b"tail ", &[1]);
+        line(rt, "tail ", &[1]);
         return;
     }
-    line(rt, b"tail ", &[0]);
+    line(rt, "tail ", &[0]);
 }
 
 // Where the run of output bytes ends, from 1, that begins at a position and is written by one field, or by none.
@@ -147,7 +147,7 @@ fn all_written(rt: &HostRuntime, fields: &[u16], width: usize)
     let mut i = 1;
     while i <= width {
         let end = written_end(fields, i, width);
-        line(rt, b"output ", &[i, end, losses::last_writer(fields, i)]);
+        line(rt, "output ", &[i, end, losses::last_writer(fields, i)]);
         i = end + 1;
     }
 }

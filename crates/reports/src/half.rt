@@ -1,7 +1,7 @@
 // Refusal 13: which byte of a record a field may not read. Document 01, "Half bytes".
 use std::io::Print;
 use terms::{Asked, Field, Kind, ZONE};
-use words::{number, say};
+use words::{say, say_bytes};
 
 // How many bytes are left of what a field reads, from a position on, counted from 1; 0 where the field does not read there.
 fn left(f: Field, position: usize) -> usize {
@@ -88,43 +88,43 @@ fn first_refused(fields: &[u16], record: &[u8]) -> usize {
 
 // Says a position of a record, behind a key of so many bytes.
 fn say_position(to: &impl Print, position: usize, key: usize) {
-    say(to, b"byte ");
+    say(to, "byte ");
     if key == 0 {
-        number(to, position);
-        say(to, b" of the record");
+        say(to, position);
+        say(to, " of the record");
         return;
     }
     if position <= key {
-        number(to, position);
-        say(to, b" of the key");
+        say(to, position);
+        say(to, " of the key");
         return;
     }
-    number(to, position - key);
-    say(to, b" of the data");
+    say(to, position - key);
+    say(to, " of the data");
 }
 
 // Says what a field asks of a byte, of which it reads so many from there on.
 fn say_asked(to: &impl Print, kind: Kind, left: usize) {
     match kind {
-        Kind::Copy => say(to, b"to copy, a byte is any"),
+        Kind::Copy => say(to, "to copy, a byte is any"),
         Kind::Pack => {
             if left == 1 {
                 say(
                     to,
-                    b"to pack, the last byte is a sign, hex A to F, and a digit",
+                    "to pack, the last byte is a sign, hex A to F, and a digit",
                 );
             } else {
-                say(to, b"to pack, a byte is hex F and a digit");
+                say(to, "to pack, a byte is hex F and a digit");
             }
         }
         Kind::Unpack => {
             if left == 1 {
                 say(
                     to,
-                    b"to unpack, the last byte is a digit and a sign, hex A to F",
+                    "to unpack, the last byte is a digit and a sign, hex A to F",
                 );
             } else {
-                say(to, b"to unpack, each half byte is a digit");
+                say(to, "to unpack, each half byte is a digit");
             }
         }
     }
@@ -132,18 +132,18 @@ fn say_asked(to: &impl Print, kind: Kind, left: usize) {
 
 // Says that a field may not read the byte at a position, and why.
 fn say_refused(to: &impl Print, f: Field, key: usize, position: usize, byte: u8) {
-    say(to, b", reads ");
+    say(to, ", reads ");
     say_position(to, position, key);
-    say(to, b", which is hex ");
-    say(to, &hexadecimal::hex(byte));
-    say(to, b": ");
+    say(to, ", which is hex ");
+    say_bytes(to, &hexadecimal::hex(byte));
+    say(to, ": ");
     let kind = f.kind;
     say_asked(to, kind, left(f, position));
 }
 
 // What is said where nothing else was found.
 fn say_wrong(to: &impl Print) {
-    say(to, b"this record has a half byte that a field may not read");
+    say(to, "this record has a half byte that a field may not read");
 }
 
 // Says the first field that may not read the byte at a position.
@@ -194,9 +194,9 @@ fn say_record(
 
 // Says which byte of the record of a place, from 1, a field may not read. A deck that runs has a plan.
 pub(crate) fn explain(to: &impl Print, deck: &[u8], reel: &[u8], place: usize) {
-    say(to, b", at record ");
-    number(to, place);
-    say(to, b" of the input: ");
+    say(to, ", at record ");
+    say(to, place);
+    say(to, " of the input: ");
     let mut row = [0u16; 320];
     let plan = plans::plan_deck(deck, &mut row);
     if plan.answer.refusal != 0 {

@@ -2,7 +2,7 @@
 use pieces::{Cursor, PieceRead};
 use std::io::Print;
 use terms::{Asked, Task};
-use words::{number, say};
+use words::say;
 
 // What an output block comes to behind a record of the input: the record's number, how many of its input block are taken, the bytes of their output with the block's
 // word, and the bytes of this record's alone, with its own word.
@@ -99,49 +99,49 @@ fn behind_record(task: Task, reel: &[u8], place: usize) -> Filled {
 
 fn say_before(to: &impl Print, taken: usize) {
     if taken == 2 {
-        say(to, b"with the record before it in its block");
+        say(to, "with the record before it in its block");
     } else if taken > 2 {
-        say(to, b"with the ");
-        number(to, taken - 1);
-        say(to, b" records before it in its block");
+        say(to, "with the ");
+        say(to, taken - 1);
+        say(to, " records before it in its block");
     }
 }
 
 fn say_sizes(to: &impl Print, bytes: usize, limit: usize) {
-    say(to, b" has ");
-    number(to, bytes);
-    say(to, b" bytes with its words, and a block of B at most ");
-    number(to, limit);
+    say(to, " has ");
+    say(to, bytes);
+    say(to, " bytes with its words, and a block of B at most ");
+    say(to, limit);
 }
 
 // Says by what length the output of the record of a place, from 1, does not fit a block of B.
 pub(crate) fn explain(to: &impl Print, asked: Asked, reel: &[u8], place: usize) {
-    say(to, b", at record ");
-    number(to, place);
-    say(to, b" of the input: ");
+    say(to, ", at record ");
+    say(to, place);
+    say(to, " of the input: ");
     let task = tasks::task_of(asked);
     let filled = behind_record(task, reel, place);
     let alone = sum(task.cost, filled.last);
     if alone > task.limit {
-        say(to, b"the output of this record");
+        say(to, "the output of this record");
         say_sizes(to, alone, task.limit);
         return;
     }
     if filled.bytes > task.limit {
         say_before(to, filled.taken);
-        say(to, b" the output");
+        say(to, " the output");
         say_sizes(to, filled.bytes, task.limit);
         return;
     }
-    say(to, b"the output of this record does not fit a block of B");
+    say(to, "the output of this record does not fit a block of B");
 }
 
 // Says how long the output reel would be.
 pub(crate) fn too_long(to: &impl Print, length: usize) {
-    say(to, b": the output reel would have ");
-    number(to, length);
+    say(to, ": the output reel would have ");
+    say(to, length);
     say(
         to,
-        b" bytes, more than the 65,536 that a reel may have; larger blocks in B, or fewer records, make it shorter",
+        " bytes, more than the 65,536 that a reel may have; larger blocks in B, or fewer records, make it shorter",
     );
 }

@@ -3,7 +3,7 @@
 ghost use Rattle.std.specs.Prelude.{◌+◌, ◌<◌, ◌^◌};
 
 use crate::room;
-use notices::{number, say};
+use notices::say;
 use std::io::Print;
 
 const BLANK: u8 = b' ';
@@ -88,8 +88,8 @@ fn say_bytes(to: &impl Print, position: usize, name: &[u8], bytes: &[u8]) {
     put_position(&mut row, position);
     room::put(&mut row, 8, name);
     put_bytes(&mut row, bytes);
-    say(to, trimmed(&row));
-    say(to, b"\n");
+    notices::say_bytes(to, trimmed(&row));
+    say(to, "\n");
 }
 
 fn say_carets(to: &impl Print, difference: Difference) {
@@ -99,8 +99,8 @@ fn say_carets(to: &impl Print, difference: Difference) {
         column(difference.byte),
         &[difference.high, difference.low],
     );
-    say(to, trimmed(&row));
-    say(to, b"\n");
+    notices::say_bytes(to, trimmed(&row));
+    say(to, "\n");
 }
 
 // Says the row at a place of a record, or of two with the carets where they differ in this row.
@@ -128,9 +128,9 @@ fn repeats(record: &[u8], at: usize) -> bool {
 
 // Says that the rows above, up to a byte, were left out.
 fn say_left_out(to: &impl Print, byte: usize) {
-    say(to, b"        the same up to byte ");
-    number(to, byte);
-    say(to, b"\n");
+    say(to, "        the same up to byte ");
+    say(to, byte);
+    say(to, "\n");
 }
 
 // Says the row at a place or leaves it out; answers whether the last row was left out.

@@ -51,7 +51,7 @@ fn write_reel(rt: &HostRuntime, path: &[u8], asked: Asked, first: &[u8], second:
         files::say_name(&rt.stderr(), path);
         notices::say(
             &rt.stderr(),
-            b": not written: with the records before R the reel would have more than 65,536 bytes\n",
+            ": not written: with the records before R the reel would have more than 65,536 bytes\n",
         );
         return true;
     }
@@ -71,10 +71,10 @@ fn explain(
 )
     requires { PlanFair asked fields.now }
 {
-    notices::say(to, b"two records that this deck makes one:\n");
+    notices::say(to, "two records that this deck makes one:\n");
     hex::pair(to, first, second, hex::lost_digits(lost, reason == 4));
     reason::explain(to, deck, asked, fields, reason, lost);
-    notices::say(to, b"both become:\n");
+    notices::say(to, "both become:\n");
     outcome::show(to, asked, fields, first);
 }
 
@@ -173,6 +173,6 @@ fn main(rt: HostRuntime) {
     }
     notices::say(
         &rt.stderr(),
-        b"usage: show_twins DECK [records FILE] [reel FILE]\n",
+        "usage: show_twins DECK [records FILE] [reel FILE]\n",
     );
 }

@@ -1,7 +1,7 @@
 // Why the twins become alike, in words: the reason is that of the last field that reads the lost half.
 use crate::fields;
 use crate::fields::Side;
-use notices::{half_of_byte, number, say};
+use notices::{half_of_byte, say};
 use std::io::Print;
 use terms::Asked;
 
@@ -11,27 +11,27 @@ fn last_reader(fields: &[u16], half: usize) -> usize {
 }
 
 fn not_read(to: &impl Print, key: usize, lost: usize) {
-    say(to, b"no field reads ");
+    say(to, "no field reads ");
     half_of_byte(to, lost, key);
 }
 
 fn say_digits(to: &impl Print, count: usize) {
-    number(to, count);
+    say(to, count);
     if count == 1 {
-        say(to, b" digit");
+        say(to, " digit");
     } else {
-        say(to, b" digits");
+        say(to, " digits");
     }
 }
 
 fn dropped(to: &impl Print, deck: &[u8], key: usize, fields: &[u16], lost: usize) {
     let reader = last_reader(fields, lost);
     fields::say_field(to, deck, key, fields, reader);
-    say(to, b", has room for ");
+    say(to, ", has room for ");
     say_digits(to, fields::digits(fields::numbered(fields, reader)));
-    say(to, b": the digit in ");
+    say(to, ": the digit in ");
     half_of_byte(to, lost, key);
-    say(to, b" is dropped");
+    say(to, " is dropped");
 }
 
 // The field that covers the half writes its byte last, so that it comes behind the one that reads it.
@@ -39,11 +39,11 @@ fn covered(to: &impl Print, deck: &[u8], key: usize, fields: &[u16], lost: usize
     let reader = last_reader(fields, lost);
     let byte = fields::output_byte(fields::numbered(fields, reader), lost);
     fields::say_field(to, deck, key, fields, reader);
-    say(to, b", is the last that reads ");
+    say(to, ", is the last that reads ");
     half_of_byte(to, lost, key);
-    say(to, b"; it writes it to byte ");
-    number(to, byte);
-    say(to, b" of the output, and ");
+    say(to, "; it writes it to byte ");
+    say(to, byte);
+    say(to, " of the output, and ");
     fields::say_field(
         to,
         deck,
@@ -51,14 +51,14 @@ fn covered(to: &impl Print, deck: &[u8], key: usize, fields: &[u16], lost: usize
         fields,
         fields::last_over(fields, Side::Output, byte),
     );
-    say(to, b", covers that");
+    say(to, ", covers that");
 }
 
 fn tail(to: &impl Print, asked: Asked) {
     let input = asked.input;
-    say(to, b"the tail, all data past the first ");
-    number(to, terms::record_length(input));
-    say(to, b" bytes, is dropped: CV is not given");
+    say(to, "the tail, all data past the first ");
+    say(to, terms::record_length(input));
+    say(to, " bytes, is dropped: CV is not given");
 }
 
 // Says one of the reasons 1 to 4.
@@ -77,5 +77,5 @@ pub(crate) fn explain(
         3 => covered(to, deck, key, fields, lost),
         _ => tail(to, asked),
     }
-    say(to, b"\n");
+    say(to, "\n");
 }

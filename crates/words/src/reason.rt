@@ -1,7 +1,7 @@
 // Why a call of the system failed, in the system's own words.
 ghost use Rattle.io.specs.Counts.{IsPrefixLen};
 
-use crate::say;
+use crate::{say, say_bytes};
 use std::io::{Cursor, Error, Print, Write};
 
 // What std writes behind the system's words: the error's number follows, and a parenthesis. People are told the words alone.
@@ -11,26 +11,27 @@ const NUMBERED: [u8; 11] = *b" (os error ";
 fn words_length(room: &[u8]) -> usize
     ensures { IsPrefixLen result room.now }
 {
-    for n in 0..room.len() {
-        if room[n] == 0 || room[n..].starts_with(&NUMBERED) {
+    for (n, byte) in room.iter().enumerate() {
+        if *byte == 0 || room[n..].starts_with(&NUMBERED) {
             return n;
         }
     }
     room.len()
 }
 
-fn say_reason(to: &impl Print, why: Error) {
+// Says why, behind what failed: a colon, the reason and the line's end.
+pub fn because(to: &impl Print, why: Error) {
     let mut written = Cursor::new([0u8; 128]);
     let _ = write!(written, "{why}");
     let room = written.into_inner();
     let n = words_length(&room);
-    say(to, &room[..n]);
+    say(to, ": ");
+    say_bytes(to, &room[..n]);
+    say(to, "\n");
 }
 
 // Says a line: what failed, as the caller names it, a colon and why.
-pub fn fail(to: &impl Print, what: &[u8], why: Error) {
+pub fn fail(to: &impl Print, what: &str, why: Error) {
     say(to, what);
-    say(to, b": ");
-    say_reason(to, why);
-    say(to, b"\n");
+    because(to, why);
 }
