@@ -5,9 +5,9 @@ use mathlib.Core.List.{List, [], ◌∷◌, ◌++◌, append_assoc}
 use Prim.Native.Nat.{ℕ, zero, suc, ◌+◌, ◌-◌, ◌*◌, ◌/◌, ◌≤◌, ◌<◌}
 use native.Mathlib.Omega.{arith}
 use native.Mathlib.Numerals.{add-one}
-use native.Mathlib.Decide.{dec_lt, ℕ_discrete}
-use lib.ListN.{length, take, drop, get_or, set, replicate, length-append, length-set, get_or-replicate, length-replicate, replicate-append-replicate, get_or-append}
-use lib.Seq.{drop_at, drop-cons, drop-length, get_or_at, get_or-set_same, get_or-set_other, take_at, take-length, take-suc, ext_get_or}
+use native.Mathlib.Decide.{dec_lt}
+use lib.ListN.{length, take, drop, get_or, replicate, length-append, length-replicate, replicate-append-replicate, get_or-append}
+use lib.Seq.{drop_at, drop-cons, drop-length, get_or_at, take_at, take-length, take-suc}
 use Rattle.rules.specs.Halves.{copy, output_size, Field as RuleField, over}
 use Rattle.rules.specs.Rows.{FieldWithin}
 use Rattle.rules.proofs.Halves.SizeLaws.{length_over}
@@ -125,23 +125,6 @@ length_row fs h = omega (arith, length-append (flat_of fs) (replicate (320 - 5 *
 pub row_none : row_of [] ≡ replicate 320 0
 unfolding row_of
 row_none = refl
-
--- ---- zeros, one by one
-
-pub zeros_more : (row : List ℕ) (i : ℕ) → i < 320 → length row ≡ 320 → ((k : ℕ) → k < i → get_or row k 0 ≡ 0)
-    → (i + 1 ≤ 320) × (length (set row i 0) ≡ 320) × ((k : ℕ) → k < i + 1 → get_or (set row i 0) k 0 ≡ 0)
-zeros_more row i l e h = (
-  omega arith,
-  length-set row i 0 ∙ e,
-  λ k m. elim (ℕ_discrete k i) [
-    | yes q ↦ rw q (get_or-set_same row i 0 0 (omega arith))
-    | no q ↦ get_or-set_other row i k 0 0 q ∙ h k (omega arith)
-  ],
-)
-
-pub zeros_all : (row : List ℕ) (i : ℕ) → 320 ≤ i → length row ≡ 320 → ((k : ℕ) → k < i → get_or row k 0 ≡ 0) → row ≡ row_of []
-unfolding row_of
-zeros_all row i l e h = ext_get_or 0 row (replicate 320 0) (e ∙ sym (length-replicate {A = ℕ} 320 0)) (λ k m. h k (omega arith) ∙ sym (get_or-replicate {A = ℕ} 320 k 0 0 (omega arith)))
 
 -- ---- what the functions promise leaves one outcome
 

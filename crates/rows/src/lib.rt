@@ -10,26 +10,25 @@ ghost use Rattle.rows.specs.Kept.{row_of};
 use terms::{Field, Kind};
 
 // How many bytes a field writes: a copy has one size.
+#[tactic(auto, unfolding(terms::specs::Meaning::field_of))]
 fn output_size(f: Field) -> usize
     ensures { result ≡ output_size (field_of f).kind }
 {
-    let kind = f.kind;
-    match kind {
+    match f.kind {
         Kind::Copy => f.input,
-        Kind::Pack => f.output,
-        Kind::Unpack => f.output,
+        Kind::Pack | Kind::Unpack => f.output,
     }
 }
 
 // Writes a field's five numbers from a place on.
+#[tactic(auto, using(terms::proofs::FieldLaws::input_of_lem), unfolding(terms::specs::Meaning::field_of))]
 pub fn put_numbers(row: &mut [u16; 320], at: usize, f: Field)
     requires row_len { length row.old ≡ 320 }
     requires at_bound { at + 5 ≤ 320 }
     requires short { Short (field_of f) }
     ensures { row.new ≡ over at (flat_of (field_of f ∷ [])) row.old }
 {
-    let kind = f.kind;
-    row[at] = terms::kind_number(kind) as u16;
+    row[at] = u16::from(terms::kind_number(f.kind));
     row[at + 1] = f.r as u16;
     row[at + 2] = f.input as u16;
     row[at + 3] = output_size(f) as u16;
@@ -40,10 +39,11 @@ pub fn put_numbers(row: &mut [u16; 320], at: usize, f: Field)
 pub fn wide(number: u16) -> usize
     ensures { (result ≡ number) × (result < 65536) }
 {
-    number as usize
+    usize::from(number)
 }
 
 // The kind that a number names.
+#[tactic(auto, unfolding(crate::specs::Flat::kind_at))]
 fn kind_at(number: u16) -> Kind
     ensures { result ≡ kind_at number }
 {
@@ -55,6 +55,7 @@ fn kind_at(number: u16) -> Kind
 }
 
 // Field i of the row, i from 0.
+#[tactic(auto, unfolding(crate::specs::Flat::field_at))]
 pub fn field_at(fields: &[u16], i: usize) -> Field
     requires { 5 * i + 5 ≤ length fields.now }
     ensures { result ≡ field_at fields.now i }
@@ -62,10 +63,10 @@ pub fn field_at(fields: &[u16], i: usize) -> Field
     let at = 5 * i;
     Field {
         kind: kind_at(fields[at]),
-        r: wide(fields[at + 1]),
-        input: wide(fields[at + 2]),
-        output: wide(fields[at + 3]),
-        t: wide(fields[at + 4]),
+        r: usize::from(fields[at + 1]),
+        input: usize::from(fields[at + 2]),
+        output: usize::from(fields[at + 3]),
+        t: usize::from(fields[at + 4]),
     }
 }
 
@@ -74,9 +75,5 @@ pub fn clear(row: &mut [u16; 320])
     requires { length row.old ≡ 320 }
     ensures { row.new ≡ row_of [] }
 {
-    let mut i = 0;
-    while i < 320 {
-        row[i] = 0;
-        i += 1;
-    }
+    row.fill(0);
 }
