@@ -1,11 +1,16 @@
 -- What looking at a record's halves answers, for all fields that the lent numbers may be: there is one list of them.
-use Rattle.std.specs.Prelude.{◌≡◌, Bool, true, false, not, List, ℕ, ◌≤◌, length, take}
+use Rattle.std.specs.Prelude.{◌≡◌, ◌⊎◌, Bool, true, false, not, List, ℕ, ◌+◌, ◌-◌, ◌≤◌, ◌<◌, length, get_or, take}
 use Rattle.rules.specs.Base.{every}
 use Rattle.rules.specs.Halves.{halves, Kind, copy, pack, unpack, Field}
 use Rattle.rules.specs.Permitted.{permitted}
 use Rattle.rules.specs.Output.{may_be}
 use Rattle.rules.specs.Lent.{zone_f}
 use Rattle.rows.specs.Flat.{flat_of, FlatFair}
+
+-- each byte but the last passes a test, and the last one another; else some byte does not
+unfoldable pub Passes : (ℕ → Bool → Type 0) → (ℕ → Bool → Type 0) → List ℕ → Bool → Type 0
+Passes each end s true = ((i : ℕ) → i + 1 < length s → each (get_or s i 0) true) × end (get_or s (length s - 1) 0) true
+Passes each end s false = ((i : ℕ) × (i + 1 < length s) × each (get_or s i 0) false) ⊎ end (get_or s (length s - 1) 0) false
 
 -- whether the halves of the first a bytes are permitted
 unfoldable pub Permits : List ℕ → List ℕ → Bool → Type 0

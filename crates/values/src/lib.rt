@@ -1,16 +1,16 @@
 // Permitted values: whether a record's halves have them (refusal 13), and whether the fields of a plan ask for any. Document 01, "Half bytes".
 #![tactic(auto)]
 
-ghost use Rattle.std.specs.Prelude.{◌≡◌, ◌&&◌, ℕ, ◌+◌, ◌-◌, ◌*◌, ◌/◌, ◌%◌, ◌≤◌, eqb, length};
-ghost use Rattle.rules.specs.Halves.{pack, unpack, halves};
+ghost use Rattle.std.specs.Prelude.{◌≡◌, ◌&&◌, ℕ, ◌/◌, ◌%◌, ◌≤◌, eqb, length};
+ghost use Rattle.rules.specs.Halves.{halves};
 ghost use Rattle.rules.specs.Permitted.{digit, sign, kind_allows};
 ghost use Rattle.rules.specs.Output.{may_be};
 ghost use Rattle.rules.specs.Lent.{zone_f};
 ghost use Rattle.terms.specs.Meaning.{kind_of};
-ghost use Rattle.rows.specs.Flat.{kind_at, Readable};
-ghost use Rattle.values.specs.Promise.{Permits, FieldsAsk};
+ghost use Rattle.rows.specs.Flat.{Readable};
+ghost use Rattle.values.specs.Promise.{Passes, Permits, FieldsAsk};
 
-use terms::ZONE;
+use terms::{Kind, ZONE};
 
 // The digit 0 with F before it.
 const ZERO: u8 = 16 * ZONE;
@@ -29,14 +29,14 @@ fn is_digit(half: u8) -> bool
 fn is_sign(half: u8) -> bool
     ensures { result ≡ sign half }
 {
-    10 <= half && half <= 15
+    (10..=15).contains(&half)
 }
 
 // A digit with F before it.
 fn is_zoned(byte: u8) -> bool
     ensures { result ≡ (eqb (byte / 16) zone_f && digit (byte % 16)) }
 {
-    ZERO <= byte && byte <= NINE
+    (ZERO..=NINE).contains(&byte)
 }
 
 // Two digits.
@@ -46,52 +46,47 @@ fn are_digits(byte: u8) -> bool
     is_digit(byte / 16) && is_digit(byte % 16)
 }
 
-// Whether the bytes may be packed, to whatever size: F before a digit, in the last byte a sign before it.
-fn pack_permitted(input: &[u8]) -> bool
-    requires { 1 ≤ length input.now }
-    ensures { (m : ℕ) → result ≡ may_be (kind_allows zone_f (pack (length input.now) m)) 0 (halves input.now) }
+// A sign before a digit: the last byte of what is packed.
+fn is_zoned_end(byte: u8) -> bool
+    ensures { result ≡ (sign (byte / 16) && digit (byte % 16)) }
 {
-    let last = input.len() - 1;
-    let mut i = 0;
-    while i < last {
-        if !is_zoned(input[i]) {
-            return false;
-        }
-        i += 1;
-    }
-    let byte = input[last];
     is_sign(byte / 16) && is_digit(byte % 16)
 }
 
-// Whether the bytes may be unpacked, to whatever size: two digits, in the last byte a digit before a sign.
-fn unpack_permitted(input: &[u8]) -> bool
-    requires { 1 ≤ length input.now }
-    ensures { (m : ℕ) → result ≡ may_be (kind_allows zone_f (unpack (length input.now) m)) 0 (halves input.now) }
+// A digit before a sign: the last byte of what is unpacked.
+fn is_packed_end(byte: u8) -> bool
+    ensures { result ≡ (digit (byte / 16) && sign (byte % 16)) }
 {
-    let last = input.len() - 1;
-    let mut i = 0;
-    while i < last {
-        if !are_digits(input[i]) {
-            return false;
-        }
-        i += 1;
-    }
-    let byte = input[last];
     is_digit(byte / 16) && is_sign(byte % 16)
 }
 
-// Whether a field of a kind may have this input, whatever its output size. A copy takes any halves, so they are not looked at.
-fn input_permitted(kind: u16, input: &[u8]) -> bool
-    requires { 1 ≤ length input.now }
-    ensures { (m : ℕ) → result ≡ may_be (kind_allows zone_f (kind_of (kind_at kind) (length input.now) m)) 0 (halves input.now) }
+// Whether every byte but the last passes one test, and the last one another.
+#[tactic(auto, unfolding(crate::specs::Promise::Passes))]
+fn pass<F: Fn(u8) -> bool, G: Fn(u8) -> bool>(input: &[u8], each: F, end: G) -> bool
+    requires some { 1 ≤ length input.now }
+    requires each_callable { F.IsAlwaysCallable each }
+    requires end_callable { G.IsAlwaysCallable end }
+    ensures { Passes (F.post each) (G.post end) input.now result }
 {
-    if kind == 0 {
-        return true;
+    let last = input.len() - 1;
+    for byte in &input[..last] {
+        if !each(*byte) {
+            return false;
+        }
     }
-    if kind == 1 {
-        return pack_permitted(input);
+    end(input[last])
+}
+
+// Whether a field of a kind may have this input, whatever its output size. A copy takes any halves, so they are not looked at.
+fn input_permitted(kind: Kind, input: &[u8]) -> bool
+    requires { 1 ≤ length input.now }
+    ensures { (m : ℕ) → result ≡ may_be (kind_allows zone_f (kind_of kind (length input.now) m)) 0 (halves input.now) }
+{
+    match kind {
+        Kind::Copy => true,
+        Kind::Pack => pass(input, is_zoned, is_zoned_end),
+        Kind::Unpack => pass(input, are_digits, is_packed_end),
     }
-    unpack_permitted(input)
 }
 
 // Whether the halves of a record are permitted, field by field: halves that no field reads may be any.
@@ -99,16 +94,13 @@ pub fn permitted(fields: &[u16], record: &[u8]) -> bool
     requires { Readable fields.now (length «record».now) }
     ensures { Permits fields.now «record».now result }
 {
-    let count = fields.len() / 5;
-    let mut i = 0;
-    while i < count {
+    for i in 0..fields.len() / 5 {
         let f = rows::field_at(fields, i);
         let from = f.r - 1;
         let end = from + f.input;
-        if !input_permitted(fields[5 * i], &record[from..end]) {
+        if !input_permitted(f.kind, &record[from..end]) {
             return false;
         }
-        i += 1;
     }
     true
 }
@@ -117,13 +109,11 @@ pub fn permitted(fields: &[u16], record: &[u8]) -> bool
 pub fn asks(fields: &[u16]) -> bool
     ensures { FieldsAsk fields.now result }
 {
-    let count = fields.len() / 5;
-    let mut i = 0;
-    while i < count {
-        if fields[5 * i] != 0 {
+    for i in 0..fields.len() / 5 {
+        let kind = rows::field_at(fields, i).kind;
+        if !matches!(kind, Kind::Copy) {
             return true;
         }
-        i += 1;
     }
     false
 }

@@ -1,5 +1,4 @@
 -- `values::asks` meets its contract: before each turn the fields before place i are copies.
-use Prim.Native.Nat.{◌-◌}
 use Rattle.rules.specs.Halves.{Field}
 use Rattle.values.specs.Promise.{takes_any}
 use Rattle.values.proofs.WalkLaws.{Left}
@@ -7,6 +6,3 @@ use Rattle.values.proofs.asks.Given as goal
 
 abbrev pub invariant-loop-i : goal.invariant-loop-i
 invariant-loop-i l = Left (λ (f : Field). takes_any f.kind) l.fields l.i
-
-abbrev pub decreases-loop-i : goal.decreases-loop-i
-decreases-loop-i l = l.count - l.i

@@ -1,21 +1,21 @@
--- `values::input_permitted` meets its contract: the number says the kind, and a copy may have any input.
+-- A copy may have any input, and of what is packed or unpacked each byte is asked as its kind asks it.
 use mathlib.Core.Path.{sym}
+use borrow.Author.Rules.{rules}
 use native.Mathlib.Omega.{arith}
 use lib.ListN.{length}
+use Rattle.rules.specs.Lent.{zone_f}
 use Rattle.rules.proofs.Halves.HalfBytes.{all_bytes}
-use Rattle.rows.proofs.ReadLaws.{kind_pack, kind_unpack}
-use Rattle.values.proofs.CheckLaws.{copy_any}
+use Rattle.rules.proofs.Halves.FieldTests.{copy_permitted}
+use Rattle.values.proofs.CheckLaws.{packed_may, unpacked_may}
 use Rattle.values.proofs.input_permitted.Goals as goal
 
-pub returns-then-kind-eq0 : goal.returns-then-kind-eq0
-returns-then-kind-eq0 c =
-    let x = c.args.input.now in
-    λ m. sym (copy_any c.args.kind (length x) m x c.if-kind-eq0.true (all_bytes x (λ i. omega (arith, c.shared_slice_known-1.given i))))
+pub returns-in-Copy : goal.returns-in-Copy
+returns-in-Copy c = λ m. rw c.in-Copy.is (sym (copy_permitted zone_f (length c.args.input.now) c.args.input.now (all_bytes c.args.input.now (λ i. omega (arith, c.type_inv.input i)))))
 
-pub returns-then-kind-eq1 : goal.returns-then-kind-eq1
-returns-then-kind-eq1 c =
-    λ m. rw (kind_pack c.args.kind c.if-kind-eq1.true) (c.pack_permitted.ensures m)
+pub returns-in-Pack : goal.returns-in-Pack
+returns-in-Pack c =
+    λ m. rw c.in-Pack.is (packed_may _ (omega arith) (λ i. omega (arith, c.type_inv.input i)) m _ c.pass.ensures (λ b t small h. search (rules, h)) (λ b t small h. search (rules, h)))
 
-pub returns : goal.returns
-returns c =
-    λ m. rw (kind_unpack c.args.kind c.if-kind-eq0.false c.if-kind-eq1.false) (c.unpack_permitted.ensures m)
+pub returns-in-Unpack : goal.returns-in-Unpack
+returns-in-Unpack c =
+    λ m. rw c.in-Unpack.is (unpacked_may _ (omega arith) (λ i. omega (arith, c.type_inv.input i)) m _ c.pass-in-Unpack.ensures (λ b t small h. search (rules, h)) (λ b t small h. search (rules, h)))
