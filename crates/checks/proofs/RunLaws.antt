@@ -24,8 +24,9 @@ use Rattle.rules.proofs.Runs.RunParts.{bad_block, taken_all_of}
 use Rattle.rules.proofs.Output.OutBlockWords.{holds_whole}
 use Rattle.rules.proofs.Runs.Never.{permits_other, holds_taken, all_fit}
 use Rattle.rules.proofs.Runs.CopyLaws.{copy_blocks, copy_reel}
-use Rattle.reels.specs.declared.ReelRead.{ReelRead}
-use Rattle.reels.specs.declared.ReelRead.TheVariants.{Read, NotReel, BadBlock}
+use Rattle.std.specs.Prelude.{Ok, Err}
+use Rattle.reels.specs.declared.Contents.{Contents}
+use Rattle.reels.specs.declared.ReelError.TheVariants.{NotReel, BadBlock}
 use Rattle.rows.specs.Flat.{FlatFair}
 use Rattle.values.specs.Promise.{FieldsAsk}
 use Rattle.rows.proofs.ReadLaws.{fair_of}
@@ -35,7 +36,7 @@ use Rattle.measures.specs.declared.Measured.{Measured}
 use Rattle.measures.specs.declared.Measured.TheVariants.{Fits}
 use Rattle.measures.specs.Promise.{Selecting, Selected, FirstUnpermitted, Measurable, Measures, fit_answer, answer_of, measured_of}
 use Rattle.measures.proofs.PromiseLaws.{measured_says, measured_fits}
-use Rattle.reels.specs.Records.{ReadAs}
+use Rattle.reels.specs.Records.{ReelRead, ReadAs}
 use Rattle.pieces.specs.declared.Form.{Form}
 use Rattle.reels.proofs.ReelTold.{Tells, tells}
 use Rattle.terms.specs.Meaning.{mode_of}
@@ -165,23 +166,23 @@ module _ {task : Task} {fields s : List ℕ} {form : Form} {read : ReelRead} (f 
   told : (p : Plan) → PlanGiven task fields p → Tells p s read
   told p x = tells form p (form_given x.is f) s read w
 
-  pub ends_no_reel : {room : ℕ} → read ≡ NotReel → (r : Ran) → r ≡ refused_run 11 0 0 → Checked task fields s room r
+  pub ends_no_reel : {room : ℕ} → read ≡ Err NotReel → (r : Ran) → r ≡ refused_run 11 0 0 → Checked task fields s room r
   ends_no_reel {room} t r e = record { is = λ p x. e ∙ ap (λ (z : Answer RunOutput). ran_struct (run_answer z)) (sym (not_reel room p s (subst (Tells p s) t (told p x)))) }
 
-  pub ends_bad : {room : ℕ} (i : ℕ) → read ≡ BadBlock i → (r : Ran) → r ≡ refused_run 12 i 0 → Checked task fields s room r
+  pub ends_bad : {room : ℕ} (i : ℕ) → read ≡ Err (BadBlock i) → (r : Ran) → r ≡ refused_run 12 i 0 → Checked task fields s room r
   ends_bad {room} i t r e = record {
     is = λ p x.
         let y = subst (Tells p s) t (told p x) in
         e ∙ ap (λ (z : Answer RunOutput). ran_struct (run_answer z)) (sym (bad_block room p s i y.0 y.1));
   }
 
-  pub read_by : (b k : ℕ) → read ≡ Read b k → SomePlanGiven task fields → ReadBy task fields s
-  read_by b k t x =
+  pub read_by : (all : Contents) → read ≡ Ok all → SomePlanGiven task fields → ReadBy task fields s
+  read_by all t x =
       let y = subst (Tells x.p s) t (told x.p x.given) in
       record { p = x.p; recs = y.1.0; given = x.given; good = record { accepted = x.given.accepted; reel = y.0; records = y.1.1 } }
 
-  pub ends_read : {room : ℕ} (b k : ℕ) → read ≡ Read b k → (r : Ran) → CheckedRun task fields s b k room r → Checked task fields s room r
-  ends_read {room} b k t r h = record {
+  pub ends_read : {room : ℕ} (all : Contents) → read ≡ Ok all → (r : Ran) → CheckedRun task fields s all.blocks all.records room r → Checked task fields s room r
+  ends_read {room} all t r h = record {
     is = λ p x.
         let y = subst (Tells p s) t (told p x) in
         h.is p y.1.0 x (record { accepted = x.accepted; reel = y.0; records = y.1.1 }) y.1.2 y.1.3;

@@ -7,7 +7,7 @@ ghost use Rattle.checks.specs.Promise.{SomePlanGiven, ReadBy, PermittedRun, Meas
 
 use measures::Measured;
 use outcomes::Ran;
-use reels::ReelRead;
+use reels::ReelError;
 use terms::{Mode, Task};
 
 // Refusal 13 of a plan that selects fields: where all of them are copies, no record need be looked at.
@@ -85,10 +85,9 @@ pub fn check(task: Task, fields: &[u16], reel: &[u8], room: usize) -> Ran
     requires { SomePlanGiven task fields.now }
     ensures { Checked task fields.now reel.now room result }
 {
-    let read = reels::read_reel(tasks::form_of(task), reel);
-    match read {
-        ReelRead::NotReel => outcomes::refused(11, 0, 0),
-        ReelRead::BadBlock { block } => outcomes::refused(12, block, 0),
-        ReelRead::Read { blocks, records } => checked(task, fields, reel, blocks, records, room),
+    match reels::read_reel(tasks::form_of(task), reel) {
+        Ok(found) => checked(task, fields, reel, found.blocks, found.records, room),
+        Err(ReelError::NotReel) => outcomes::refused(11, 0, 0),
+        Err(ReelError::BadBlock { block }) => outcomes::refused(12, block, 0),
     }
 }

@@ -47,7 +47,7 @@ pub fn cut(m: usize, tally: Tally, rest: usize) -> CutTaken
     ensures { result ≡ cut_of m tally rest }
 {
     let block = opened(m, tally);
-    let size = segments::smaller(rest, m - block.size - 4);
+    let size = rest.min(m - block.size - 4);
     let segment = size + 4;
     let filled = block.size + segment;
     let bytes = block.bytes + segment;

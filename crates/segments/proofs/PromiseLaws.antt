@@ -3,7 +3,7 @@ use mathlib.Core.Path.{◌≡◌, ap, sym, ◌∙◌}
 use mathlib.Core.Logic.{◌↔◌}
 use mathlib.Core.Bool.{Bool, true}
 use mathlib.Core.List.{List, ◌∷◌, ◌++◌, map}
-use Prim.Native.Nat.{ℕ, ◌≤◌, min}
+use Prim.Native.Nat.{ℕ, ◌≤◌}
 use native.Mathlib.Omega.{arith}
 use lib.ListN.{length, take, length-append}
 use lib.Seq.{take_at}
@@ -73,9 +73,6 @@ pub copy_only_one : (s : List ℕ) (v : Spot) (n : ℕ) (old : List ℕ) → Cop
     → Copied s v n old new x → Copied s v n old new' y → (new ≡ new') × (x ≡ y)
 copy_only_one s v n old t a b =
     (a.written t.g t.«data» t.streams t.enough ∙ sym (b.written t.g t.«data» t.streams t.enough), a.is ∙ sym b.is)
-
-pub smaller_only_one : (a b : ℕ) {x y : ℕ} → x ≡ min a b → y ≡ min a b → x ≡ y
-smaller_only_one a b p q = p ∙ sym q
 
 pub same_only_one : (s : List ℕ) (v : Spot) (t : List ℕ) (u : Spot) (n : ℕ) → Streamed s v n → Streamed t u n → {x y : Bool}
     → SameData s v t u n x → SameData s v t u n y → x ≡ y

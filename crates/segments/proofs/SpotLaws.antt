@@ -1,23 +1,37 @@
 -- What a spot is answered, for each outcome of the tests; and the spot behind so many bytes: within a segment it moves on by as many, and bytes behind
 -- others are all of them together. By the definitions, and byte by byte.
-use mathlib.Core.Path.{◌≡◌, ap, sym, ◌∙◌}
+use mathlib.Core.Path.{◌≡◌, refl, ap, sym, ◌∙◌}
 use mathlib.Core.List.{List}
 use Prim.Native.Nat.{ℕ, zero, suc, ◌+◌, ◌≤◌, ◌<◌}
 use native.Mathlib.Omega.{arith}
 use lib.ListN.{length}
 use borrow.Author.Tests.{lt-ltb, le-ltb}
 use Rattle.reels.specs.Header.{block_part}
-use Rattle.pieces.specs.Pieces.{worded_in}
-use Rattle.pieces.specs.declared.PieceRead.{PieceRead}
+use Rattle.pieces.specs.Pieces.{PieceRead, worded_in}
+use Rattle.std.specs.Prelude.{Some, None, Ok, Err}
+use Rattle.std.specs.Option.{option_flatten}
+use Rattle.std.specs.Result.{result_ok}
+use Rattle.pieces.specs.declared.FoundPiece.{FoundPiece}
 use Rattle.segments.specs.declared.Spot.{Spot}
 use Rattle.segments.specs.declared.SegmentRead.{SegmentRead}
-use Rattle.segments.specs.Spots.{segment_read, read_at, next_of, passed_by, on_data, spot_after}
+use Rattle.segments.specs.Spots.{no_segment, segment_read, read_at, next_of, passed_by, on_data, spot_after}
 
 -- ---- what stands there
 
 pub read_is : (s : List ℕ) (block at : ℕ) (b : List ℕ) (r : PieceRead) → b ≡ block_part s block → r ≡ worded_in 3 b at → read_at s block at ≡ segment_read block at r
 unfolding read_at
 read_is s block at b r e f = ap (segment_read block at) (ap (λ (z : List ℕ). worded_in 3 z at) (sym e) ∙ sym f)
+
+-- a segment stands there, or none does
+pub some_read : (block at : ℕ) (r : PieceRead) (x : FoundPiece) → Some x ≡ option_flatten (result_ok r) → segment_read block at (Ok (Some x)) ≡ segment_read block at r
+some_read block at (Ok (Some y)) x e = let z : x ≡ y = cc in ap (λ (w : FoundPiece). segment_read block at (Ok (Some w))) z
+some_read block at (Ok None) x e = cc
+some_read block at (Err y) x e = cc
+
+pub none_read : (block at : ℕ) (r : PieceRead) → None ≡ option_flatten (result_ok r) → no_segment block at ≡ segment_read block at r
+none_read block at (Ok (Some y)) e = cc
+none_read block at (Ok None) e = refl
+none_read block at (Err y) e = refl
 
 pub next_here : (s : List ℕ) (v : Spot) (b : List ℕ) → b ≡ block_part s v.block → v.to < length b → read_at s v.block v.to ≡ next_of s v
 unfolding next_of

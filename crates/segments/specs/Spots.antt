@@ -1,10 +1,8 @@
 -- What a spot is answered, for every list of bytes and every spot; and the spot behind so many bytes of data.
-use Rattle.std.specs.Prelude.{true, cond, List, ℕ, zero, suc, ◌+◌, ◌%◌, ltb, eqb, length}
+use Rattle.std.specs.Prelude.{true, cond, List, ℕ, zero, suc, ◌+◌, ◌%◌, ltb, eqb, length, Some, None, Ok, Err}
 use Rattle.std.proofs.Math.Seq.{slice}
 use Rattle.reels.specs.Header.{block_part}
-use Rattle.pieces.specs.Pieces.{worded_in}
-use Rattle.pieces.specs.declared.PieceRead.{PieceRead}
-use Rattle.pieces.specs.declared.PieceRead.TheVariants.{Piece as Found, End, Bad}
+use Rattle.pieces.specs.Pieces.{PieceRead, worded_in}
 use Rattle.segments.specs.declared.Spot.{Spot}
 use Rattle.segments.specs.declared.SegmentRead.{SegmentRead}
 
@@ -16,9 +14,9 @@ no_segment block at = record { spot = record { block = block; from = at; to = at
 
 -- codes 0 and 2 end a record
 abbrev pub segment_read : ℕ → ℕ → PieceRead → SegmentRead
-segment_read block at (Found place size third next) = record { spot = record { block = block; from = place; to = next.at }; ends = eqb (third % 2) 0 }
-segment_read block at End = no_segment block at
-segment_read block at Bad = no_segment block at
+segment_read block at (Ok (Some x)) = record { spot = record { block = block; from = x.place; to = x.next.at }; ends = eqb (x.third % 2) 0 }
+segment_read block at (Ok None) = no_segment block at
+segment_read block at (Err e) = no_segment block at
 
 -- the segment whose word stands at a place of a block
 unfoldable pub read_at : List ℕ → ℕ → ℕ → SegmentRead

@@ -8,7 +8,7 @@ ghost use Rattle.reels.specs.Header.{block_part};
 ghost use Rattle.segments.specs.Spots.{no_segment, read_at, next_of, on_data, passed_by};
 ghost use Rattle.segments.specs.Promise.{Takeable, SpotTaken, Coming, Comes, Copyable, Copied, Streamed, SameData};
 
-use pieces::{Cursor, PieceRead};
+use pieces::Cursor;
 
 // A place in the data of a reel: bytes `from` to `to` of block `block` (from 0) are left of the segment read last, and the next segment's word stands at `to`,
 // or, where `to` is the block's end, at place 4 of the next block.
@@ -37,23 +37,17 @@ struct SegmentRead {
 fn read_at(reel: &[u8], block: usize, at: usize) -> SegmentRead
     ensures { result ≡ read_at reel.now block at }
 {
-    let read = pieces::segment(reels::block(reel, block), Cursor { at });
-    match read {
-        PieceRead::Piece {
-            place,
-            length: _,
-            third,
-            next,
-        } => SegmentRead {
+    let found = pieces::segment(reels::block(reel, block), Cursor { at });
+    match found.ok().flatten() {
+        Some(segment) => SegmentRead {
             spot: Spot {
                 block,
-                from: place,
-                to: next.at,
+                from: segment.place,
+                to: segment.next.at,
             },
-            ends: third % 2 == 0,
+            ends: segment.third % 2 == 0,
         },
-        PieceRead::End => nothing(block, at),
-        PieceRead::Bad => nothing(block, at),
+        None => nothing(block, at),
     }
 }
 
@@ -126,11 +120,8 @@ pub fn taken(reel: &[u8], count: usize) -> Spot
         from: 4,
         to: 4,
     };
-    let mut number = 0;
-    while number < count {
-        let record = ahead(reel, at);
-        at = record.behind;
-        number += 1;
+    for _ in 0..count {
+        at = ahead(reel, at).behind;
     }
     at
 }
@@ -143,18 +134,7 @@ fn on_data(reel: &[u8], v: Spot) -> Spot
     if v.from < v.to {
         return v;
     }
-    let read = next(reel, v);
-    read.spot
-}
-
-// The smaller of two numbers.
-pub fn smaller(a: usize, b: usize) -> usize
-    ensures { result ≡ min a b }
-{
-    if a < b {
-        return a;
-    }
-    b
+    next(reel, v).spot
 }
 
 // So many of the bytes that are left of a segment, to the front of out.
@@ -177,7 +157,7 @@ pub fn copy(reel: &[u8], v: Spot, n: usize, out: &mut [u8]) -> Spot
     let mut done = 0;
     while done < n {
         let here = on_data(reel, at);
-        let size = smaller(n - done, here.to - here.from);
+        let size = (n - done).min(here.to - here.from);
         put(reel, here, size, &mut out[done..]);
         at = passed(here, size);
         done += size;
@@ -210,8 +190,8 @@ pub fn same(reel: &[u8], v: Spot, t: &[u8], u: Spot, n: usize) -> bool
     while done < n {
         let here = on_data(reel, at);
         let other = on_data(t, there);
-        let both = smaller(here.to - here.from, other.to - other.from);
-        let size = smaller(n - done, both);
+        let both = (here.to - here.from).min(other.to - other.from);
+        let size = (n - done).min(both);
         if !same_part(reel, here, t, other, size) {
             return false;
         }

@@ -4,7 +4,7 @@ use mathlib.Core.Path.{◌≡◌, refl, ap, ap₂, sym, ◌∙◌, subst}
 use mathlib.Core.Logic.{◌↔◌}
 use mathlib.Core.Bool.{Bool, true, false, cond, true≢false}
 use mathlib.Core.List.{List, [], ◌∷◌}
-use Prim.Native.Nat.{ℕ, suc, ◌+◌, ◌≤◌, ◌<◌, min}
+use Prim.Native.Nat.{ℕ, zero, suc, ◌+◌, ◌≤◌, ◌<◌, min}
 use native.Mathlib.Omega.{arith}
 use lib.ListN.{length, drop, get_or, length-drop}
 use lib.Seq.{ext_get_or}
@@ -15,7 +15,13 @@ use Rattle.segments.specs.declared.Spot.{Spot}
 use Rattle.segments.specs.declared.RecordAhead.{RecordAhead}
 use Rattle.segments.specs.Promise.{Before, Takeable, SpotTaken, Coming, Comes, Streamed, SameData}
 use Rattle.segments.proofs.PromiseLaws.{before_same, same_records}
-use Rattle.span_pairs.specs.Promise.{BothSpanned, SameTest, SpannedApartAt}
+use Rattle.std.specs.Prelude.{Option, Some, None}
+use Rattle.span_pairs.specs.Promise.{BothSpanned, SameTest, number_of, SpannedApartAt}
+
+-- a number that is one more than another is there
+some_number : (n m : ℕ) → n + 1 ≡ m → Some (n + 1) ≡ number_of m
+some_number n zero e = absurd (omega arith)
+some_number n (suc m) e = ap Some e
 
 -- ---- the search
 
@@ -159,21 +165,21 @@ module _ {ours : List ℕ} {passed count : ℕ} {theirs : List ℕ} {others : �
 module _ {ours : List ℕ} {passed count : ℕ} {theirs : List ℕ} {others : ℕ} {at there : Spot} {number : ℕ}
     (k : (y : BothSpanned ours passed count theirs others) → Left y at there number) where
   module _ (l : number < min count others) {a b : RecordAhead} (c : Comes ours at a) (d : Comes theirs there b) where
-    pub apart_size : (a.size ≡ b.size → ⊥) → SpannedApartAt ours passed count theirs others (number + 1)
-    apart_size o = record { is = λ q s y. let n = next y (k y) l in stops y (k y) n (other_size y (k y) n c d o) q s }
+    pub apart_size : (a.size ≡ b.size → ⊥) → SpannedApartAt ours passed count theirs others (Some (number + 1))
+    apart_size o = record { is = λ q s y. let n = next y (k y) l in some_number _ _ (stops y (k y) n (other_size y (k y) n c d o) q s) }
 
     module _ (e : a.size ≡ b.size) (x : Bool) (h : SameData ours at theirs there a.size x) where
-      pub apart_data : x ≡ false → SpannedApartAt ours passed count theirs others (number + 1)
-      apart_data f = record { is = λ q s y. let n = next y (k y) l in stops y (k y) n (λ w. true≢false (sym ((same_told y (k y) n c d e h).1 w) ∙ f)) q s }
+      pub apart_data : x ≡ false → SpannedApartAt ours passed count theirs others (Some (number + 1))
+      apart_data f = record { is = λ q s y. let n = next y (k y) l in some_number _ _ (stops y (k y) n (λ w. true≢false (sym ((same_told y (k y) n c d e h).1 w) ∙ f)) q s) }
 
       pub left_more : x ≡ true → (y : BothSpanned ours passed count theirs others) → Left y a.behind b.behind (number + 1)
       left_more t y = let n = next y (k y) l in goes y (k y) n ((same_told y (k y) n c d e h).0 t) c d
 
-  pub apart_none : min count others ≤ number → count ≡ others → SpannedApartAt ours passed count theirs others 0
-  apart_none l e = record { is = λ q s y. ends y (k y) l e q s }
+  pub apart_none : min count others ≤ number → count ≡ others → SpannedApartAt ours passed count theirs others None
+  apart_none l e = record { is = λ q s y. ap number_of (ends y (k y) l e q s) }
 
-  pub apart_lacks : min count others ≤ number → (count ≡ others → ⊥) → SpannedApartAt ours passed count theirs others (number + 1)
-  apart_lacks l o = record { is = λ q s y. lacks y (k y) l o q s }
+  pub apart_lacks : min count others ≤ number → (count ≡ others → ⊥) → SpannedApartAt ours passed count theirs others (Some (number + 1))
+  apart_lacks l o = record { is = λ q s y. some_number _ _ (lacks y (k y) l o q s) }
 
 -- ---- one outcome only
 
@@ -187,6 +193,6 @@ alike_same xs ys = (
   λ e. at_agree (λ i. true) 1 xs ys (ap length e) (λ j g q l w. ap (λ (x : List ℕ). get_or x j 0) e),
 )
 
-pub apart_only_one : (ours : List ℕ) (passed count : ℕ) (theirs : List ℕ) (others : ℕ) → BothSpanned ours passed count theirs others → {n m : ℕ}
+pub apart_only_one : (ours : List ℕ) (passed count : ℕ) (theirs : List ℕ) (others : ℕ) → BothSpanned ours passed count theirs others → {n m : Option ℕ}
     → SpannedApartAt ours passed count theirs others n → SpannedApartAt ours passed count theirs others m → n ≡ m
 apart_only_one ours passed count theirs others y a b = a.is alike alike_same y ∙ sym (b.is alike alike_same y)

@@ -4,31 +4,32 @@
 
 ghost use Rattle.span_pairs.specs.Promise.{BothSpanned, SpannedApartAt};
 
-// The number, from 1 in the output, of the first record that disagrees or lacks a partner, or 0: so many records of ours are passed over, so many are left, and theirs
-// has so many others.
-pub fn first_apart(ours: &[u8], passed: usize, count: usize, theirs: &[u8], others: usize) -> usize
+// The number, from 1 in the output, of the first record that disagrees or lacks a partner, if one does: so many records of ours are passed over, so many are left, and
+// theirs has so many others.
+pub fn first_apart(
+    ours: &[u8],
+    passed: usize,
+    count: usize,
+    theirs: &[u8],
+    others: usize,
+) -> Option<usize>
     requires { BothSpanned ours.now passed count theirs.now others }
     ensures { SpannedApartAt ours.now passed count theirs.now others result }
 {
     let mut at = segments::taken(ours, passed);
     let mut there = segments::taken(theirs, 0);
-    let pairs = segments::smaller(count, others);
-    let mut number = 0;
-    while number < pairs {
+    let pairs = count.min(others);
+    for number in 0..pairs {
         let mine = segments::ahead(ours, at);
         let other = segments::ahead(theirs, there);
-        if mine.size != other.size {
-            return number + 1;
-        }
-        if !segments::same(ours, at, theirs, there, mine.size) {
-            return number + 1;
+        if mine.size != other.size || !segments::same(ours, at, theirs, there, mine.size) {
+            return Some(number + 1);
         }
         at = mine.behind;
         there = other.behind;
-        number += 1;
     }
     if count == others {
-        return 0;
+        return None;
     }
-    number + 1
+    Some(pairs + 1)
 }

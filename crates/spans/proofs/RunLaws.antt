@@ -19,8 +19,10 @@ use Rattle.rules.specs.Spanned.{span_of, spanned_from, segmented}
 use Rattle.rules.proofs.Reel.Bounds.{reel_most}
 use Rattle.rules.proofs.Reel.ReelLaws.{length_reel, blocks_reel}
 use Rattle.rules.proofs.Judge.JudgeSteps.{drop_few}
-use Rattle.reels.specs.declared.ReelRead.{ReelRead}
-use Rattle.reels.specs.declared.ReelRead.TheVariants.{Read, NotReel, BadBlock}
+use Rattle.std.specs.Prelude.{Ok, Err}
+use Rattle.reels.specs.declared.Contents.{Contents}
+use Rattle.reels.specs.declared.ReelError.TheVariants.{NotReel, BadBlock}
+use Rattle.reels.specs.Records.{ReelRead}
 use Rattle.turns.specs.Promise.{SpannedAs}
 use Rattle.turns.proofs.SpannedTold.{Tells, tells}
 use Rattle.fillings.specs.declared.Tally.{Tally}
@@ -132,34 +134,34 @@ module _ (copies : Bool) (g m first : ℕ) (s old : List ℕ) where
       (k.answer ∙ ap (λ (a : Answer RunOutput). ran_struct (run_answer a)) (sym e), k.output ∙ ap (output_after old) (sym e))
 
   module _ {read : ReelRead} (w : SpannedAs g s read) where
-    pub ends_no_reel : read ≡ NotReel → {r : Ran} → r ≡ refused_run 11 0 0 → Answers r old
+    pub ends_no_reel : read ≡ Err NotReel → {r : Ran} → r ≡ refused_run 11 0 0 → Answers r old
     ends_no_reel t k = answers_refused 11 0 (run_no_reel (subst (Tells g s) t (tells g s read w))) k
 
-    pub ends_bad : (i : ℕ) → read ≡ BadBlock i → {r : Ran} → r ≡ refused_run 12 i 0 → Answers r old
+    pub ends_bad : (i : ℕ) → read ≡ Err (BadBlock i) → {r : Ran} → r ≡ refused_run 12 i 0 → Answers r old
     ends_bad i t k = let x = subst (Tells g s) t (tells g s read w) in answers_refused 12 i (run_bad i x.0 x.1) k
 
-    module _ (blocks records : ℕ) (t : read ≡ Read blocks records) where
-      told : Tells g s (Read blocks records)
+    module _ (found : Contents) (t : read ≡ Ok found) where
+      told : Tells g s (Ok found)
       told = subst (Tells g s) t (tells g s read w)
 
       pub input_most : length s ≤ 65536
       input_most = reel_most s told.0
 
-      module _ {passed : ℕ} (p : passed ≡ min (first - 1) records) where
-        pub ends_copied : copies ≡ true → All Byte s → {r : Ran} {new : List ℕ} → RanAs (ran_in s (records - passed) blocks) old r new → Answers r new
+      module _ {passed : ℕ} (p : passed ≡ min (first - 1) found.records) where
+        pub ends_copied : copies ≡ true → All Byte s → {r : Ran} {new : List ℕ} → RanAs (ran_in s (found.records - passed) found.blocks) old r new → Answers r new
         ends_copied c a k =
             let x = told in
             let recs = x.1.0 in
             let taken = drop (first - 1) (joined recs) in
-            let left : records - passed ≡ length taken = omega (arith, x.1.3, length-drop (first - 1) (joined recs)) in
-            answers_ran (ran_in s (records - passed) blocks)
+            let left : found.records - passed ≡ length taken = omega (arith, x.1.3, length-drop (first - 1) (joined recs)) in
+            answers_ran (ran_in s (found.records - passed) found.blocks)
             (run_good recs x.0 x.1.1
             ∙ ap (λ (b : Bool). housed (length old) (spanned_ran (spanned_out b m (blocks_of s) taken) taken)) c
             ∙ ap₂ (λ (z : List ℕ) (n : ℕ). housed (length old) (record { reel = z; records = n; blocks = length (blocks_of s) })) (blocks_reel s a x.0) (sym left)
-            ∙ ap (λ (n : ℕ). housed (length old) (ran_in s (records - passed) n)) (sym x.1.2))
+            ∙ ap (λ (n : ℕ). housed (length old) (ran_in s (found.records - passed) n)) (sym x.1.2))
             k
 
-        pub taking : g < 65536 → Taking s passed (records - passed)
+        pub taking : g < 65536 → Taking s passed (found.records - passed)
         taking high =
             let x = told in
             record {
@@ -170,13 +172,13 @@ module _ (copies : Bool) (g m first : ℕ) (s old : List ℕ) where
               counts = omega (arith, x.1.3);
             }
 
-        pub ends_filled : copies ≡ false → g < 65536 → (r : Ran) (new : List ℕ) → FilledRun m s passed (records - passed) old r new → Answers r new
+        pub ends_filled : copies ≡ false → g < 65536 → (r : Ran) (new : List ℕ) → FilledRun m s passed (found.records - passed) old r new → Answers r new
         unfolding FilledRun taking
         ends_filled c high r new k =
             let x = told in
             let recs = x.1.0 in
             let all = joined recs in
-            let same : drop passed all ≡ drop (first - 1) all = ap (λ (i : ℕ). drop i all) p ∙ drop_few (first - 1) records all x.1.3 in
+            let same : drop passed all ≡ drop (first - 1) all = ap (λ (i : ℕ). drop i all) p ∙ drop_few (first - 1) found.records all x.1.3 in
             answers_ran (spanned_ran (map span_of (segmented m (drop passed all))) (drop passed all))
             (run_good recs x.0 x.1.1
             ∙ ap (λ (b : Bool). housed (length old) (spanned_ran (spanned_out b m (blocks_of s) (drop (first - 1) all)) (drop (first - 1) all))) c

@@ -12,7 +12,7 @@ ghost use Rattle.spans.specs.Promise.{Streaming, SegmentFits, SegmentPut, Record
 use cuts::CutTaken;
 use fillings::Tally;
 use outcomes::Ran;
-use reels::ReelRead;
+use reels::ReelError;
 use segments::Spot;
 
 // What so many records from a spot on measure as blocks of m bytes: along the words of their segments, in a pass that holds a few numbers and builds nothing.
@@ -166,16 +166,17 @@ pub fn run_spanned(
     ensures answer { result ≡ ran_struct (run_answer (spanned_run copies g m first (length out.old) reel.now)) }
     ensures output { out.new ≡ output_after out.old (spanned_run copies g m first (length out.old) reel.now) }
 {
-    let read = turns::read_spanned(g, reel);
-    match read {
-        ReelRead::NotReel => outcomes::refused(11, 0, 0),
-        ReelRead::BadBlock { block } => outcomes::refused(12, block, 0),
-        ReelRead::Read { blocks, records } => {
-            let passed = segments::smaller(first - 1, records);
+    match turns::read_spanned(g, reel) {
+        Ok(found) => {
+            let passed = (first - 1).min(found.records);
+            let records = found.records - passed;
             if copies {
-                return copied(reel, records - passed, blocks, out);
+                copied(reel, records, found.blocks, out)
+            } else {
+                filled(m, reel, passed, records, out)
             }
-            filled(m, reel, passed, records - passed, out)
         }
+        Err(ReelError::NotReel) => outcomes::refused(11, 0, 0),
+        Err(ReelError::BadBlock { block }) => outcomes::refused(12, block, 0),
     }
 }

@@ -14,9 +14,10 @@ use Rattle.rules.proofs.Judge.JudgeRead.{ours_refused, ours_reach}
 use Rattle.rules.proofs.Judge.JudgeSteps.{blocks_plain, judged_ours, judged_no_reel, judged_bad, judged_told, plain_run, run_refused, run_reaches}
 use Rattle.terms.specs.declared.Task.{Task}
 use Rattle.pieces.specs.declared.Form.{Form}
-use Rattle.reels.specs.declared.ReelRead.{ReelRead}
-use Rattle.reels.specs.declared.ReelRead.TheVariants.{Read, NotReel, BadBlock}
-use Rattle.reels.specs.Records.{ReadAs}
+use Rattle.std.specs.Prelude.{Ok, Err}
+use Rattle.reels.specs.declared.Contents.{Contents}
+use Rattle.reels.specs.declared.ReelError.TheVariants.{NotReel, BadBlock}
+use Rattle.reels.specs.Records.{ReelRead, ReadAs}
 use Rattle.reels.proofs.ReelTold.{Tells, tells}
 use Rattle.walks.specs.Promise.{Good}
 use Rattle.walks.proofs.PromiseLaws.{good_read}
@@ -39,13 +40,13 @@ module _ {task : Task} {fields theirs : List ℕ} (ours : List ℕ) {under : For
   theirs_tell : (p : Plan) → PlanGiven task fields p → Tells (under_b p) theirs read
   theirs_tell p g = tells under (under_b p) (form_judged g.is u) theirs read w
 
-  pub ends_no_reel : read ≡ NotReel → (r : Judged) → r ≡ refused_with 17 0 0 → OfOurs task fields ours theirs r
+  pub ends_no_reel : read ≡ Err NotReel → (r : Judged) → r ≡ refused_with 17 0 0 → OfOurs task fields ours theirs r
   ends_no_reel t r e =
       record {
         is = λ p recs y. says r _ (refused_at 17 0 0) e (judged_no_reel p ours theirs _ y.outs (subst (Tells (under_b p) theirs) t (theirs_tell p y.given)));
       }
 
-  pub ends_bad : (i : ℕ) → read ≡ BadBlock i → (r : Judged) → r ≡ refused_with 18 i 0 → OfOurs task fields ours theirs r
+  pub ends_bad : (i : ℕ) → read ≡ Err (BadBlock i) → (r : Judged) → r ≡ refused_with 18 i 0 → OfOurs task fields ours theirs r
   ends_bad i t r e =
       record {
         is = λ p recs y.
@@ -53,7 +54,7 @@ module _ {task : Task} {fields theirs : List ℕ} (ours : List ℕ) {under : For
             says r _ (refused_at 18 i 0) e (judged_bad p ours theirs _ y.outs i x.0 (blocks_plain (under_b p) theirs y.given.plain ∙ x.1));
       }
 
-  module _ (blocks records : ℕ) (t : read ≡ Read blocks records) where
+  module _ (found : Contents) (t : read ≡ Ok found) where
     their_good : (p : Plan) → PlanGiven task fields p → (others : List (List (List ℕ))) × Good (under_b p) theirs others
     their_good p g = let x = good_read (under_b_accepted p g.accepted) (form_judged g.is u) (subst (ReadAs under theirs) t w) in (x.0, x.1)
 

@@ -3,7 +3,7 @@
 use mathlib.Core.Path.{◌≡◌, refl, ap, sym, ◌∙◌, subst}
 use mathlib.Core.List.{List}
 use mathlib.Core.Option.{none}
-use Prim.Native.Nat.{ℕ, ◌-◌, ◌<◌, min}
+use Prim.Native.Nat.{ℕ, zero, suc, ◌-◌, ◌<◌, min}
 use native.Mathlib.Omega.{arith}
 use lib.ListN.{length, drop}
 use Rattle.rules.specs.Base.{joined}
@@ -15,11 +15,13 @@ use Rattle.rules.specs.Judge.{under_b, our_records, agrees}
 use Rattle.rules.proofs.Judge.AgreeBytes.{agrees_same}
 use Rattle.rules.proofs.Spanned.SpannedOut.{not_selects}
 use Rattle.rules.proofs.Judge.JudgeSteps.{blocks_spanned, judged_ours, judged_no_reel, judged_bad, judged_told, drop_few, spanned_no_reel, spanned_bad, spanned_good}
-use Rattle.reels.specs.declared.ReelRead.{ReelRead}
-use Rattle.reels.specs.declared.ReelRead.TheVariants.{Read, NotReel, BadBlock}
+use Rattle.std.specs.Prelude.{Option, Ok, Err, unwrap_or}
+use Rattle.reels.specs.declared.Contents.{Contents}
+use Rattle.reels.specs.declared.ReelError.TheVariants.{NotReel, BadBlock}
+use Rattle.reels.specs.Records.{ReelRead}
 use Rattle.turns.specs.Promise.{SpannedAs}
 use Rattle.turns.proofs.SpannedTold.{Tells, tells}
-use Rattle.span_pairs.specs.Promise.{BothSpanned, SpannedApartAt}
+use Rattle.span_pairs.specs.Promise.{BothSpanned, number_of, SpannedApartAt}
 use Rattle.verdicts.specs.declared.Judged.{Judged}
 use Rattle.verdicts.specs.Promise.{refused_with, told_as, Spanning, OursSpanned, OfSpanned, OfNumbers}
 use Rattle.verdicts.proofs.BlockLaws.{says}
@@ -32,11 +34,16 @@ ours_are {ours = ours} {passed = passed} y p s =
 
 -- ---- theirs
 
+-- the number that is said of one, 0 for none
+number_back : (n : ℕ) → unwrap_or (number_of n) 0 ≡ n
+number_back zero = refl
+number_back (suc n) = refl
+
 module _ {m : ℕ} (ours : List ℕ) (passed count : ℕ) {theirs : List ℕ} {read : ReelRead} (w : SpannedAs m theirs read) where
-  pub ends_no_reel : read ≡ NotReel → (r : Judged) → r ≡ refused_with 17 0 0 → OfSpanned m ours passed count theirs r
+  pub ends_no_reel : read ≡ Err NotReel → (r : Judged) → r ≡ refused_with 17 0 0 → OfSpanned m ours passed count theirs r
   ends_no_reel t r e = record { is = λ y p s. says r _ (refused_at 17 0 0) e (judged_no_reel p ours theirs _ (ours_are y p s) (subst (Tells m theirs) t (tells m theirs read w))) }
 
-  pub ends_bad : (i : ℕ) → read ≡ BadBlock i → (r : Judged) → r ≡ refused_with 18 i 0 → OfSpanned m ours passed count theirs r
+  pub ends_bad : (i : ℕ) → read ≡ Err (BadBlock i) → (r : Judged) → r ≡ refused_with 18 i 0 → OfSpanned m ours passed count theirs r
   ends_bad i t r e =
       record {
         is = λ y p s.
@@ -44,11 +51,11 @@ module _ {m : ℕ} (ours : List ℕ) (passed count : ℕ) {theirs : List ℕ} {r
             says r _ (refused_at 18 i 0) e (judged_bad p ours theirs _ (ours_are y p s) i x.0 (blocks_spanned (under_b p) theirs s.spanned ∙ subst (λ (g : ℕ). spanned_from g 1 none (blocks_of theirs) ≡ refused 12 i) s.m_is x.1));
       }
 
-  module _ (high : m < 65536) (blocks records : ℕ) (t : read ≡ Read blocks records) where
-    abbrev told : Tells m theirs (Read blocks records)
+  module _ (high : m < 65536) (found : Contents) (t : read ≡ Ok found) where
+    abbrev told : Tells m theirs (Ok found)
     told = subst (Tells m theirs) t (tells m theirs read w)
 
-    abbrev pub both_spanned : OursSpanned ours passed count → BothSpanned ours passed count theirs records
+    abbrev pub both_spanned : OursSpanned ours passed count → BothSpanned ours passed count theirs found.records
     both_spanned y =
         record {
           g = y.g;
@@ -61,22 +68,22 @@ module _ {m : ℕ} (ours : List ℕ) (passed count : ℕ) {theirs : List ℕ} {r
           counted' = told.1.3;
         }
 
-    pub ends_read : (n : ℕ) → SpannedApartAt ours passed count theirs records n → (r : Judged) → r ≡ told_as n → OfSpanned m ours passed count theirs r
+    pub ends_read : (n : Option ℕ) → SpannedApartAt ours passed count theirs found.records n → (r : Judged) → r ≡ told_as (unwrap_or n 0) → OfSpanned m ours passed count theirs r
     ends_read n a r e =
         record {
           is = λ y p s.
-              says r _ (fine n) e
+              says r _ (fine (unwrap_or n 0)) e
               (judged_told p ours theirs _ (ours_are y p s) told.1.0 told.0 (blocks_spanned (under_b p) theirs s.spanned ∙ subst (λ (g : ℕ). spanned_from g 1 none (blocks_of theirs) ≡ fine told.1.0) s.m_is told.1.1)
-              ∙ ap fine (sym (a.is (agrees p) (agrees_same p (not_selects p s.accepted s.spanned)) (both_spanned y))));
+              ∙ ap fine (sym (ap (λ (x : Option ℕ). unwrap_or x 0) (a.is (agrees p) (agrees_same p (not_selects p s.accepted s.spanned)) (both_spanned y)) ∙ number_back _)));
         }
 
 -- ---- ours
 
 module _ {g : ℕ} (m first : ℕ) {ours : List ℕ} (theirs : List ℕ) {read : ReelRead} (w : SpannedAs g ours read) where
-  pub no_reel : read ≡ NotReel → (r : Judged) → r ≡ refused_with 11 0 0 → OfNumbers g m first ours theirs r
+  pub no_reel : read ≡ Err NotReel → (r : Judged) → r ≡ refused_with 11 0 0 → OfNumbers g m first ours theirs r
   no_reel t r e = record { is = λ p s. says r _ (refused_at 11 0 0) e (judged_ours p ours theirs _ (spanned_no_reel p ours s.spanned (subst (Tells g ours) t (tells g ours read w)))) }
 
-  pub bad : (i : ℕ) → read ≡ BadBlock i → (r : Judged) → r ≡ refused_with 12 i 0 → OfNumbers g m first ours theirs r
+  pub bad : (i : ℕ) → read ≡ Err (BadBlock i) → (r : Judged) → r ≡ refused_with 12 i 0 → OfNumbers g m first ours theirs r
   bad i t r e =
       record {
         is = λ p s.
@@ -84,11 +91,11 @@ module _ {g : ℕ} (m first : ℕ) {ours : List ℕ} (theirs : List ℕ) {read :
             says r _ (refused_at 12 i 0) e (judged_ours p ours theirs _ (spanned_bad p ours s.spanned i x.0 (subst (λ (g : ℕ). spanned_from g 1 none (blocks_of ours) ≡ refused 12 i) s.g_is x.1)));
       }
 
-  module _ (high : g < 65536) (blocks records : ℕ) (t : read ≡ Read blocks records) {passed : ℕ} (q : passed ≡ min (first - 1) records) where
-    abbrev told' : Tells g ours (Read blocks records)
+  module _ (high : g < 65536) (found : Contents) (t : read ≡ Ok found) {passed : ℕ} (q : passed ≡ min (first - 1) found.records) where
+    abbrev told' : Tells g ours (Ok found)
     told' = subst (Tells g ours) t (tells g ours read w)
 
-    abbrev pub ours_spanned : OursSpanned ours passed (records - passed)
+    abbrev pub ours_spanned : OursSpanned ours passed (found.records - passed)
     ours_spanned =
         let n = told'.1.3 in
         record {
@@ -100,5 +107,5 @@ module _ {g : ℕ} (m first : ℕ) {ours : List ℕ} (theirs : List ℕ) {read :
           counted = omega (arith, q, n);
         }
 
-    pub of_spanned : (r : Judged) → OfSpanned m ours passed (records - passed) theirs r → OfNumbers g m first ours theirs r
+    pub of_spanned : (r : Judged) → OfSpanned m ours passed (found.records - passed) theirs r → OfNumbers g m first ours theirs r
     of_spanned r a = record { is = λ p s. a.is ours_spanned p s }

@@ -13,7 +13,7 @@ ghost use Rattle.rows.specs.Fair.{PlanFair};
 ghost use Rattle.checks.specs.Promise.{SomePlanGiven};
 ghost use Rattle.verdicts.specs.Promise.{refused_with, told_as, judged_of, OursRead, OfOurs, OfPlan, OursSpanned, OfSpanned, OfNumbers, NotJudged};
 
-use reels::ReelRead;
+use reels::ReelError;
 use terms::{Asked, Mode, Task};
 
 // What is answered: refusal, place and column; 1 for a true conversion or 0, and the number, from 1 in the output, of the first record that disagrees or lacks a
@@ -65,14 +65,10 @@ fn judge_blocks(task: Task, fields: &[u16], ours: &[u8], theirs: &[u8]) -> Judge
     requires { OursRead task fields.now ours.now }
     ensures { OfOurs task fields.now ours.now theirs.now result }
 {
-    let read = reels::read_reel(tasks::form_under(task), theirs);
-    match read {
-        ReelRead::NotReel => refused(17, 0, 0),
-        ReelRead::BadBlock { block } => refused(18, block, 0),
-        ReelRead::Read {
-            blocks: _,
-            records: _,
-        } => told(pairs::first_apart(task, fields, ours, theirs)),
+    match reels::read_reel(tasks::form_under(task), theirs) {
+        Ok(_) => told(pairs::first_apart(task, fields, ours, theirs)),
+        Err(ReelError::NotReel) => refused(17, 0, 0),
+        Err(ReelError::BadBlock { block }) => refused(18, block, 0),
     }
 }
 
@@ -96,13 +92,13 @@ fn judge_spans(m: usize, ours: &[u8], passed: usize, count: usize, theirs: &[u8]
     requires { OursSpanned ours.now passed count × (m < 65536) }
     ensures { OfSpanned m ours.now passed count theirs.now result }
 {
-    let read = turns::read_spanned(m, theirs);
-    match read {
-        ReelRead::NotReel => refused(17, 0, 0),
-        ReelRead::BadBlock { block: bad } => refused(18, bad, 0),
-        ReelRead::Read { blocks: _, records } => {
-            told(span_pairs::first_apart(ours, passed, count, theirs, records))
+    match turns::read_spanned(m, theirs) {
+        Ok(found) => {
+            let apart = span_pairs::first_apart(ours, passed, count, theirs, found.records);
+            told(apart.unwrap_or(0))
         }
+        Err(ReelError::NotReel) => refused(17, 0, 0),
+        Err(ReelError::BadBlock { block: bad }) => refused(18, bad, 0),
     }
 }
 
@@ -111,14 +107,13 @@ fn in_spans(g: usize, m: usize, first: usize, ours: &[u8], theirs: &[u8]) -> Jud
     requires { (g < 65536) × (m < 65536) × (1 ≤ first) × (first ≤ 65536) }
     ensures { OfNumbers g m first ours.now theirs.now result }
 {
-    let read = turns::read_spanned(g, ours);
-    match read {
-        ReelRead::NotReel => refused(11, 0, 0),
-        ReelRead::BadBlock { block } => refused(12, block, 0),
-        ReelRead::Read { blocks: _, records } => {
-            let passed = segments::smaller(first - 1, records);
-            judge_spans(m, ours, passed, records - passed, theirs)
+    match turns::read_spanned(g, ours) {
+        Ok(found) => {
+            let passed = (first - 1).min(found.records);
+            judge_spans(m, ours, passed, found.records - passed, theirs)
         }
+        Err(ReelError::NotReel) => refused(11, 0, 0),
+        Err(ReelError::BadBlock { block }) => refused(12, block, 0),
     }
 }
 

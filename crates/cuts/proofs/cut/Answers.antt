@@ -16,4 +16,4 @@ pub overflow_add-bytes : goal.overflow_add-bytes
 overflow_add-bytes c = omega (arith, (block_is c.requires c.opened-block.ensures).most)
 
 pub returns : goal.returns
-returns c = cut_as _ _ _ _ c.opened-block.ensures _ c.smaller-size.ensures
+returns c = cut_as _ _ _ _ c.opened-block.ensures _ c.min-size.ensures

@@ -8,4 +8,4 @@ returns-then-v c = let a = c.args in on_here a.reel.now a.v c.if-v.true
 pub returns : goal.returns
 returns c =
     let a = c.args in
-    on_next a.reel.now a.v _ c.if-v.false c.next-read.ensures
+    on_next a.reel.now a.v _ c.if-v.false c.next.ensures

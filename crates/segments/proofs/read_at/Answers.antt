@@ -1,19 +1,17 @@
 -- By cases on what stands there.
-use mathlib.Core.Path.{sym, ◌∙◌}
-use Rattle.segments.proofs.SpotLaws.{read_is}
+use mathlib.Core.Path.{ap, sym, ◌∙◌}
+use Rattle.std.specs.Option.{option_flatten}
+use Rattle.segments.proofs.SpotLaws.{read_is, some_read, none_read}
 use Rattle.segments.proofs.read_at.Goals as goal
 
-pub returns-in-Piece : goal.returns-in-Piece
-returns-in-Piece c =
+pub returns-in-Some : goal.returns-in-Some
+returns-in-Some c =
     let a = c.args in
-    sym (read_is a.reel.now a.block a.at _ _ c.block.ensures (sym c.in-Piece.is ∙ c.segment-read.ensures))
+    some_read a.block a.at _ _ (c.in-Some.ensures ∙ ap option_flatten c.ok.ensures.value) ∙ sym (read_is a.reel.now a.block a.at _ _ c.block.ensures c.segment-found.ensures)
 
-pub returns-in-End : goal.returns-in-End
-returns-in-End c =
+pub returns-in-None : goal.returns-in-None
+returns-in-None c =
     let a = c.args in
-    c.nothing.ensures ∙ sym (read_is a.reel.now a.block a.at _ _ c.block.ensures (sym c.in-End.is ∙ c.segment-read.ensures))
-
-pub returns-in-Bad : goal.returns-in-Bad
-returns-in-Bad c =
-    let a = c.args in
-    c.nothing-in-Bad.ensures ∙ sym (read_is a.reel.now a.block a.at _ _ c.block.ensures (sym c.in-Bad.is ∙ c.segment-read.ensures))
+    c.nothing.ensures
+    ∙ none_read a.block a.at _ (c.in-None.ensures ∙ ap option_flatten c.ok.ensures.value)
+    ∙ sym (read_is a.reel.now a.block a.at _ _ c.block.ensures c.segment-found.ensures)

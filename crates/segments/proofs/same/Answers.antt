@@ -22,32 +22,32 @@ overflow_sub-other c =
 
 pub same_part-requires : goal.same_part-requires
 same_part-requires c =
-    comparing_room c.loop-done.invariant c.loop-done-test.true _ c.on_data-here.ensures _ c.on_data-other.ensures _ c.smaller-both.ensures _ c.smaller-size.ensures
+    comparing_room c.loop-done.invariant c.loop-done-test.true _ c.on_data-here.ensures _ c.on_data-other.ensures _ c.min-both.ensures _ c.min-size.ensures
 
 pub returns-then-not-same_part : goal.returns-then-not-same_part
 returns-then-not-same_part c =
-    comparing_no c.loop-done.invariant c.loop-done-test.true _ c.on_data-here.ensures _ c.on_data-other.ensures _ c.smaller-both.ensures _ c.smaller-size.ensures c.same_part.ensures c.if-not-same_part.true
+    comparing_no c.loop-done.invariant c.loop-done-test.true _ c.on_data-here.ensures _ c.on_data-other.ensures _ c.min-both.ensures _ c.min-size.ensures c.same_part.ensures c.if-not-same_part.true
 
 pub passed-at-requires : goal.passed-at-requires
 passed-at-requires c =
-    (comparing_size c.loop-done.invariant c.loop-done-test.true _ c.on_data-here.ensures _ c.on_data-other.ensures _ c.smaller-both.ensures _ c.smaller-size.ensures).1
+    (comparing_size c.loop-done.invariant c.loop-done-test.true _ c.on_data-here.ensures _ c.on_data-other.ensures _ c.min-both.ensures _ c.min-size.ensures).1
 
 pub passed-there-requires : goal.passed-there-requires
 passed-there-requires c =
-    (comparing_size c.loop-done.invariant c.loop-done-test.true _ c.on_data-here.ensures _ c.on_data-other.ensures _ c.smaller-both.ensures _ c.smaller-size.ensures).2
+    (comparing_size c.loop-done.invariant c.loop-done-test.true _ c.on_data-here.ensures _ c.on_data-other.ensures _ c.min-both.ensures _ c.min-size.ensures).2
 
 pub overflow_add-done : goal.overflow_add-done
 overflow_add-done c =
-    omega (arith, (comparing_size c.loop-done.invariant c.loop-done-test.true _ c.on_data-here.ensures _ c.on_data-other.ensures _ c.smaller-both.ensures _ c.smaller-size.ensures).3, c.ranges.n.fits)
+    omega (arith, (comparing_size c.loop-done.invariant c.loop-done-test.true _ c.on_data-here.ensures _ c.on_data-other.ensures _ c.min-both.ensures _ c.min-size.ensures).3, c.ranges.n.fits)
 
 pub loop-done-smaller : goal.loop-done-smaller
 loop-done-smaller c =
-    let k = comparing_size c.loop-done.invariant c.loop-done-test.true _ c.on_data-here.ensures _ c.on_data-other.ensures _ c.smaller-both.ensures _ c.smaller-size.ensures in
+    let k = comparing_size c.loop-done.invariant c.loop-done-test.true _ c.on_data-here.ensures _ c.on_data-other.ensures _ c.min-both.ensures _ c.min-size.ensures in
     omega (arith, k.0, k.3)
 
 pub loop-done-preserved : goal.loop-done-preserved
 loop-done-preserved c =
-    comparing_more c.loop-done.invariant c.loop-done-test.true _ c.on_data-here.ensures _ c.on_data-other.ensures _ c.smaller-both.ensures _ c.smaller-size.ensures c.same_part.ensures c.if-not-same_part.false _ c.passed-at.ensures _ c.passed-there.ensures
+    comparing_more c.loop-done.invariant c.loop-done-test.true _ c.on_data-here.ensures _ c.on_data-other.ensures _ c.min-both.ensures _ c.min-size.ensures c.same_part.ensures c.if-not-same_part.false _ c.passed-at.ensures _ c.passed-there.ensures
 
 pub returns : goal.returns
 returns c = comparing_end c.loop-done.invariant c.loop-done-test.false

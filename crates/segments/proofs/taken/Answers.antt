@@ -2,14 +2,14 @@
 use Rattle.segments.proofs.TakenLaws.{passing_start, passing_next, passing_more, passing_end}
 use Rattle.segments.proofs.taken.Goals as goal
 
-pub loop-number-init : goal.loop-number-init
-loop-number-init c = passing_start c.requires
+pub loop-init : goal.loop-init
+loop-init c = passing_start c.requires
 
-pub ahead-record-requires : goal.ahead-record-requires
-ahead-record-requires c = passing_next c.loop-number.invariant c.loop-number-test.true
+pub ahead-requires : goal.ahead-requires
+ahead-requires c = passing_next c.loop.invariant c.loop-test.true
 
-pub loop-number-preserved : goal.loop-number-preserved
-loop-number-preserved c = passing_more c.loop-number.invariant c.loop-number-test.true _ c.ahead-record.ensures
+pub loop-preserved : goal.loop-preserved
+loop-preserved c = passing_more c.loop.invariant c.loop-test.true _ c.ahead.ensures
 
 pub returns : goal.returns
-returns c = passing_end c.loop-number.invariant c.loop-number-test.false
+returns c = passing_end c.loop.invariant c.loop-test.false
