@@ -8,7 +8,8 @@ use Prim.Native.Nat.{ℕ, suc, ◌/◌, ◌≤◌, ◌<◌}
 use native.Mathlib.Omega.{arith}
 use lib.Dec.{eqb}
 use lib.ListN.{length, get_or}
-use borrow.Author.Tests.{eq-eqb, ne_eqb, le-leb, lt-leb}
+use borrow.Author.Tests.{eq-eqb, ne_eqb}
+use Rattle.std.proofs.Common.{Option, Some, None, Result, Ok, Err, min}
 use Rattle.rules.specs.Base.{◌⇒◌, every, is_empty, joined}
 use Rattle.rules.specs.Places.{All, no_more, also}
 use Rattle.rules.specs.Answer.{Answer, fine, refuse, refused, refusal_of, place_of, ◌>>◌, unless, each}
@@ -25,7 +26,7 @@ use Rattle.rules.proofs.Refusals.AnswerLaws.{fine_then, then_fine, fine_unless, 
 use Rattle.rules.specs.Rows.{InputWithin, UtilityWithin, FieldWithin}
 use Rattle.rules.proofs.Halves.RecordLaws.{sizes_within}
 use Rattle.rules.proofs.Deck.LimitLaws.{two_of}
-use Rattle.terms.specs.Meaning.{mode_of, format_of, size_of, field_of, laid, laid_fields, no_field, utility_of, first_card, key_card, Means}
+use Rattle.terms.specs.Meaning.{mode_of, format_of, size_of, field_of, laid, laid_fields, no_field, utility_of, first_card, Means}
 use Rattle.terms.proofs.Laid.{inside_laid, laid_through, laid_within}
 use Rattle.terms.specs.declared.Asked.{Asked}
 use Rattle.rows.specs.Flat.{flat_of, field_at}
@@ -33,9 +34,9 @@ use Rattle.rows.specs.Kept.{field_for}
 use Rattle.rows.proofs.KeptLaws.{one_size}
 use Rattle.rows.proofs.FlatLaws.{length_flat, field_kept}
 use Rattle.combinations.specs.Lines.{count_line, lengths_equal, format_lines, all_lines, key_line, lower_of}
-use Rattle.combinations.specs.Promise.{first_outside, right_lines, cv_fault, key_fault, card_fault, combined_of, answer_of, FieldFair, FieldsFair, AskedFair}
-use Rattle.combinations.specs.declared.Combined.{Combined}
-use Rattle.combinations.specs.declared.Combined.TheVariants.{Sound, Broken, Outside}
+use Rattle.combinations.specs.Promise.{first_outside, right_lines, fault, card_fault, unless_at, combined_of, answer_of, FieldFair, FieldsFair, AskedFair}
+use Rattle.combinations.specs.declared.Unsound.{Unsound}
+use Rattle.combinations.specs.declared.Unsound.TheVariants.{Broken, Outside}
 use Rattle.combinations.proofs.LineLaws.{counted}
 
 -- ---- the lines of place 1
@@ -152,68 +153,66 @@ first_after q i (c ∷ cards) = go (first_after q (suc i) cards) (eqb (q c) 0) r
     go ih false t = inr (rw t (omega arith))
 
 -- a card before all others is the lower one, on either side
-lower_first : (i x : ℕ) → 1 ≤ i → (x ≡ 0) ⊎ (i ≤ x) → lower_of i x ≡ i
-lower_first i x l (inl z) = rw (ne_eqb i 0 (λ e. omega arith), z)
-lower_first i x l (inr h) = rw (ne_eqb i 0 (λ e. omega arith), ne_eqb x 0 (λ e. omega arith), le-leb i x h)
+abbrev Behind : ℕ → Option ℕ → Type 0
+Behind i None = Unit {0}
+Behind i (Some x) = i < x
 
-lower_second : (i x : ℕ) → 1 ≤ i → (x ≡ 0) ⊎ (i < x) → lower_of x i ≡ i
-lower_second i x l (inl z) = rw z
-lower_second i x l (inr h) = rw (ne_eqb x 0 (λ e. omega arith), ne_eqb i 0 (λ e. omega arith), lt-leb x i h)
+lower_first : (i : ℕ) (o : Option ℕ) → Behind i o → lower_of (Some i) o ≡ Some i
+lower_first i None l = refl
+lower_first i (Some x) l = ap Some (omega arith)
 
--- the first card with CV outside FV, or with a field taken from the key without keys, is refused; a and b count them, and tests that are off find none
+lower_second : (i : ℕ) (o : Option ℕ) → Behind i o → lower_of o (Some i) ≡ Some i
+lower_second i None l = refl
+lower_second i (Some x) l = ap Some (omega arith)
+
+-- the first card with CV outside FV, or with a field taken from the key without keys, is refused; a and b count them, and where they are allowed none is
 module _ (a b : List Item → ℕ) where
-  abbrev fault_in : Bool → Bool → ℕ → List (List Item) → ℕ
-  fault_in p q i cards = lower_of (cond p 0 (first_card a i cards)) (cond q 0 (first_card b i cards))
+  abbrev fault_in : Bool → Bool → ℕ → List (List Item) → Option ℕ
+  fault_in p q i cards = lower_of (fault p (first_card a i cards)) (fault q (first_card b i cards))
 
   -- of the later cards none or a later one
-  later : (f : List Item → ℕ) (p : Bool) (i : ℕ) (cards : List (List Item)) → (cond p 0 (first_card f (suc i) cards) ≡ 0) ⊎ (i < cond p 0 (first_card f (suc i) cards))
-  later f true i cards = inl refl
-  later f false i cards = first_after f (suc i) cards
+  later : (f : List Item → ℕ) (p : Bool) (i : ℕ) (cards : List (List Item)) → Behind i (fault p (first_card f (suc i) cards))
+  later f true i cards = tt
+  later f false i cards = go (first_card f (suc i) cards) (first_after f (suc i) cards)
+    where
+      go : (n : ℕ) → (n ≡ 0) ⊎ (suc i ≤ n) → Behind i (fault false n)
+      go n (inl z) = rw z tt
+      go n (inr l) = rw (ne_eqb n 0 (λ e. omega arith)) (omega arith)
 
   -- of a card and the later ones: the card itself where it is at fault
-  here : (f : List Item → ℕ) (p : Bool) (i : ℕ) (c : List Item) (cards : List (List Item)) (t : Bool) → (p || eqb (f c) 0) ≡ t
-      → cond p 0 (first_card f i (c ∷ cards)) ≡ cond t (cond p 0 (first_card f (suc i) cards)) i
-  here f true i c cards t e = rw (← e)
-  here f false i c cards t e = rw e
+  here : (f : List Item → ℕ) (p : Bool) (i : ℕ) → 1 ≤ i → (c : List Item) (cards : List (List Item)) (t : Bool) → (p || eqb (f c) 0) ≡ t
+      → fault p (first_card f i (c ∷ cards)) ≡ cond t (fault p (first_card f (suc i) cards)) (Some i)
+  here f true i l c cards t e = rw (← e)
+  here f false i l c cards true e = rw e
+  here f false i l c cards false e = rw (e, ne_eqb i 0 (λ z. omega arith))
 
   fault_same : (p q : Bool) (i : ℕ) → 1 ≤ i → (cards : List (List Item))
-      → each 8 (λ c. (p || eqb (a c) 0) && (q || eqb (b c) 0)) i cards ≡ unless (eqb (fault_in p q i cards) 0) 8 (fault_in p q i cards)
-  unfolding each unless
+      → each 8 (λ c. (p || eqb (a c) 0) && (q || eqb (b c) 0)) i cards ≡ unless_at 8 (fault_in p q i cards)
+  unfolding each
   fault_same true true i l [] = refl
   fault_same true false i l [] = refl
   fault_same false true i l [] = refl
   fault_same false false i l [] = refl
   fault_same p q i l (c ∷ cards) = go (fault_same p q (suc i) (omega arith) cards) (p || eqb (a c) 0) refl (q || eqb (b c) 0) refl
     where
-      go : each 8 (λ c. (p || eqb (a c) 0) && (q || eqb (b c) 0)) (suc i) cards ≡ unless (eqb (fault_in p q (suc i) cards) 0) 8 (fault_in p q (suc i) cards)
+      go : each 8 (λ c. (p || eqb (a c) 0) && (q || eqb (b c) 0)) (suc i) cards ≡ unless_at 8 (fault_in p q (suc i) cards)
           → (t : Bool) → (p || eqb (a c) 0) ≡ t → (u : Bool) → (q || eqb (b c) 0) ≡ u
-          → each 8 (λ c. (p || eqb (a c) 0) && (q || eqb (b c) 0)) i (c ∷ cards) ≡ unless (eqb (fault_in p q i (c ∷ cards)) 0) 8 (fault_in p q i (c ∷ cards))
-      go ih true t true u = rw (here a p i c cards true t, here b q i c cards true u, t, u) ih
-      go ih true t false u =
-          let e = lower_second i (cond p 0 (first_card a (suc i) cards)) l (later a p i cards) in
-          rw (here a p i c cards true t, here b q i c cards false u, t, u, e, ne_eqb i 0 (λ z. omega arith))
-      go ih false t true u =
-          let e = lower_first i (cond q 0 (first_card b (suc i) cards)) l (less (later b q i cards)) in
-          rw (here a p i c cards false t, here b q i c cards true u, t, e, ne_eqb i 0 (λ z. omega arith))
-        where
-          less : {x : ℕ} → (x ≡ 0) ⊎ (i < x) → (x ≡ 0) ⊎ (i ≤ x)
-          less (inl z) = inl z
-          less (inr h) = inr (omega arith)
-      go ih false t false u =
-          let e = lower_first i i l (inr (omega arith)) in
-          rw (here a p i c cards false t, here b q i c cards false u, t, e, ne_eqb i 0 (λ z. omega arith))
+          → each 8 (λ c. (p || eqb (a c) 0) && (q || eqb (b c) 0)) i (c ∷ cards) ≡ unless_at 8 (fault_in p q i (c ∷ cards))
+      go ih true t true u = rw (here a p i l c cards true t, here b q i l c cards true u, t, u) ih
+      go ih true t false u = rw (here a p i l c cards true t, here b q i l c cards false u, t, u, lower_second i _ (later a p i cards))
+      go ih false t true u = rw (here a p i l c cards false t, here b q i l c cards true u, t, lower_first i _ (later b q i cards))
+      go ih false t false u = let e : i ≡ min i i = omega arith in rw (here a p i l c cards false t, here b q i l c cards false u, t) (ap (refused 8) e)
 
 -- the first field outside its records is refused
-outside_same : (a b i : ℕ) → 1 ≤ i → (fs : List RuleField)
-    → each 9 (inside a b) i fs ≡ unless (eqb (first_outside a b i fs) 0) 9 (first_outside a b i fs)
-unfolding each unless
-outside_same a b i l [] = refl
-outside_same a b i l (f ∷ fs) = go (outside_same a b (suc i) (omega arith) fs) (inside a b f) refl
+outside_same : (a b i : ℕ) (fs : List RuleField) → each 9 (inside a b) i fs ≡ unless_at 9 (first_outside a b i fs)
+unfolding each
+outside_same a b i [] = refl
+outside_same a b i (f ∷ fs) = go (outside_same a b (suc i) fs) (inside a b f) refl
   where
-    go : each 9 (inside a b) (suc i) fs ≡ unless (eqb (first_outside a b (suc i) fs) 0) 9 (first_outside a b (suc i) fs)
-        → (t : Bool) → inside a b f ≡ t → each 9 (inside a b) i (f ∷ fs) ≡ unless (eqb (first_outside a b i (f ∷ fs)) 0) 9 (first_outside a b i (f ∷ fs))
+    go : each 9 (inside a b) (suc i) fs ≡ unless_at 9 (first_outside a b (suc i) fs)
+        → (t : Bool) → inside a b f ≡ t → each 9 (inside a b) i (f ∷ fs) ≡ unless_at 9 (first_outside a b i (f ∷ fs))
     go ih true t = rw t ih
-    go ih false t = rw (t, ne_eqb i 0 (λ e. omega arith))
+    go ih false t = rw t
 
 -- the tests in turn
 abbrev pub right_cards : Asked → Bool
@@ -231,28 +230,19 @@ module _ (x : Asked) (fs : List RuleField) where
     broken_cards e = rw (lines, e)
 
     module _ (cards : right_cards x ≡ true) where
-      pub broken_card : (card : ℕ) → card ≡ card_fault x → (card ≡ 0 → ⊥) → refused 8 card ≡ combined_of x fs
+      pub broken_card : (card : ℕ) → card_fault x ≡ Some card → refused 8 card ≡ combined_of x fs
       unfolding combined_of unless ◌>>◌
-      broken_card card e n = rw (lines, cards, ← e, ne_eqb card 0 n)
+      broken_card card e = rw (lines, cards, e)
 
       -- past these the fields decide
-      module _ (card : card_fault x ≡ 0) (i : ℕ) (first : i ≡ first_outside (record_length (size_of x.input)) (record_length (size_of x.output)) 1 fs) where
-        by_fields : combined_of x fs ≡ unless (eqb i 0) 9 i
+      module _ (card : card_fault x ≡ None) where
+        pub by_fields : unless_at 9 (first_outside (record_length (size_of x.input)) (record_length (size_of x.output)) 1 fs) ≡ combined_of x fs
         unfolding combined_of
         by_fields =
-            fine_then _ _ (fine_unless _ 8 1 lines)
+            sym (fine_then _ _ (fine_unless _ 8 1 lines)
             ∙ fine_then _ _ (fine_unless _ 8 2 cards)
-            ∙ fine_then _ _ (fine_unless _ 8 (card_fault x) (eq-eqb (card_fault x) 0 card))
-            ∙ outside_same (record_length (size_of x.input)) (record_length (size_of x.output)) 1 (omega arith) fs
-            ∙ rw (← first)
-
-        pub outside_field : (i ≡ 0 → ⊥) → refused 9 i ≡ combined_of x fs
-        unfolding unless
-        outside_field n = sym (by_fields ∙ rw (ne_eqb i 0 n))
-
-        pub none_outside_lem : i ≡ 0 → fine tt ≡ combined_of x fs
-        unfolding unless
-        none_outside_lem z = sym (by_fields ∙ rw (eq-eqb i 0 z))
+            ∙ fine_then _ _ (ap (unless_at 8) card)
+            ∙ outside_same (record_length (size_of x.input)) (record_length (size_of x.output)) 1 fs)
 
 -- what the rules ask after refusals 8 and 9
 abbrev pub refusal10 : Plan → Answer Unit
@@ -277,10 +267,6 @@ key_line_lem t f (keyed k d) w = rw (ne_eqb k 0 (λ e. omega (arith, w.0.0))) (b
     both : (x y : Bool) → cond x y false ≡ (y && x)
     both true y = sym (and-true y)
     both false y = sym (and-false y)
-
-off : (t : Bool) (n : ℕ) → cond t n 0 ≡ cond (not t) 0 n
-off true n = refl
-off false n = refl
 
 -- where the struct says what the deck asks for, and the row has its fields, these are what the rules ask before refusal 10
 module _ (zone : ℕ) (x : Asked) (a : RuleAsked) (m : Means x a) (u : UtilityWithin a.utility) (w : All (λ f. FieldWithin f.field) (fields_of (joined a.cards))) where
@@ -314,11 +300,11 @@ module _ (zone : ℕ) (x : Asked) (a : RuleAsked) (m : Means x a) (u : UtilityWi
       (ap (λ (t : Bool). t && key_fits a.utility.mode a.utility.format i) (sym (lines_same a.utility.mode a.utility.format (joined_size i) a.utility.output a.utility.first x.fs))
       ∙ and_comm (all_lines a.utility.mode a.utility.format (joined_size i) a.utility.output a.utility.first x.fs) (key_fits a.utility.mode a.utility.format i))
 
-  cards_are : each 8 (card_fits a.utility.format i) 2 a.cards ≡ unless (eqb (card_fault x) 0) 8 (card_fault x)
+  cards_are : each 8 (card_fits a.utility.format i) 2 a.cards ≡ unless_at 8 (card_fault x)
   unfolding card_fits card_fault
   cards_are =
-      let e : lower_of (cv_fault (format_of x.format) x.cv) (key_fault x.key x.keyed) ≡ fault_in cvs (λ c. key_fields (fields_of c)) (is_fv a.utility.format) (is_keyed i) 2 a.cards
-      = rw (format_is, m.cv, m.keyed, m.key, off (eqb (key_length i) 0) (key_card 2 a.cards), key_told a.utility.format i u.input) in
+      let e : card_fault x ≡ fault_in cvs (λ c. key_fields (fields_of c)) (is_fv a.utility.format) (is_keyed i) 2 a.cards
+      = rw (format_is, m.cv, m.keyed, m.key, key_told a.utility.format i u.input) in
       fault_same cvs (λ c. key_fields (fields_of c)) (is_fv a.utility.format) (is_keyed i) 2 (omega arith) a.cards ∙ rw (← e)
 
   -- field by field, where no card is at fault
@@ -338,7 +324,7 @@ module _ (zone : ℕ) (x : Asked) (a : RuleAsked) (m : Means x a) (u : UtilityWi
   combined_same =
       let r = refusal10 (assembled zone a) in
       let own = each 9 (inside (record_length (size_of x.input)) (record_length (size_of x.output))) 1 (map (laid (key_length i)) (fields_of (joined a.cards))) in
-      let cards : (each 8 (card_fits a.utility.format i) 2 a.cards >> (each 9 (inside_part i a.utility.output) 1 (fields_of (joined a.cards)) >> r)) ≡ (unless (eqb (card_fault x) 0) 8 (card_fault x) >> (own >> r))
+      let cards : (each 8 (card_fits a.utility.format i) 2 a.cards >> (each 9 (inside_part i a.utility.output) 1 (fields_of (joined a.cards)) >> r)) ≡ (unless_at 8 (card_fault x) >> (own >> r))
       = then_same (each 8 (card_fits a.utility.format i) 2 a.cards) _ _ (λ e. ap (λ (t : Answer Unit). t >> r) (fields_are e)) ∙ ap (λ (t : Answer Unit). t >> (own >> r)) cards_are in
       rw (lines_are, cards, no_card a.cards, ← m.fs, ← mode_is) (simp then_assoc)
 
@@ -413,16 +399,16 @@ asked_fair x a row m u w e =
 -- ---- one outcome
 
 -- no two cases answer the same
-pub answer_once : (r q : Combined) → answer_of r ≡ answer_of q → r ≡ q
-answer_once Sound Sound e = refl
-answer_once Sound (Broken place) e = cc
-answer_once Sound (Outside field) e = cc
-answer_once (Broken place) Sound e = cc
-answer_once (Broken place) (Broken place') e = ap Broken (ap place_of e)
-answer_once (Broken place) (Outside field) e = absurd (omega (arith, ap refusal_of e))
-answer_once (Outside field) Sound e = cc
-answer_once (Outside field) (Broken place) e = absurd (omega (arith, ap refusal_of e))
-answer_once (Outside field) (Outside field') e = ap Outside (ap place_of e)
+pub answer_once : (r q : Result Unit Unsound) → answer_of r ≡ answer_of q → r ≡ q
+answer_once (Ok done) (Ok done') e = refl
+answer_once (Ok done) (Err (Broken place)) e = cc
+answer_once (Ok done) (Err (Outside field)) e = cc
+answer_once (Err (Broken place)) (Ok done) e = cc
+answer_once (Err (Broken place)) (Err (Broken place')) e = ap (λ (n : ℕ). Err (Broken n)) (ap place_of e)
+answer_once (Err (Broken place)) (Err (Outside field)) e = absurd (omega (arith, ap refusal_of e))
+answer_once (Err (Outside field)) (Ok done) e = cc
+answer_once (Err (Outside field)) (Err (Broken place)) e = absurd (omega (arith, ap refusal_of e))
+answer_once (Err (Outside field)) (Err (Outside field')) e = ap (λ (n : ℕ). Err (Outside n)) (ap place_of e)
 
-pub only_one : (x : Asked) (fs : List RuleField) (r q : Combined) → answer_of r ≡ combined_of x fs → answer_of q ≡ combined_of x fs → r ≡ q
+pub only_one : (x : Asked) (fs : List RuleField) (r q : Result Unit Unsound) → answer_of r ≡ combined_of x fs → answer_of q ≡ combined_of x fs → r ≡ q
 only_one x fs r q e f = answer_once r q (e ∙ sym f)

@@ -6,6 +6,7 @@ use Prim.Native.Nat.{ℕ, ◌+◌, ◌*◌, ◌/◌, ◌≤◌}
 use native.Mathlib.Numerals.{add-one}
 use native.Mathlib.Omega.{arith}
 use lib.ListN.{length, drop}
+use Rattle.std.proofs.Common.{Some, None}
 use Rattle.rules.specs.Plan.{inside}
 use Rattle.terms.specs.Meaning.{field_of}
 use Rattle.rows.specs.Flat.{field_at}
@@ -30,8 +31,8 @@ module _ (row : List ℕ) (a b : ℕ) where
       pub seek_more : inside a b (field_of (field_at row i)) ≡ true → Seeking row a b (i + 1)
       seek_more e = record { inside_so_far = omega arith; left = next ∙ rw (e, add-one (i + 1)) }
 
-      pub seek_found : inside a b (field_of (field_at row i)) ≡ false → i + 1 ≡ first_outside a b 1 (fields_in row)
+      pub seek_found : inside a b (field_of (field_at row i)) ≡ false → Some (i + 1) ≡ first_outside a b 1 (fields_in row)
       seek_found e = sym (next ∙ rw e)
 
-    pub seek_none : length row / 5 ≤ i → 0 ≡ first_outside a b 1 (fields_in row)
+    pub seek_none : length row / 5 ≤ i → None ≡ first_outside a b 1 (fields_in row)
     seek_none l = sym (s.left ∙ ap (first_outside a b (i + 1)) (fields_end row i (omega (arith, s.inside_so_far))))

@@ -1,5 +1,5 @@
 -- The lines of the combinations, as the code asks them: some together, and those of FF only where A and B have two numbers each.
-use Rattle.std.specs.Prelude.{Bool, true, false, cond, not, ◌&&◌, ◌≡◌, ℕ, ◌+◌, ◌/◌, ◌%◌, ◌≤◌, leb, eqb}
+use Rattle.std.specs.Prelude.{Bool, true, false, cond, not, ◌&&◌, ◌≡◌, ℕ, ◌+◌, ◌/◌, ◌%◌, ◌≤◌, leb, eqb, min, Option, Some, None}
 use Rattle.rules.specs.Grammar.{Mode, tc, tf, tr, trf, Format, ff, fv, fu, fsp, Size}
 use Rattle.rules.specs.Plan.{is_tc, is_ff, is_fu, selects, numbers, wanted, record_length, block_length}
 
@@ -55,6 +55,8 @@ all_lines t f a b first fs = copy_lines t f first && (count_line t f a b && (cop
 abbrev pub key_line : Mode → Format → ℕ → Bool
 key_line t f key = cond (eqb key 0) true (cond (selects t) (is_ff f) false)
 
--- the lower of two cards; 0 is none
-abbrev pub lower_of : ℕ → ℕ → ℕ
-lower_of a b = cond (eqb a 0) b (cond (eqb b 0) a (cond (leb a b) a b))
+-- the lower of two cards
+abbrev pub lower_of : Option ℕ → Option ℕ → Option ℕ
+lower_of None b = b
+lower_of (Some x) None = Some x
+lower_of (Some x) (Some y) = Some (min x y)

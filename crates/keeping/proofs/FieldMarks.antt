@@ -21,12 +21,8 @@ use Rattle.rows.specs.Kept.{fields_in}
 use Rattle.sources.specs.Promise.{FieldInside}
 use Rattle.sources.proofs.Fields.{kind_of_lem}
 use Rattle.sources.proofs.AllFields.{field_here, field_same}
-use Rattle.keeping.specs.Marks.{mark_allows, MarkSays, asking_of}
+use Rattle.keeping.specs.Marks.{mark_allows, MarkSays, Met, asking_of}
 use Rattle.keeping.proofs.Meets.{or_allows, says_any}
-
--- half h has mark b after a field, where it had mark a: it permits what both permit
-unfoldable pub Met : Field → ℕ → ℕ → ℕ → Type 0
-Met f h a b = MarkSays b (λ v. allows zone_f (field_of f) h v && mark_allows a v)
 
 -- a field asks nothing of halves that it does not read
 pub asking_most : (c : Kind) (input many : ℕ) → many ≡ asking_of c input → many ≤ 2 * input

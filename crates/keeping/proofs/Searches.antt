@@ -10,18 +10,22 @@ use lib.Dec.{ltb, leb, eqb}
 use lib.ListN.{length, get_or, take}
 use lib.Seq.{get_or-take, length-take-le}
 use borrow.Author.Tests.{not-true, lt-ltb, le-ltb, lt-leb, le-leb}
+use Rattle.std.proofs.Common.{Some, None}
+use Rattle.std.specs.List.{position}
+use Rattle.std.proofs.lemmas.List.Sums.{position_or_len_is}
 use Rattle.rules.specs.Base.{every}
 use Rattle.rules.specs.Halves.{Source}
-use Rattle.rules.specs.Permitted.{count, choices}
+use Rattle.rules.specs.Permitted.{count, choices, first_of}
 use Rattle.rules.specs.Keeping.{occurs, missing, lost_half}
 use Rattle.rules.specs.Plan.{bit}
+use Rattle.rules.proofs.Base.Search.{first_most, first_before, first_found}
 use Rattle.rules.proofs.Base.Tests.{every_all}
 use Rattle.rules.proofs.Base.AllLaws.{all_at}
-use Rattle.rules.proofs.Keeping.KeepingSteps.{count_alike, first_here, first_nowhere, missing_seen, missing_few, missing_unseen, lost_here, lost_nowhere}
+use Rattle.rules.proofs.Keeping.KeepingSteps.{count_alike, first_nowhere, missing_seen, missing_few, missing_unseen, lost_here, lost_nowhere}
 use Rattle.sources.specs.Promise.{Stand}
 use Rattle.sources.proofs.Seen.{Seen, taken_from, not_there}
 use Rattle.keeping.specs.Marks.{mark_allows, choices_of, MarkSays, permits_in}
-use Rattle.keeping.specs.Promise.{barren_of}
+use Rattle.keeping.specs.Promise.{place_below, barren_of}
 
 module _ (marks : List ℕ) (h : ℕ) where
   choices_of_lem : choices (permits_in marks) h ≡ choices_of (get_or marks h 0)
@@ -32,12 +36,6 @@ module _ (marks : List ℕ) (h : ℕ) where
 
   pub not_barren : eqb (choices_of (get_or marks h 0)) 0 ≡ false → eqb (choices (permits_in marks) h) 0 ≡ false
   not_barren e = ap (λ (c : ℕ). eqb c 0) choices_of_lem ∙ e
-
-  pub barren_here : (n : ℕ) → h < 2 * n → ((j : ℕ) → j < h → eqb (choices (permits_in marks) j) 0 ≡ false) → eqb (choices_of (get_or marks h 0)) 0 ≡ true
-      → h ≡ barren_of (permits_in marks) n
-  unfolding barren_of
-  barren_here n l before none =
-      sym (first_here (λ i. eqb (choices (permits_in marks) i) 0) h (2 * n) l before (ap (λ (c : ℕ). eqb c 0) choices_of_lem ∙ none))
 
 pub barren_nowhere : (marks : List ℕ) (n : ℕ) → ((j : ℕ) → j < 2 * n → eqb (choices (permits_in marks) j) 0 ≡ false) → 2 * n ≡ barren_of (permits_in marks) n
 unfolding barren_of
@@ -56,6 +54,27 @@ barren_never marks n long e = barren_nowhere marks n (λ j l. not_barren marks j
     some j l =
         ap fruitful (sym (get_or-take (2 * n) marks j 0 l))
         ∙ all_at 0 (take (2 * n) marks) (every_all fruitful (take (2 * n) marks) e) j (omega (arith, length-take-le (2 * n) marks long))
+
+-- where a search among so many ends
+pub place_found : (many h : ℕ) → h < many → (place : ℕ) → h ≡ place → Some h ≡ place_below many place
+place_found many h l place e = rw (← e, lt-ltb h many l)
+
+pub place_none : (many : ℕ) (place : ℕ) → many ≡ place → None ≡ place_below many place
+place_none many place e = rw (le-ltb place many (omega arith))
+
+-- the first mark of 2n that permits no value stands at the lowest half with none
+pub barren_first : (marks : List ℕ) (n : ℕ) → 2 * n ≤ length marks → position (λ (a : ℕ). eqb (choices_of a) 0) (take (2 * n) marks) ≡ place_below (2 * n) (barren_of (permits_in marks) n)
+unfolding barren_of
+barren_first marks n long =
+    let q : ℕ → Bool = λ j. eqb (choices (permits_in marks) j) 0 in
+    let few : first_of q 0 (2 * n) ≤ 2 * n = omega (arith, first_most q 0 (2 * n)) in
+    rw (position_or_len_is (λ (a : ℕ). eqb (choices_of a) 0) (take (2 * n) marks) (first_of q 0 (2 * n)) 0 (rw many few) (λ k l. here k (omega arith) ∙ first_before q 0 (2 * n) k (omega arith) l) (λ l. here _ (rw many at l) ∙ first_found q 0 (2 * n) (omega (arith, rw many at l))), many)
+  where
+    many : length (take (2 * n) marks) ≡ 2 * n
+    many = length-take-le (2 * n) marks long
+
+    here : (k : ℕ) → k < 2 * n → eqb (choices_of (get_or (take (2 * n) marks) k 0)) 0 ≡ eqb (choices (permits_in marks) k) 0
+    here k l = ap (λ (a : ℕ). eqb (choices_of a) 0) (get_or-take (2 * n) marks k 0 l) ∙ sym (ap (λ (c : ℕ). eqb c 0) (choices_of_lem marks k))
 
 -- ---- a half that is missing from the output
 
@@ -90,20 +109,6 @@ module _ (marks : List ℕ) (sources : List ℕ) (n m : ℕ) (ss : List Source) 
         (missing_unseen (permits_in marks) ss h (omega (arith, choices_of_lem marks h)) (not_there sources ss stand g h seen (omega arith) u e)))
 
 -- ---- every half that is missing
-
-module _ (a : ℕ) (seen : Bool) where
-  pub mark_seen : seen ≡ true → 0 ≡ bit (not (ltb (choices_of a) 2) && not seen)
-  mark_seen e = rw e (go (ltb (choices_of a) 2))
-    where
-      go : (few : Bool) → 0 ≡ bit (not few && false)
-      go true = refl
-      go false = refl
-
-  pub mark_few : ltb (choices_of a) 2 ≡ true → 0 ≡ bit (not (ltb (choices_of a) 2) && not seen)
-  mark_few e = rw e
-
-  pub mark_missing : ltb (choices_of a) 2 ≡ false → seen ≡ false → 1 ≡ bit (not (ltb (choices_of a) 2) && not seen)
-  mark_missing e f = rw (e, f)
 
 -- a mark and whether its half was seen say whether it is missing
 pub missing_says : (a : ℕ) (q : ℕ → ℕ → Bool) (ss : List Source) (i : ℕ) (seen : Bool) → MarkSays a (q i) → seen ≡ occurs i ss

@@ -6,8 +6,11 @@ use Prim.Native.Nat.{ℕ, zero, suc, ◌*◌, ◌≤◌, ◌<◌}
 use native.Mathlib.Omega.{arith}
 use lib.Dec.{eqb}
 use lib.ListN.{get_or, replicate}
-use borrow.Author.Tests.{eq-eqb, ne_eqb}
-use Rattle.rules.specs.Answer.{fine, refused, place_of, ◌>>◌, unless}
+use borrow.Author.Tests.{eq-eqb, ne_eqb, ltb-true, ltb-false}
+use mathlib.Core.Bool.{Bool, true, false, cond}
+use Rattle.std.proofs.Common.{Option, Some, None, Result, Ok, Err, ltb}
+use Rattle.std.proofs.lemmas.Option.{none-some, same_Some}
+use Rattle.rules.specs.Answer.{refused, place_of, ◌>>◌, unless}
 use Rattle.rules.specs.Halves.{Field as RuleField, sources}
 use Rattle.rules.specs.Permitted.{permitted, choices}
 use Rattle.rules.specs.Keeping.{missing, lost_half}
@@ -22,9 +25,8 @@ use Rattle.rows.specs.Kept.{fields_in}
 use Rattle.sources.specs.Promise.{RowInside}
 use Rattle.sources.proofs.Fields.{fair_longer}
 use Rattle.keeping.specs.Marks.{MarkSays, permits_in}
-use Rattle.keeping.specs.Promise.{answer_of, barren_of, lost_of, weighed_of}
-use Rattle.keeping.specs.declared.Weighed.{Weighed}
-use Rattle.keeping.specs.declared.Weighed.TheVariants.{Barren, Kept, Lost}
+use Rattle.keeping.specs.Promise.{answer_of, place_below, barren_of, lost_of, weighed_of}
+use Rattle.keeping.specs.declared.Barren.{Barren}
 
 -- fields inside their records lie inside the longest
 pub fair_longest : (row : List ℕ) (n m : ℕ) → RowInside row n m → RowInside row 4096 4096
@@ -60,43 +62,60 @@ module _ (marks : List ℕ) (fs : List RuleField) (n : ℕ) (small : n ≤ 4096)
 
 -- ---- the answer
 
-module _ (zone : ℕ) (fs : List RuleField) (n m b : ℕ) (barren : b ≡ barren_of (permitted zone fs) n) where
-  pub weighed_barren : b < 2 * n → refused 10 b ≡ weighed_of zone fs n m
+-- a search that ends in a number below so many found it; one that ends in none went to their end
+found_is : (many h place : ℕ) → Some place ≡ place_below many h → (h < many) × (place ≡ h)
+found_is many h place = go (ltb h many) refl
+  where
+    go : (t : Bool) → ltb h many ≡ t → Some place ≡ cond t (Some h) None → (h < many) × (place ≡ h)
+    go true t e = (ltb-true h many t, same_Some place h e)
+    go false t e = absurd (none-some place (sym e))
+
+none_is : (many h : ℕ) → None ≡ place_below many h → many ≤ h
+none_is many h = go (ltb h many) refl
+  where
+    go : (t : Bool) → ltb h many ≡ t → None ≡ cond t (Some h) None → many ≤ h
+    go true t e = absurd (none-some h e)
+    go false t e = ltb-false h many t
+
+module _ (zone : ℕ) (fs : List RuleField) (n m : ℕ) where
+  pub weighed_barren : (b : ℕ) → Some b ≡ place_below (2 * n) (barren_of (permitted zone fs) n) → refused 10 b ≡ weighed_of zone fs n m
   unfolding weighed_of unless ◌>>◌
-  weighed_barren l = rw (← barren, ne_eqb b (2 * n) (λ e. omega arith))
+  weighed_barren b barren =
+      let w = found_is (2 * n) (barren_of (permitted zone fs) n) b barren in
+      rw (← w.1, ne_eqb b (2 * n) (λ e. omega arith))
 
-  barren_most : b ≤ 2 * n
-  unfolding barren_of
-  barren_most = omega (arith, first_most (λ i. eqb (choices (permitted zone fs) i) 0) 0 (2 * n))
+  module _ (none : None ≡ place_below (2 * n) (barren_of (permitted zone fs) n)) where
+    fruitful : barren_of (permitted zone fs) n ≡ 2 * n
+    unfolding barren_of
+    fruitful = omega (arith, none_is (2 * n) (barren_of (permitted zone fs) n) none, first_most (λ i. eqb (choices (permitted zone fs) i) 0) 0 (2 * n))
 
-  module _ (none : 2 * n ≤ b) (h : ℕ) (lost : h ≡ lost_of zone fs n m) where
-    pub weighed_lost : h < 2 * n → fine (0, h) ≡ weighed_of zone fs n m
-    unfolding weighed_of unless ◌>>◌
-    weighed_lost l = rw (← barren, eq-eqb b (2 * n) (omega (arith, barren_most)), ← lost, ne_eqb h (2 * n) (λ e. omega arith))
-
-    lost_most : h ≤ 2 * n
+    lost_most : lost_of zone fs n m ≤ 2 * n
     unfolding lost_of lost_half
     lost_most = omega (arith, first_most (missing (permitted zone fs) (sources zone m fs (2 * n))) 0 (2 * n))
 
-    pub weighed_kept : 2 * n ≤ h → fine (1, 0) ≡ weighed_of zone fs n m
+    pub weighed_fruitful : (lost : Option ℕ) → lost ≡ place_below (2 * n) (lost_of zone fs n m) → answer_of (Ok lost) ≡ weighed_of zone fs n m
     unfolding weighed_of unless ◌>>◌
-    weighed_kept l = rw (← barren, eq-eqb b (2 * n) (omega (arith, barren_most)), ← lost, eq-eqb h (2 * n) (omega (arith, lost_most)))
+    weighed_fruitful (Some h) e =
+        let w = found_is (2 * n) (lost_of zone fs n m) h e in
+        rw (eq-eqb _ (2 * n) fruitful, ← w.1, ne_eqb h (2 * n) (λ z. omega arith))
+    weighed_fruitful None e =
+        rw (eq-eqb _ (2 * n) fruitful, eq-eqb (lost_of zone fs n m) (2 * n) (omega (arith, lost_most, none_is (2 * n) (lost_of zone fs n m) e)))
 
 -- ---- one answer
 
 -- no two cases answer the same
-answer_once : (r q : Weighed) → answer_of r ≡ answer_of q → r ≡ q
-answer_once (Barren half) (Barren half') e = ap Barren (ap place_of e)
-answer_once (Barren half) Kept e = cc
-answer_once (Barren half) (Lost half') e = cc
-answer_once Kept (Barren half) e = cc
-answer_once Kept Kept e = refl
-answer_once Kept (Lost half) e = absurd (omega (arith, ap (λ (n : ℕ × ℕ). n.0) (fine_same (1, 0) (0, half) e)))
-answer_once (Lost half) (Barren half') e = cc
-answer_once (Lost half) Kept e = absurd (omega (arith, ap (λ (n : ℕ × ℕ). n.0) (fine_same (0, half) (1, 0) e)))
-answer_once (Lost half) (Lost half') e = ap Lost (ap (λ (n : ℕ × ℕ). n.1) (fine_same (0, half) (0, half') e))
+answer_once : (r q : Result (Option ℕ) Barren) → answer_of r ≡ answer_of q → r ≡ q
+answer_once (Err r) (Err q) e = ap (λ (h : ℕ). Err (record { half = h })) (ap place_of e)
+answer_once (Err r) (Ok None) e = cc
+answer_once (Err r) (Ok (Some half)) e = cc
+answer_once (Ok None) (Err q) e = cc
+answer_once (Ok None) (Ok None) e = refl
+answer_once (Ok None) (Ok (Some half)) e = absurd (omega (arith, ap (λ (n : ℕ × ℕ). n.0) (fine_same (1, 0) (0, half) e)))
+answer_once (Ok (Some half)) (Err q) e = cc
+answer_once (Ok (Some half)) (Ok None) e = absurd (omega (arith, ap (λ (n : ℕ × ℕ). n.0) (fine_same (0, half) (1, 0) e)))
+answer_once (Ok (Some half)) (Ok (Some half')) e = ap (λ (h : ℕ). Ok (Some h)) (ap (λ (n : ℕ × ℕ). n.1) (fine_same (0, half) (0, half') e))
 
-pub only_one : (row : List ℕ) (n m : ℕ) (r q : Weighed) → answer_of r ≡ weighed_of zone_f (fields_in row) n m → answer_of q ≡ weighed_of zone_f (fields_in row) n m → r ≡ q
+pub only_one : (row : List ℕ) (n m : ℕ) (r q : Result (Option ℕ) Barren) → answer_of r ≡ weighed_of zone_f (fields_in row) n m → answer_of q ≡ weighed_of zone_f (fields_in row) n m → r ≡ q
 only_one row n m r q e f = answer_once r q (e ∙ sym f)
 
 pub only_one_lowest : (row values values' : List ℕ) → values ≡ listed (lowest (permitted zone_f (fields_in row))) 0 8192

@@ -1,6 +1,9 @@
 -- What the marks of the code mean in the rules: which values a mark permits.
 use Rattle.std.specs.Prelude.{◌≡◌, Bool, cond, ◌&&◌, List, ℕ, ◌*◌, ◌/◌, ◌%◌, ◌<◌, leb, eqb, get_or}
-use Rattle.rules.specs.Permitted.{any, count, first_of}
+use Rattle.rules.specs.Permitted.{any, count, first_of, allows}
+use Rattle.rules.specs.Lent.{zone_f}
+use Rattle.terms.specs.Meaning.{field_of}
+use Rattle.terms.specs.declared.Field.{Field}
 use Rattle.terms.specs.declared.Kind.{Kind}
 use Rattle.terms.specs.declared.Kind.TheVariants.{Copy, Pack, Unpack}
 
@@ -19,6 +22,10 @@ choices_of a = count (mark_allows a) 16
 -- a mark permits just the halves that pass a test
 abbrev pub MarkSays : ℕ → (ℕ → Bool) → Type 0
 MarkSays a p = (v : ℕ) → v < 16 → mark_allows a v ≡ p v
+
+-- half h has mark b after a field, where it had mark a: it permits what both permit
+unfoldable pub Met : Field → ℕ → ℕ → ℕ → Type 0
+Met f h a b = MarkSays b (λ v. allows zone_f (field_of f) h v && mark_allows a v)
 
 -- of how many halves of its input a field asks something: a copy takes any value
 unfoldable pub asking_of : Kind → ℕ → ℕ

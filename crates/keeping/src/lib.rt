@@ -2,6 +2,7 @@
 #![tactic(auto)]
 
 ghost use Rattle.std.specs.Prelude.{◌≡◌, false, not, ◌&&◌, List, ℕ, ◌*◌, ◌≤◌, ◌<◌, ltb, eqb, length, get_or};
+ghost use Rattle.std.specs.List.{position};
 ghost use Rattle.rules.specs.Base.{every};
 ghost use Rattle.rules.specs.Halves.{Source, sources as sourcesBy};
 ghost use Rattle.rules.specs.Permitted.{kind_allows, permitted as permittedBy};
@@ -12,8 +13,9 @@ ghost use Rattle.rules.specs.Lent.{zone_f};
 ghost use Rattle.terms.specs.Meaning.{field_of};
 ghost use Rattle.rows.specs.Kept.{fields_in};
 ghost use Rattle.sources.specs.Promise.{FieldInside, RowInside, AllZero, Stand};
-ghost use Rattle.keeping.specs.Marks.{choices_of, MarkSays, asking_of, permits_in, lowest_of};
-ghost use Rattle.keeping.specs.Promise.{answer_of, barren_of, weighed_of};
+ghost use Rattle.sources.proofs.Seen.{Seen};
+ghost use Rattle.keeping.specs.Marks.{choices_of, MarkSays, Met, asking_of, permits_in, lowest_of};
+ghost use Rattle.keeping.specs.Promise.{answer_of, place_below, barren_of, weighed_of};
 
 use terms::{Field, Kind};
 
@@ -32,12 +34,10 @@ const ZONE_MARK: u8 = 3;
 // So many output halves are looked at before an input half is looked for again.
 const BLOCK: usize = 64;
 
-// What a plan's fields do to its records: no value of a half would do for all of them; every half is kept; or some half is lost.
-#[derive(Clone, Copy)]
-pub enum Weighed {
-    Barren { half: usize },
-    Kept,
-    Lost { half: usize },
+// Refusal 10: no value of a half would do for all fields.
+#[derive(Clone, Copy, Debug, PartialEq, Eq)]
+pub struct Barren {
+    pub half: usize,
 }
 
 // Whether a mark permits no value.
@@ -82,6 +82,7 @@ fn mark_of(f: Field, j: usize) -> u8
 }
 
 // Of how many halves of its input a field asks something: a copy takes any value, so its halves need no walk.
+#[tactic(auto, unfolding(crate::specs::Marks::asking_of))]
 fn asking(f: Field) -> usize
     requires { FieldInside 4096 4096 f }
     ensures { result ≡ asking_of f.kind f.input }
@@ -89,30 +90,30 @@ fn asking(f: Field) -> usize
     let kind = f.kind;
     match kind {
         Kind::Copy => 0,
-        Kind::Pack => 2 * f.input,
-        Kind::Unpack => 2 * f.input,
+        Kind::Pack | Kind::Unpack => 2 * f.input,
     }
 }
 
-// The marks of all fields: a half read by several must satisfy them all. Each goes through those halves alone of which it asks something.
+// What one field adds to the marks: it goes through those halves alone of which it asks something.
+fn mark_field(f: Field, marks: &mut [u8; 8192])
+    requires field_inside { FieldInside 4096 4096 f }
+    requires marks_len { length marks.old ≡ 8192 }
+    ensures { (length marks.new ≡ 8192) × ((h : ℕ) → h < 8192 → Met f h (get_or marks.old h 0) (get_or marks.new h 0)) }
+{
+    let from = 2 * f.r - 2;
+    for j in 0..asking(f) {
+        marks[from + j] |= mark_of(f, j);
+    }
+}
+
+// The marks of all fields: a half read by several must satisfy them all.
 fn permitted(fields: &[u16], marks: &mut [u8; 8192])
     requires row_inside { RowInside fields.now 4096 4096 }
     requires all_zero { AllZero marks.old }
     ensures { (length marks.new ≡ 8192) × ((h : ℕ) → h < 8192 → MarkSays (get_or marks.new h 0) (permittedBy zone_f (fields_in fields.now) h)) }
 {
-    let count = fields.len() / 5;
-    let mut k = 0;
-    while k < count {
-        let f = rows::field_at(fields, k);
-        let from = 2 * f.r - 2;
-        let many = asking(f);
-        let mut j = 0;
-        while j < many {
-            let at = from + j;
-            marks[at] = marks[at] | mark_of(f, j);
-            j += 1;
-        }
-        k += 1;
+    for k in 0..fields.len() / 5 {
+        mark_field(rows::field_at(fields, k), marks);
     }
 }
 
@@ -121,105 +122,85 @@ fn is_fruitful(marks: &[u8]) -> bool
     ensures { result ≡ every (λ (a : ℕ). not (eqb (choices_of a) 0)) marks.now }
 {
     let mut good = true;
-    let mut h = 0;
-    while h < marks.len() {
-        if is_barren(marks[h]) {
+    for mark in marks {
+        if is_barren(*mark) {
             good = false;
         }
-        h += 1;
     }
     good
 }
 
-// The lowest of the 2n halves with no permitted value, or 2n.
-fn barren_half(marks: &[u8], n: usize) -> usize
+// The first mark that permits no value.
+fn first_barren(marks: &[u8]) -> Option<usize>
+    ensures { result ≡ position (λ (a : ℕ). eqb (choices_of a) 0) marks.now }
+{
+    marks.iter().position(|mark| is_barren(*mark))
+}
+
+// The lowest of the 2n halves with no permitted value.
+fn barren_half(marks: &[u8], n: usize) -> Option<usize>
     requires { (n ≤ 4096) × (2 * n ≤ length marks.now) }
-    ensures { result ≡ barren_of (permits_in marks.now) n }
+    ensures { result ≡ place_below (2 * n) (barren_of (permits_in marks.now) n) }
 {
-    let many = 2 * n;
-    if is_fruitful(&marks[..many]) {
-        return many;
+    let marks = &marks[..2 * n];
+    if is_fruitful(marks) {
+        return None;
     }
-    let mut h = 0;
-    while h < many {
-        if is_barren(marks[h]) {
-            return h;
+    first_barren(marks)
+}
+
+// Which input halves the output halves from g up to a stop are taken from.
+fn see(sources: &[u16; 8192], g: usize, stop: usize, seen: &mut [bool; 8192])
+    requires bounds { (g ≤ stop) × (stop ≤ 8192) × ((i : ℕ) → i < stop → get_or sources.now i 0 ≤ 8192) }
+    requires seen_before { Seen sources.now g seen.old }
+    ensures { Seen sources.now stop seen.new }
+{
+    for i in g..stop {
+        let from = sources[i] as usize;
+        if 0 < from {
+            seen[from - 1] = true;
         }
-        h += 1;
     }
-    many
 }
 
-// Where a block of output halves ends that begins at g.
-fn block_end(g: usize, outputs: usize) -> usize
-    requires { (g < outputs) × (outputs ≤ 8192) }
-    ensures { (g < result) × (result ≤ outputs) }
-{
-    if BLOCK < outputs - g {
-        return g + BLOCK;
-    }
-    outputs
-}
-
-// The lowest of the 2n input halves with two or more permitted values from which none of the 2m output halves is taken, or 2n. The walk over the output
-// halves goes on where it last stood, some at a time, so each of them is looked at once in all.
-fn lost_half(marks: &[u8; 8192], sources: &[u16; 8192], n: usize, width: usize) -> usize
+// The lowest of the 2n input halves with two or more permitted values from which none of the 2m output halves is taken. The walk over the output halves goes
+// on where it last stood, some at a time, so each of them is looked at once in all.
+fn lost_half(marks: &[u8; 8192], sources: &[u16; 8192], n: usize, width: usize) -> Option<usize>
     requires { (n ≤ 4096) × (width ≤ 4096) × ((g : ℕ) → g < 2 * width → get_or sources.now g 0 ≤ 8192) }
-    ensures { (ss : List Source) → length ss ≡ 2 * width → Stand sources.now ss → result ≡ lost_half (permits_in marks.now) ss (2 * n) }
+    ensures { (ss : List Source) → length ss ≡ 2 * width → Stand sources.now ss → result ≡ place_below (2 * n) (lost_half (permits_in marks.now) ss (2 * n)) }
 {
-    let inputs = 2 * n;
     let outputs = 2 * width;
     let mut seen = [false; 8192];
-    let mut h: usize = 0;
     let mut g = 0;
-    let place = 'walk: loop {
-        if inputs <= h {
-            break 'walk inputs;
-        }
-        if seen[h] {
-            h += 1;
-            continue 'walk;
-        }
+    for h in 0..2 * n {
         if is_narrow(marks[h]) {
-            h += 1;
-            continue 'walk;
+            continue;
         }
         while !seen[h] {
             if outputs <= g {
-                break 'walk h;
+                return Some(h);
             }
-            let stop = block_end(g, outputs);
-            while g < stop {
-                let from = sources[g] as usize;
-                if 0 < from {
-                    seen[from - 1] = true;
-                }
-                g += 1;
-            }
+            let stop = (g + BLOCK).min(outputs);
+            see(sources, g, stop, &mut seen);
+            g = stop;
         }
-        h += 1;
-    };
-    place
+    }
+    None
 }
 
-// What the fields of a plan do to records of n bytes, which become m bytes.
-pub fn weigh(fields: &[u16], n: usize, width: usize) -> Weighed
+// What the fields of a plan do to records of n bytes, which become m bytes: the lowest half that is lost, or none where every half is kept.
+pub fn weigh(fields: &[u16], n: usize, width: usize) -> Result<Option<usize>, Barren>
     requires { RowInside fields.now n width }
     ensures { answer_of result ≡ weighed_of zone_f (fields_in fields.now) n width }
 {
     let mut marks = [0u8; 8192];
     permitted(fields, &mut marks);
-    let barren = barren_half(&marks, n);
-    if barren < 2 * n {
-        return Weighed::Barren { half: barren };
+    if let Some(half) = barren_half(&marks, n) {
+        return Err(Barren { half });
     }
     let mut taken = [0u16; 8192];
     sources::sources(fields, &mut taken);
-    let lost = lost_half(&marks, &taken, n, width);
-    if lost < 2 * n {
-        return Weighed::Lost { half: lost };
-    }
-    Weighed::Kept
+    Ok(lost_half(&marks, &taken, n, width))
 }
 
 // The lowest value that a mark permits; 16 where it permits none.
@@ -227,28 +208,26 @@ fn lowest(mark: u8) -> u8
     ensures { result ≡ lowest_of mark }
 {
     if mark % 2 == 0 {
-        return 0;
+        0
+    } else if mark % 4 == 1 {
+        10
+    } else if is_barren(mark) {
+        16
+    } else {
+        15
     }
-    if mark % 4 == 1 {
-        return 10;
-    }
-    if is_barren(mark) {
-        return 16;
-    }
-    15
 }
 
 // The lowest value that each half may have, for all fields: the marks, each of which gives way to its value.
+// It and `missing_halves` share a loop of one line alone: one function that took what each mark gives way to as a closure would be no plainer.
 pub fn lowest_halves(fields: &[u16], values: &mut [u8; 8192])
     requires row_inside { RowInside fields.now 4096 4096 }
     requires all_zero { AllZero values.old }
     ensures { values.new ≡ listed (lowestBy (permittedBy zone_f (fields_in fields.now))) 0 8192 }
 {
     permitted(fields, values);
-    let mut h = 0;
-    while h < 8192 {
-        values[h] = lowest(values[h]);
-        h += 1;
+    for value in values.iter_mut() {
+        *value = lowest(*value);
     }
 }
 
@@ -258,14 +237,7 @@ fn seen_halves(sources: &[u16; 8192], width: usize) -> [bool; 8192]
     ensures { (ss : List Source) → length ss ≡ 2 * width → Stand sources.now ss → (h : ℕ) → h < 8192 → get_or result h false ≡ occurs h ss }
 {
     let mut seen = [false; 8192];
-    let mut g = 0;
-    while g < 2 * width {
-        let from = sources[g] as usize;
-        if 0 < from {
-            seen[from - 1] = true;
-        }
-        g += 1;
-    }
+    see(sources, 0, 2 * width, &mut seen);
     seen
 }
 
@@ -273,13 +245,7 @@ fn seen_halves(sources: &[u16; 8192], width: usize) -> [bool; 8192]
 fn missing_mark(mark: u8, seen: bool) -> u8
     ensures { result ≡ bit (not (ltb (choices_of mark) 2) && not seen) }
 {
-    if seen {
-        return 0;
-    }
-    if is_narrow(mark) {
-        return 0;
-    }
-    1
+    u8::from(!is_narrow(mark) && !seen)
 }
 
 // Which halves are missing from the output of records of n bytes, which become m bytes: 1, or 0 for the others. The marks give way to it.
@@ -292,9 +258,7 @@ pub fn missing_halves(fields: &[u16], n: usize, width: usize, halves: &mut [u8; 
     let mut taken = [0u16; 8192];
     sources::sources(fields, &mut taken);
     let seen = seen_halves(&taken, width);
-    let mut h = 0;
-    while h < 8192 {
-        halves[h] = missing_mark(halves[h], seen[h]);
-        h += 1;
+    for (h, half) in halves.iter_mut().enumerate() {
+        *half = missing_mark(*half, seen[h]);
     }
 }

@@ -7,6 +7,8 @@ use Prim.Native.Nat.{ℕ, ◌*◌}
 use native.Mathlib.Omega.{arith}
 use lib.Dec.{eqb}
 use borrow.Author.Tests.{eqb-true, eq-eqb}
+use Rattle.std.proofs.Common.{Option, Some, None, Result, Ok, Err}
+use Rattle.std.specs.Option.{option_or}
 use Rattle.rules.specs.Halves.{Field as RuleField}
 use Rattle.rules.specs.Answer.{Answer, fine, refused, refusal_of, place_of, ◌>>=◌, ◌>>◌}
 use Rattle.rules.specs.Asked.{Asked as RuleAsked}
@@ -17,19 +19,28 @@ use Rattle.rules.proofs.Refusals.PlanSteps.{no_barren, keeps_carried}
 use Rattle.terms.specs.Meaning.{mode_of, format_of, size_of, laid_fields, plan_in}
 use Rattle.terms.proofs.PlanOf.{plan_means}
 use Rattle.terms.specs.declared.Asked.{Asked}
-use Rattle.combinations.specs.Promise.{combined_of}
+use Rattle.combinations.specs.Promise.{combined_of, answer_of as combination}
+use Rattle.combinations.specs.declared.Unsound.{Unsound}
+use Rattle.combinations.specs.declared.Unsound.TheVariants.{Broken, Outside}
 use Rattle.combinations.proofs.CombineLaws.{refusal10, combined_same, laid_same}
 use Rattle.keeping.specs.Promise.{weighed_of, answer_of as weighed}
-use Rattle.keeping.specs.declared.Weighed.{Weighed}
+use Rattle.keeping.specs.declared.Barren.{Barren}
 use Rattle.keeping.proofs.PlanLaws.{weighed_is}
-use Rattle.plans.specs.Verdict.{planned, mark_of, verdict_answer, SaysAsked, Weighs, SaysSome, tail_told}
-use Rattle.plans.specs.declared.verdict.Verdict.{Verdict}
-use Rattle.plans.specs.declared.verdict.Verdict.TheVariants.{Refused, Keeping, Losing}
+use Rattle.plans.specs.Verdict.{planned, mark_of, verdict_answer, unsound_as, SaysAsked, Weighs, SaysSome, tail_told}
+use Rattle.plans.specs.declared.verdict.Refused.{Refused}
 use Rattle.plans.proofs.FairLaws.{no_field_lem}
 
 -- where no half is lost, the tail decides; its lost place is 2n
 abbrev pub by_tail : Bool → ℕ → ℕ × ℕ → Answer (ℕ × ℕ)
 by_tail tail halves n = fine (cond (eqb n.0 1) (cond tail (1, 0) (0, halves)) n)
+
+-- the lost half, or else the lost tail, is what both answer
+pub or_tail : (tail : Bool) (halves : ℕ) (lost : Option ℕ)
+    → verdict_answer (Ok (option_or lost (cond tail None (Some halves)))) ≡ (weighed (Ok lost) >>= by_tail tail halves)
+unfolding ◌>>=◌
+or_tail tail halves (Some h) = refl
+or_tail true halves None = refl
+or_tail false halves None = refl
 
 with_tail : (tail : Bool) (lost halves : ℕ)
     → by_tail tail halves (cond (eqb lost halves) (1, 0) (0, lost)) ≡ fine (bit (eqb lost halves && tail), cond (eqb lost halves && tail) 0 lost)
@@ -57,9 +68,13 @@ module _ (x : Asked) (row : List ℕ) (a : RuleAsked) (h : SaysAsked x row a) wh
       ap (λ (z : Answer Unit). z >> fine (assembled zone_f a)) (combined_same zone_f x a h.means h.utility h.fields)
       ∙ then_assoc (combined_of x fs) (refusal10 (assembled zone_f a)) (fine (assembled zone_f a))
 
-  pub combined_refused : (number place : ℕ) → refused number place ≡ combined_of x fs → refused number place ≡ mark_of (planned zone_f a)
+  combined_refused : (number place : ℕ) → refused number place ≡ combined_of x fs → refused number place ≡ mark_of (planned zone_f a)
   unfolding ◌>>◌ ◌>>=◌ mark_of
   combined_refused number place e = sym (ap mark_of (answered ∙ ap (λ (z : Answer Unit). z >> (refusal10 (assembled zone_f a) >> fine (assembled zone_f a))) (sym e)))
+
+  pub combined_unsound : (u : Unsound) → combination (Err u) ≡ combined_of x fs → verdict_answer (Err (unsound_as u)) ≡ mark_of (planned zone_f a)
+  combined_unsound (Broken place) e = combined_refused 8 place e
+  combined_unsound (Outside field) e = combined_refused 9 field e
 
   module _ (sound : combined_of x fs ≡ fine tt) where
     -- where nothing is refused, it is the plan of the rules
@@ -78,7 +93,7 @@ module _ (x : Asked) (row : List ℕ) (a : RuleAsked) (h : SaysAsked x row a) wh
     carried s = sym (on_plan ∙ fine_then (refusal10 p) _ (fine_unless _ 10 _ (eq-eqb _ _ (no_barren p (no_field_lem x a fs h.means sound s)))) ∙ rw (keeps_carried p s))
 
     -- in TF and TRF: what weighing answers, and then the tail
-    pub by_weighing : selects (mode_of x.mode) ≡ true → (w : Weighed) → weighed w ≡ weighed_of zone_f fs n (record_length (size_of x.output))
+    pub by_weighing : selects (mode_of x.mode) ≡ true → (w : Result (Option ℕ) Barren) → weighed w ≡ weighed_of zone_f fs n (record_length (size_of x.output))
         → (weighed w >>= by_tail (tail_told (format_of x.format) x.cv n (block_length (size_of x.input))) (2 * n)) ≡ mark_of (planned zone_f a)
     unfolding plan_in keeps tail_kept input_halves
     by_weighing s w e =
@@ -99,17 +114,17 @@ module _ (x : Asked) (row : List ℕ) (a : RuleAsked) (h : SaysAsked x row a) wh
 -- ---- one verdict
 
 -- no two verdicts answer the same
-pub answer_once : (r q : Verdict) → verdict_answer r ≡ verdict_answer q → r ≡ q
-answer_once (Refused number place) (Refused number' place') e = ap₂ Refused (ap refusal_of e) (ap place_of e)
-answer_once (Refused number place) Keeping e = cc
-answer_once (Refused number place) (Losing half) e = cc
-answer_once Keeping (Refused number place) e = cc
-answer_once Keeping Keeping e = refl
-answer_once Keeping (Losing half) e = absurd (omega (arith, ap (λ (n : ℕ × ℕ). n.0) (fine_same (1, 0) (0, half) e)))
-answer_once (Losing half) (Refused number place) e = cc
-answer_once (Losing half) Keeping e = absurd (omega (arith, ap (λ (n : ℕ × ℕ). n.0) (fine_same (0, half) (1, 0) e)))
-answer_once (Losing half) (Losing half') e = ap Losing (ap (λ (n : ℕ × ℕ). n.1) (fine_same (0, half) (0, half') e))
+pub answer_once : (r q : Result (Option ℕ) Refused) → verdict_answer r ≡ verdict_answer q → r ≡ q
+answer_once (Err r) (Err q) e = ap₂ (λ (number place : ℕ). Err (record { number = number; place = place })) (ap refusal_of e) (ap place_of e)
+answer_once (Err r) (Ok None) e = cc
+answer_once (Err r) (Ok (Some half)) e = cc
+answer_once (Ok None) (Err q) e = cc
+answer_once (Ok None) (Ok None) e = refl
+answer_once (Ok None) (Ok (Some half)) e = absurd (omega (arith, ap (λ (n : ℕ × ℕ). n.0) (fine_same (1, 0) (0, half) e)))
+answer_once (Ok (Some half)) (Err q) e = cc
+answer_once (Ok (Some half)) (Ok None) e = absurd (omega (arith, ap (λ (n : ℕ × ℕ). n.0) (fine_same (0, half) (1, 0) e)))
+answer_once (Ok (Some half)) (Ok (Some half')) e = ap (λ (h : ℕ). Ok (Some h)) (ap (λ (n : ℕ × ℕ). n.1) (fine_same (0, half) (0, half') e))
 
-pub verdict_only_one : (x : Asked) (row : List ℕ) → SaysSome x row → (r q : Verdict) → Weighs x row r → Weighs x row q → r ≡ q
+pub verdict_only_one : (x : Asked) (row : List ℕ) → SaysSome x row → (r q : Result (Option ℕ) Refused) → Weighs x row r → Weighs x row q → r ≡ q
 unfolding Weighs
 verdict_only_one x row w r q j k = answer_once r q (j w.asked w.says ∙ sym (k w.asked w.says))

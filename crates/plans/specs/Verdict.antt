@@ -1,5 +1,5 @@
 -- What is promised of the verdict on what a deck asks for: it is what the rules answer.
-use Rattle.std.specs.Prelude.{◌≡◌, Bool, cond, not, ◌||◌, List, ℕ, ◌+◌, eqb}
+use Rattle.std.specs.Prelude.{◌≡◌, Bool, cond, not, ◌||◌, List, ℕ, ◌+◌, eqb, Option, Some, None, Result, Ok, Err}
 use Rattle.rules.specs.Base.{◌⇒◌, joined}
 use Rattle.rules.specs.Places.{All}
 use Rattle.rules.specs.Answer.{Answer, fine, refused, ◌>>=◌, ◌>>◌}
@@ -11,8 +11,9 @@ use Rattle.rules.specs.Lent.{zone_f}
 use Rattle.terms.specs.Meaning.{Means, laid_fields}
 use Rattle.terms.specs.declared.Asked.{Asked}
 use Rattle.rows.specs.Flat.{flat_of}
-use Rattle.plans.specs.declared.verdict.Verdict.{Verdict}
-use Rattle.plans.specs.declared.verdict.Verdict.TheVariants.{Refused, Keeping, Losing}
+use Rattle.combinations.specs.declared.Unsound.{Unsound}
+use Rattle.combinations.specs.declared.Unsound.TheVariants.{Broken, Outside}
+use Rattle.plans.specs.declared.verdict.Refused.{Refused}
 
 -- ---- verdicts
 
@@ -24,11 +25,16 @@ planned zone a = combined zone a >> fine (assembled zone a)
 unfoldable pub mark_of : Answer Plan → Answer (ℕ × ℕ)
 mark_of x = x >>= λ p. fine (bit (keeps p), cond (keeps p) 0 (lost_at p))
 
--- what each verdict answers: its refusal, or these two numbers
-abbrev pub verdict_answer : Verdict → Answer (ℕ × ℕ)
-verdict_answer (Refused number place) = refused number place
-verdict_answer Keeping = fine (1, 0)
-verdict_answer (Losing half) = fine (0, half)
+-- what each verdict answers: its refusal, or these two numbers, where no lost place is keeping
+abbrev pub verdict_answer : Result (Option ℕ) Refused → Answer (ℕ × ℕ)
+verdict_answer (Err r) = refused r.number r.place
+verdict_answer (Ok None) = fine (1, 0)
+verdict_answer (Ok (Some half)) = fine (0, half)
+
+-- the numbers of refusals 8 and 9
+abbrev pub unsound_as : Unsound → Refused
+unsound_as (Broken place) = record { number = 8; place = place }
+unsound_as (Outside field) = record { number = 9; place = field }
 
 -- the struct and the row say what is asked for, its numbers within their limits
 pub record SaysAsked (x : Asked) (row : List ℕ) (a : RuleAsked) : Type 0 where
@@ -38,7 +44,7 @@ pub record SaysAsked (x : Asked) (row : List ℕ) (a : RuleAsked) : Type 0 where
   pub flat : row ≡ flat_of (laid_fields a)
 
 -- they are judged as what they say is in the rules
-unfoldable pub Weighs : Asked → List ℕ → Verdict → Type 0
+unfoldable pub Weighs : Asked → List ℕ → Result (Option ℕ) Refused → Type 0
 Weighs x row r = (a : RuleAsked) → SaysAsked x row a → verdict_answer r ≡ mark_of (planned zone_f a)
 
 -- ---- what it asks

@@ -5,11 +5,10 @@ mod verdict;
 
 ghost use Rattle.std.specs.Prelude.{◌≡◌, [], ◌*◌, ◌≤◌, length, take};
 ghost use Rattle.rows.specs.Kept.{row_of};
-ghost use Rattle.plans.specs.Verdict.{SaysSome};
-ghost use Rattle.plans.specs.Promise.{refused_plan, refused_deck_plan, kept_as, Verdicts, Plans};
+ghost use Rattle.plans.specs.Verdict.{verdict_answer, SaysSome};
+ghost use Rattle.plans.specs.Promise.{refused_plan, refused_deck_plan, planned_by, Verdicts, Plans};
 
 use terms::Asked;
-use verdict::Verdict;
 pub use verdict::tail_kept;
 
 // What a plan answers: refusal, place, column, 1 for keeping or 0, lost place or 0, field count. In C it lies as it stands here.
@@ -55,15 +54,16 @@ fn refused_deck(number: usize, place: usize, column: usize) -> DeckPlan
     DeckPlan { answer, asked }
 }
 
-fn accepted(asked: Asked, keeping: usize, lost: usize) -> DeckPlan
-    ensures { result ≡ kept_as asked keeping lost }
+// It keeps where there is no lost place.
+fn accepted(asked: Asked, lost: Option<usize>) -> DeckPlan
+    ensures { result ≡ planned_by asked (verdict_answer (Ok lost)) }
 {
     let answer = Planned {
         refusal: 0,
         place: 0,
         column: 0,
-        keeping,
-        lost,
+        keeping: usize::from(lost.is_none()),
+        lost: lost.unwrap_or(0),
         fields: asked.count,
     };
     DeckPlan { answer, asked }
@@ -76,11 +76,9 @@ fn judged(asked: Asked, row: &[u16]) -> DeckPlan
     ensures { Verdicts asked (take (5 * asked.count) row.now) result }
 {
     let end = 5 * asked.count;
-    let verdict = verdict::weigh_plan(asked, &row[..end]);
-    match verdict {
-        Verdict::Refused { number, place } => refused_deck(number, place, 0),
-        Verdict::Keeping => accepted(asked, 1, 0),
-        Verdict::Losing { half } => accepted(asked, 0, half),
+    match verdict::weigh_plan(asked, &row[..end]) {
+        Ok(lost) => accepted(asked, lost),
+        Err(refused) => refused_deck(refused.number, refused.place, 0),
     }
 }
 

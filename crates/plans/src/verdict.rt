@@ -4,17 +4,42 @@ ghost use Rattle.rules.specs.Answer.{fine};
 ghost use Rattle.terms.specs.Meaning.{format_of};
 ghost use Rattle.rows.specs.Kept.{fields_in};
 ghost use Rattle.combinations.specs.Promise.{AskedFair, combined_of};
-ghost use Rattle.plans.specs.Verdict.{verdict_answer, tail_told, SaysSome, Weighs};
+ghost use Rattle.plans.specs.Verdict.{unsound_as, tail_told, SaysSome, Weighs};
 
-use combinations::Combined;
-use keeping::Weighed;
+use combinations::Unsound;
+use keeping::Barren;
 use terms::{Asked, Format};
 
-#[derive(Clone, Copy)]
-pub(crate) enum Verdict {
-    Refused { number: usize, place: usize },
-    Keeping,
-    Losing { half: usize },
+// One of refusals 8 to 10 and its place. No byte of a card is at fault, so these have no column.
+#[derive(Clone, Copy, Debug, PartialEq, Eq)]
+pub(crate) struct Refused {
+    pub number: usize,
+    pub place: usize,
+}
+
+impl From<Unsound> for Refused {
+    ghost from_gives = { λ unsound refused. refused ≡ unsound_as unsound };
+
+    fn from(unsound: Unsound) -> Refused {
+        match unsound {
+            Unsound::Broken { place } => Refused { number: 8, place },
+            Unsound::Outside { field } => Refused {
+                number: 9,
+                place: field,
+            },
+        }
+    }
+}
+
+impl From<Barren> for Refused {
+    ghost from_gives = { λ barren refused. refused ≡ record { number = 10; place = barren.half } };
+
+    fn from(barren: Barren) -> Refused {
+        Refused {
+            number: 10,
+            place: barren.half,
+        }
+    }
 }
 
 // Whether what stands past the first n bytes of a record is kept: in FV by CV, or since a block of n+8 bytes holds no more.
@@ -22,64 +47,45 @@ pub fn tail_kept(format: Format, cv: usize, n: usize, m: usize) -> bool
     requires { n ≤ 4096 }
     ensures { result ≡ tail_told (format_of format) cv n m }
 {
-    if !terms::is_fv(format) {
-        return true;
-    }
-    if cv != 0 {
-        return true;
-    }
-    m == n + 8
+    !terms::is_fv(format) || cv != 0 || m == n + 8
 }
 
-// Where no half of the first n bytes is missing, the tail decides; its lost place is 2n.
-fn by_tail(format: Format, cv: usize, n: usize, m: usize) -> Verdict
+// The lost place of the tail where it is lost, 2n.
+fn lost_tail(format: Format, cv: usize, n: usize, m: usize) -> Option<usize>
     requires { n ≤ 4096 }
-    ensures { verdict_answer result ≡ fine (cond (tail_told (format_of format) cv n m) (1, 0) (0, 2 * n)) }
+    ensures { result ≡ cond (tail_told (format_of format) cv n m) None (Some (2 * n)) }
 {
-    if !tail_kept(format, cv, n, m) {
-        let half = 2 * n;
-        return Verdict::Losing { half };
+    if tail_kept(format, cv, n, m) {
+        return None;
     }
-    Verdict::Keeping
+    Some(2 * n)
 }
 
-// Where combinations and fields are right. TC and TR plans keep: they have no fields, and carry records unchanged.
-fn by_halves(asked: Asked, fields: &[u16]) -> Verdict
+// Where combinations and fields are right: the lowest half that is lost, or else the tail. TC and TR plans keep: they have no fields, and carry records
+// unchanged.
+fn by_halves(asked: Asked, fields: &[u16]) -> Result<Option<usize>, Refused>
     requires asked_fair { AskedFair asked fields.now × (length fields.now ≤ 320) }
     requires fields_value { combined_of asked (fields_in fields.now) ≡ fine tt }
     ensures { Weighs asked fields.now result }
 {
     let mode = asked.mode;
     if !terms::selects(mode) {
-        return Verdict::Keeping;
+        return Ok(None);
     }
     let input = asked.input;
     let output = asked.output;
     let n = terms::record_length(input);
-    let weighed = keeping::weigh(fields, n, terms::record_length(output));
+    let lost = keeping::weigh(fields, n, terms::record_length(output))?;
     let format = asked.format;
-    match weighed {
-        Weighed::Barren { half } => Verdict::Refused {
-            number: 10,
-            place: half,
-        },
-        Weighed::Lost { half } => Verdict::Losing { half },
-        Weighed::Kept => by_tail(format, asked.cv, n, terms::block_length(input)),
-    }
+    let tail = lost_tail(format, asked.cv, n, terms::block_length(input));
+    Ok(lost.or(tail))
 }
 
-// Refusal 8 before 9 before 10 before the lost place.
-pub(crate) fn weigh_plan(asked: Asked, fields: &[u16]) -> Verdict
+// Refusal 8 before 9 before 10 before the lost place, or none where the plan keeps.
+pub(crate) fn weigh_plan(asked: Asked, fields: &[u16]) -> Result<Option<usize>, Refused>
     requires { SaysSome asked fields.now }
     ensures { Weighs asked fields.now result }
 {
-    let combined = combinations::combine(asked, fields);
-    match combined {
-        Combined::Broken { place } => Verdict::Refused { number: 8, place },
-        Combined::Outside { field } => Verdict::Refused {
-            number: 9,
-            place: field,
-        },
-        Combined::Sound => by_halves(asked, fields),
-    }
+    combinations::combine(asked, fields)?;
+    by_halves(asked, fields)
 }

@@ -7,15 +7,14 @@ use Rattle.terms.specs.Meaning.{field_of}
 use Rattle.terms.proofs.FieldLaws.{input_size_lem, output_size_lem}
 use Rattle.combinations.proofs.lies_inside.Goals as goal
 
-pub returns-then-a-f : goal.returns-then-a-f
+pub returns-then-f-a : goal.returns-then-f-a
 unfolding inside field_of
-returns-then-a-f c =
-    let a = c.args in
-    let f = a.f in
-    rw (input_size_lem f.kind f.input f.output, lt-leb (f.r + f.input - 1) a.a (omega arith))
-
-pub returns : goal.returns
-unfolding inside field_of
-returns c =
+returns-then-f-a c =
     let f = c.args.f in
-    rw (input_size_lem f.kind f.input f.output, output_size_lem f.kind f.input f.output c.requires.one_size, le-leb (f.r + f.input - 1) c.args.a (omega arith))
+    rw (input_size_lem f.kind f.input f.output, output_size_lem f.kind f.input f.output c.requires.one_size, le-leb (f.r + f.input - 1) c.args.a c.if-f-a.true)
+
+pub returns-else-f-a : goal.returns-else-f-a
+unfolding inside field_of
+returns-else-f-a c =
+    let f = c.args.f in
+    rw (input_size_lem f.kind f.input f.output, lt-leb (f.r + f.input - 1) c.args.a (omega (arith, c.if-f-a.false)))

@@ -1,4 +1,4 @@
--- `keeping::lowest` meets its contract: by the three bits of the mark.
+-- By the three bits of the mark.
 use mathlib.Core.Path.{sym, ◌∙◌}
 use Rattle.keeping.proofs.Meets.{lowest_digit, lowest_letter, lowest_none, lowest_zone}
 use Rattle.keeping.proofs.lowest.Goals as goal
@@ -12,5 +12,5 @@ returns-then-mark-eq1 c = lowest_letter _ c.if-mark-eq1.true
 pub returns-then-is_barren : goal.returns-then-is_barren
 returns-then-is_barren c = lowest_none _ (sym c.is_barren.ensures ∙ c.if-is_barren.true)
 
-pub returns : goal.returns
-returns c = lowest_zone _ c.if-mark-eq0.false c.if-mark-eq1.false (sym c.is_barren.ensures ∙ c.if-is_barren.false)
+pub returns-else-is_barren : goal.returns-else-is_barren
+returns-else-is_barren c = lowest_zone _ c.if-mark-eq0.false c.if-mark-eq1.false (sym c.is_barren.ensures ∙ c.if-is_barren.false)

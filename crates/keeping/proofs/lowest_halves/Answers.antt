@@ -1,5 +1,4 @@
--- `keeping::lowest_halves` meets its contract: before each turn the halves below h have given way to their lowest values, and the others are
--- still marks.
+-- The halves before the value have given way to their lowest values, and the others are still marks.
 use mathlib.Core.Path.{◌∙◌}
 use native.Mathlib.Omega.{arith}
 use Rattle.rules.specs.Permitted.{permitted}
@@ -11,17 +10,17 @@ use Rattle.sources.proofs.Walk.{upto_none, upto_more}
 use Rattle.keeping.proofs.Meets.{lowest_says}
 use Rattle.keeping.proofs.lowest_halves.Goals as goal
 
-pub loop-h-init : goal.loop-h-init
-loop-h-init c = (c.permitted.ensures.0, upto_none _ _ _ _ (λ k a l. absurd (omega arith)))
+pub loop-value-init : goal.loop-value-init
+loop-value-init c = (c.permitted.ensures.0, upto_none _ _ _ _ (λ k a l. absurd (omega arith)))
 
-pub loop-h-preserved : goal.loop-h-preserved
-loop-h-preserved c =
-    let i = c.loop-h.invariant in
-    (i.0, upto_more _ _ _ _ _ _ _ (omega arith) (rw i.0 (omega arith)) c.lowest.ensures i.1)
+pub loop-value-preserved : goal.loop-value-preserved
+loop-value-preserved c =
+    let i = c.loop-value.invariant in
+    (i.0, upto_more _ _ _ _ _ _ _ (omega arith) (omega (arith, i.1.len)) c.lowest.ensures i.1)
 
 pub returns : goal.returns
 returns c =
-    let i = c.loop-h.invariant in
+    let i = c.loop-value.invariant in
     let row = c.args.fields.now in
     listed_all (lowest (permitted zone_f (fields_in row))) 8192 _ (i.1.len ∙ i.0)
-    (λ j l. i.1.low j (omega arith) (rw i.0 l) ∙ lowest_says _ _ j (c.permitted.ensures.1 j l))
+    (λ j l. i.1.low j (omega (arith, i.1.len)) (rw i.0 l) ∙ lowest_says _ _ j (c.permitted.ensures.1 j l))

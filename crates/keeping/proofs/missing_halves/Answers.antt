@@ -1,8 +1,7 @@
--- `keeping::missing_halves` meets its contract: before each turn the halves below h say whether they are missing, and the others are still marks.
-use mathlib.Core.Path.{◌∙◌}
+-- The halves below h say whether they are missing, and the others are still marks.
+use mathlib.Core.Path.{refl, ◌∙◌}
 use Prim.Native.Nat.{ℕ, ◌*◌}
 use native.Mathlib.Omega.{arith}
-use lib.ListN.{length-replicate}
 use Rattle.rules.specs.Halves.{sources}
 use Rattle.rules.specs.Permitted.{permitted}
 use Rattle.rules.specs.Keeping.{missing}
@@ -16,19 +15,16 @@ use Rattle.keeping.proofs.Searches.{missing_says}
 use Rattle.keeping.proofs.Weighs.{fair_longest, zeros}
 use Rattle.keeping.proofs.missing_halves.Goals as goal
 
-pub permitted-requires : goal.permitted-requires
-permitted-requires c = let pre = c.requires in
-    record { row_inside = fair_longest _ _ _ pre.row_inside; all_zero = pre.all_zero }
+pub permitted-requires-clause-row_inside : goal.permitted-requires-clause-row_inside
+permitted-requires-clause-row_inside c = fair_longest _ _ _ c.requires.row_inside
 
 pub sources-requires : goal.sources-requires
-sources-requires c = record { row_inside = fair_longest _ _ _ c.requires.row_inside; all_zero = (length-replicate {A = ℕ} 8192 0, zeros 8192) }
+sources-requires c = record { row_inside = fair_longest _ _ _ c.requires.row_inside; all_zero = (refl, zeros 8192) }
 
 pub seen_halves-seen-requires : goal.seen_halves-seen-requires
 seen_halves-seen-requires c =
-    let a = c.args in (
-      c.requires.row_inside.m_high,
-      numbers_few a.fields.now a.n a.width c.requires.row_inside _ (c.sources.ensures.1 a.n a.width c.requires.row_inside),
-    )
+    let a = c.args in
+    (c.requires.row_inside.m_high, numbers_few a.fields.now a.n a.width c.requires.row_inside _ (c.sources.ensures.1 a.n a.width c.requires.row_inside))
 
 pub loop-h-init : goal.loop-h-init
 loop-h-init c = (c.permitted.ensures.0, upto_none _ _ _ _ (λ k a l. absurd (omega arith)))
@@ -36,7 +32,7 @@ loop-h-init c = (c.permitted.ensures.0, upto_none _ _ _ _ (λ k a l. absurd (ome
 pub loop-h-preserved : goal.loop-h-preserved
 loop-h-preserved c =
     let i = c.loop-h.invariant in
-    (i.0, upto_more _ _ _ _ _ _ _ (omega arith) (rw i.0 (omega arith)) c.missing_mark.ensures i.1)
+    (i.0, upto_more _ _ _ _ _ _ _ (omega arith) (omega (arith, i.1.len)) c.missing_mark.ensures i.1)
 
 pub returns : goal.returns
 returns c =
@@ -46,6 +42,6 @@ returns c =
     let ss = sources zone_f a.width (fields_in row) (2 * a.n) in
     let stand = c.sources.ensures.1 a.n a.width c.requires.row_inside in
     listed_all (λ (h : ℕ). bit (missing (permitted zone_f (fields_in row)) ss h)) 8192 _ (i.1.len ∙ i.0)
-    (λ j l. i.1.low j (omega arith) (rw i.0 l)
+    (λ j l. i.1.low j (omega (arith, i.1.len)) (rw i.0 l)
     ∙ missing_says _ (permitted zone_f (fields_in row)) ss j _ (c.permitted.ensures.1 j l)
     (c.seen_halves-seen.ensures ss (sources_many row a.n a.width c.requires.row_inside) stand j l))
