@@ -29,8 +29,7 @@ fn start(to: &impl Print, r: usize, key: usize) {
 fn item(to: &impl Print, f: Field, key: usize) {
     start(to, f.r, key);
     say(to, ",");
-    let kind = f.kind;
-    match kind {
+    match f.kind {
         Kind::Copy => say(to, f.input),
         Kind::Pack => sizes(to, "P", f),
         Kind::Unpack => sizes(to, "U", f),
@@ -41,13 +40,13 @@ fn item(to: &impl Print, f: Field, key: usize) {
 
 // Says a field of a deck by its number, from 1, its item and its card, behind a key of so many bytes. There is no field 0.
 pub fn field_on_card(to: &impl Print, deck: &[u8], key: usize, place: usize, f: Field) {
-    if place == 0 {
+    let Some(before) = place.checked_sub(1) else {
         return;
-    }
+    };
     say(to, "field ");
     say(to, place);
     say(to, ", ");
     item(to, f, key);
     say(to, " on card ");
-    say(to, cards::field_card(deck, place - 1));
+    say(to, cards::field_card(deck, before));
 }

@@ -1,33 +1,27 @@
 // What refusal 7 found: the number as it stands, and its limits. The operands are right by their grammar, so that a single byte tells what it is part of.
 use line_words::{BLANK, COMMA};
-use readers::{ParameterRead, UParameter};
+use readers::{Placed, UParameter};
 use std::io::Print;
 use terms::Input;
 use words::{say, say_bytes};
 
 // The byte behind the digits with which a part begins; a blank where there is none.
 fn behind_digits(part: &[u8]) -> u8 {
-    let mut i = 0;
-    while i < part.len() {
-        if part[i] < b'0' || b'9' < part[i] {
-            return part[i];
-        }
-        i += 1;
-    }
-    BLANK
+    part.iter()
+        .copied()
+        .find(|byte| !byte.is_ascii_digit())
+        .unwrap_or(BLANK)
 }
 
 // Whether a parenthesis is open behind a part.
 fn is_open(part: &[u8]) -> bool {
     let mut inside = false;
-    let mut i = 0;
-    while i < part.len() {
-        match part[i] {
+    for byte in part {
+        match *byte {
             b'(' => inside = true,
             b')' => inside = false,
             _ => {}
         }
-        i += 1;
     }
     inside
 }
@@ -58,11 +52,7 @@ fn u_limits(to: &impl Print, card: &[u8], before: u8, part: &[u8]) {
 
 // Whether what stands before a number ends with K and a comma.
 fn is_of_key(before: &[u8]) -> bool {
-    let n = before.len();
-    if n < 2 {
-        return false;
-    }
-    before[n - 2] == b'K'
+    matches!(before, [.., b'K', _])
 }
 
 // Says the limits of a number of an FS card, before which stands this: in parentheses are sizes to pack or unpack, or a place in the key.
@@ -76,66 +66,40 @@ fn fs_limits(to: &impl Print, before: &[u8]) {
 
 // The digits with which a part begins.
 fn digits(part: &[u8]) -> &[u8] {
-    let mut i = 0;
-    while i < part.len() {
-        if part[i] < b'0' || b'9' < part[i] {
-            return &part[..i];
-        }
-        i += 1;
-    }
-    part
+    let behind = part.iter().position(|byte| !byte.is_ascii_digit());
+    &part[..behind.unwrap_or(part.len())]
 }
 
-// How many bytes A gives to key and data; 0 and 0 where it gives no key.
+// How many bytes A gives to key and data.
 #[derive(Clone, Copy)]
 struct Lengths {
     key: usize,
     data: usize,
 }
 
-fn no_lengths() -> Lengths {
-    Lengths { key: 0, data: 0 }
-}
-
 // What a part of the U card says of key and data that begins with A.
-fn lengths_in(part: &[u8]) -> Lengths {
-    let read = readers::parameter(part);
-    let ParameterRead::IsParameter {
-        parameter,
-        second: _,
-        used: _,
-    } = read
-    else {
-        return no_lengths();
-    };
-    let UParameter::InputIs(input) = parameter else {
-        return no_lengths();
-    };
-    let Input::Keyed { key, data } = input else {
-        return no_lengths();
-    };
-    Lengths { key, data }
+fn lengths_in(part: &[u8]) -> Option<Lengths> {
+    match readers::parameter(part) {
+        Ok(
+            Placed {
+                value: UParameter::InputIs(Input::Keyed { key, data }),
+                ..
+            },
+        ) => Some(Lengths { key, data }),
+        _ => None,
+    }
 }
 
 // The same of a U card.
-fn lengths_on(card: &[u8]) -> Lengths {
-    match line_words::parameter(card, b'A') {
-        Some(column) => lengths_in(&card[column - 1..]),
-        None => no_lengths(),
-    }
+fn lengths_on(card: &[u8]) -> Option<Lengths> {
+    let column = line_words::parameter(card, b'A')?;
+    lengths_in(&card[column - 1..])
 }
 
 // Says what key and data are together, where each is within its own limits, and whether that was said.
 fn together(to: &impl Print, lengths: Lengths) -> bool {
-    let key = lengths.key;
-    let data = lengths.data;
-    if key == 0 || data == 0 {
-        return false;
-    }
-    if key > 4096 {
-        return false;
-    }
-    if data > 4096 {
+    let Lengths { key, data } = lengths;
+    if key == 0 || data == 0 || key > 4096 || data > 4096 {
         return false;
     }
     say(to, "key and data have ");
@@ -163,16 +127,15 @@ fn limits(to: &impl Print, card: &[u8], place: usize, before: &[u8], part: &[u8]
 // Says what refusal 7 found of the number whose first digit stands in the column.
 pub fn outside_limits(to: &impl Print, deck: &[u8], place: usize, column: usize) {
     let card = line_words::uncommented(line_words::card_at(deck, place));
-    if column == 0 {
-        return;
-    }
-    if card.len() < column {
+    if column == 0 || card.len() < column {
         return;
     }
     let before = column - 1;
     if line_words::byte(card, before) == b'=' {
-        if together(to, lengths_on(card)) {
-            return;
+        if let Some(lengths) = lengths_on(card) {
+            if together(to, lengths) {
+                return;
+            }
         }
     }
     limits(to, card, place, &card[..before], &card[before..]);

@@ -1,7 +1,7 @@
 // What refusal 9 found: which bytes a field reads or writes, and where its records end (document 01, "Every field lies inside its records"; document 02, order
 // 5). The field is taken from its card: one that runs past the key stands in no row as it was written.
 use crate::field;
-use readers::ItemRead;
+use readers::CardItem;
 use std::io::Print;
 use terms::{Asked, Field, Part};
 use words::say;
@@ -12,65 +12,43 @@ const SLASH: u8 = b'/';
 
 // How many fields stand before a field, from 0, on the card that it stands on.
 fn fields_before(deck: &[u8], field: usize, card: usize) -> usize {
-    let mut before = 0;
-    while before < field {
-        if cards::field_card(deck, field - before - 1) != card {
-            break;
-        }
-        before += 1;
-    }
-    before
+    (0..field)
+        .rev()
+        .take_while(|before| cards::field_card(deck, *before) == card)
+        .count()
 }
 
-// Where the item of a field begins on an FS card, behind so many fields; the card's end where there is none. An item begins behind a slash or `// FS `, and of those
-// CV is no field.
-fn item_start(card: &[u8], fields: usize) -> usize {
+// What stands on an FS card from the item of a field on, behind so many fields. An item begins behind a slash or `// FS `, and of those CV is no field.
+fn from_item(card: &[u8], fields: usize) -> Option<&[u8]> {
     let mut left = fields;
     let mut before = SLASH;
-    let mut i = 6;
-    while i < card.len() {
+    for i in 6..card.len() {
         if before == SLASH && card[i] != b'C' {
             if left == 0 {
-                break;
+                return Some(&card[i..]);
             }
             left -= 1;
         }
         before = card[i];
-        i += 1;
     }
-    i
-}
-
-// What stands on a card from a place on.
-fn item_at(card: &[u8], at: usize) -> ItemRead {
-    if card.len() < at {
-        return ItemRead::NoItem { at: 0 };
-    }
-    readers::item(&card[at..])
+    None
 }
 
 // The item of a field, from 1.
-fn item_of(deck: &[u8], number: usize) -> ItemRead {
-    if number == 0 {
-        return ItemRead::NoItem { at: 0 };
-    }
-    let field = number - 1;
+fn item_of(deck: &[u8], number: usize) -> Option<CardItem> {
+    let field = number.checked_sub(1)?;
     let place = cards::field_card(deck, field);
     let card = line_words::uncommented(line_words::card_at(deck, place));
-    item_at(card, item_start(card, fields_before(deck, field, place)))
+    let items = from_item(card, fields_before(deck, field, place))?;
+    let found = readers::item(items).ok()?;
+    Some(found.value)
 }
 
 // ---- its bytes
 
 // The last of so many bytes from a place on.
 fn last(from: usize, size: usize) -> usize {
-    if from > 4096 {
-        return from;
-    }
-    if size > 4096 {
-        return from;
-    }
-    if size == 0 {
+    if from > 4096 || size > 4096 || size == 0 {
         return from;
     }
     from + size - 1
@@ -100,8 +78,7 @@ fn length(to: &impl Print, size: usize) {
 // Says how long a record is, or in FV the part of it that each record has.
 fn record(to: &impl Print, asked: Asked, name: &str, size: usize) {
     say(to, ", and the ");
-    let format = asked.format;
-    if terms::is_fv(format) {
+    if terms::is_fv(asked.format) {
         say(to, "fixed part of the ");
     }
     say(to, name);
@@ -121,16 +98,9 @@ fn data_part(to: &impl Print, size: usize) {
 
 // How many bytes the part has that a field reads.
 fn room(asked: Asked, part: Part) -> usize {
-    let input = asked.input;
-    let n = terms::record_length(input);
     match part {
         Part::Key => asked.key,
-        Part::Data => {
-            if n < asked.key {
-                return 0;
-            }
-            n - asked.key
-        }
+        Part::Data => terms::record_length(asked.input).saturating_sub(asked.key),
     }
 }
 
@@ -155,10 +125,9 @@ fn reads(to: &impl Print, asked: Asked, part: Part, f: Field) {
 }
 
 fn writes(to: &impl Print, asked: Asked, f: Field) {
-    let output = asked.output;
     say(to, ", writes");
     bytes(to, f.t, last(f.t, f.output));
-    record(to, asked, "output", terms::record_length(output));
+    record(to, asked, "output", terms::record_length(asked.output));
 }
 
 // Says a field, from 1, as on its card: r counts in its part.
@@ -171,14 +140,7 @@ fn named(to: &impl Print, deck: &[u8], place: usize, part: Part, f: Field) {
 
 // Says what refusal 9 found of a field, from 1, of a deck that could be read.
 pub fn outside_records(to: &impl Print, deck: &[u8], asked: Asked, place: usize) {
-    let read = item_of(deck, place);
-    let ItemRead::IsField {
-        part,
-        field,
-        places: _,
-        used: _,
-    } = read
-    else {
+    let Some(CardItem::Field { part, field, .. }) = item_of(deck, place) else {
         say(to, "this field reaches outside its records");
         return;
     };

@@ -21,13 +21,12 @@ use Rattle.rules.proofs.Refusals.AnswerLaws.{bind_fine}
 use Rattle.rules.proofs.Refusals.OrderOutcome.{order_fine}
 use Rattle.rules.proofs.Deck.ScanLaws.{cards_each}
 use Rattle.rules.proofs.Columns.WordColumns.{plain_read, list_plain}
-use Rattle.std.specs.Prelude.{None, Some}
+use Rattle.std.specs.Prelude.{None, Some, Result, Ok, Err}
 use Rattle.lines.specs.declared.CardRead.{CardRead}
 use Rattle.lines.specs.declared.LineRead.{LineRead}
 use Rattle.lines.specs.Meaning.{CardSays, IsCard, LineSays}
-use Rattle.cards.specs.declared.ListRead.{ListRead}
 use Rattle.cards.specs.declared.Noted.{Noted}
-use Rattle.cards.specs.declared.FsCards.{FsCards}
+use Rattle.cards.specs.declared.Unread.{Unread}
 use Rattle.cards.specs.Selected.{NotedRow, ListSays, no_selection, with_card, with_cards}
 use Rattle.cards.specs.Deck.{cards_in, fs_first, OperandAt, Operandless, FsRead, FsSaid}
 
@@ -38,7 +37,7 @@ slice_within a e f t l h =
     ap (drop f) (sym (slice_from a t (take e l)) ∙ ap (drop a) (take-take (a + t) e l h)) ∙ drop-drop f a (take (a + t) l)
 
 -- what is said of the list that a card's operand is lent as, `&deck[from..to]`
-pub lent_list : (card : ℕ) (t : NotedRow) (deck : List ℕ) (from to : ℕ) → from ≤ to → (r : ListRead) (row : List ℕ)
+pub lent_list : (card : ℕ) (t : NotedRow) (deck : List ℕ) (from to : ℕ) → from ≤ to → (r : Result Noted ℕ) (row : List ℕ)
     → ListSays card 7 7 t (take (to - from) (drop from deck)) (list_of "/" (worded item) (take (to - from) (drop from deck))) r row
     → ListSays card 7 7 t (slice from to deck) (list_of "/" (worded item) (slice from to deck)) r row
 lent_list card t deck from to h r row = subst (λ (o : List ℕ). ListSays card 7 7 t o (list_of "/" (worded item) o) r row) (sym (slice_part from to deck h))
@@ -89,45 +88,48 @@ no_more_lem (some (u_card b o) ∷ cs) h = absurd h
 no_more_lem (some (fs_card o) ∷ cs) h = absurd h
 no_more_lem (some end_card ∷ cs) h = refl
 
-module _ (card : ℕ) (t : NotedRow) (r : FsCards) (row o : List ℕ) (os : List (List ℕ)) where
+module _ (card : ℕ) (t : NotedRow) (row o : List ℕ) (os : List (List ℕ)) where
   -- a card whose operand could be read, and then the others
-  pub said_card : (ws : List (Worded Item)) (left : List ℕ) → list_of "/" (worded item) o ≡ read ws left → FsSaid (suc card) (with_card card ws t) os r row → FsSaid card t (o ∷ os) r row
+  pub said_card : (r : Result Noted Unread) (ws : List (Worded Item)) (left : List ℕ) → list_of "/" (worded item) o ≡ read ws left → FsSaid (suc card) (with_card card ws t) os r row → FsSaid card t (o ∷ os) r row
   unfolding ◌>>=◌ fs_operand fs_words
-  said_card ws left e h =
+  said_card r ws left e h =
       let p : fs_operand o ≡ read (values_of ws) left = sym (list_plain "/" item o) ∙ ap plain_read e in
       let q : fs_words o ≡ ws = ap parts_of e in
-      rw p (go q (items_from (suc card) os) h)
+      rw p (go q (items_from (suc card) os) r h)
     where
-      go : fs_words o ≡ ws → (x : Answer (List (List Item))) → FsRead (suc card) (with_card card ws t) os x r row → FsRead card t (o ∷ os) (x >>= λ more. fine (values_of ws ∷ more)) r row
-      go q (fine cs) h = (h.0, h.1 ∙ ap (λ (v : List (Worded Item)). with_cards (suc card) (map fs_words os) (with_card card v t)) (sym q))
-      go q (refuse x) h = h
+      go : fs_words o ≡ ws → (x : Answer (List (List Item))) (r : Result Noted Unread) → FsRead (suc card) (with_card card ws t) os x r row
+          → FsRead card t (o ∷ os) (x >>= λ more. fine (values_of ws ∷ more)) r row
+      go q (fine cs) (Ok n) h = h ∙ ap (λ (v : List (Worded Item)). with_cards (suc card) (map fs_words os) (with_card card v t)) (sym q)
+      go q (fine cs) (Err u) h = absurd h
+      go q (refuse x) (Ok n) h = absurd h
+      go q (refuse x) (Err u) h = h
 
   -- and one that could not
-  pub said_stop : (k : ℕ) → k ≤ length o → list_of "/" (worded item) o ≡ stopped (drop k o) → r.unread ≡ card → r.column ≡ suc before_fs + k → FsSaid card t (o ∷ os) r row
+  pub said_stop : (k : ℕ) → k ≤ length o → list_of "/" (worded item) o ≡ stopped (drop k o) → (column : ℕ) → column ≡ suc before_fs + k → FsSaid card t (o ∷ os) (Err (record { card = card; column = column })) row
   unfolding ◌>>=◌ fs_operand
-  said_stop k l e h c =
+  said_stop k l e column c =
       let p : fs_operand o ≡ stopped (drop k o) = sym (list_plain "/" item o) ∙ ap plain_read e in
       let n : length o - length (drop k o) ≡ k = omega (arith, length-drop k o) in
-      rw p (h, c ∙ (let z : suc before_fs + k ≡ before_fs + suc (length o - length (drop k o)) = omega arith in z))
+      rw p (refl, c ∙ (let z : suc before_fs + k ≡ before_fs + suc (length o - length (drop k o)) = omega arith in z))
 
 -- what is right of the FS cards from here on is right of all of them
 pub record Selecting (deck : List ℕ) (start key : ℕ) (t : NotedRow) (card at : ℕ) : Type 0 where
   pub low : card ≤ 2 + at
-  pub on : (r : FsCards) (row : List ℕ) → FsSaid card t (fs_first (cards_in (drop at deck))) r row → FsSaid 2 (no_selection key) (fs_first (cards_in (drop start deck))) r row
+  pub on : (r : Result Noted Unread) (row : List ℕ) → FsSaid card t (fs_first (cards_in (drop at deck))) r row → FsSaid 2 (no_selection key) (fs_first (cards_in (drop start deck))) r row
 
 pub selecting_start : (deck : List ℕ) (start key : ℕ) → Selecting deck start key (no_selection key) 2 start
 selecting_start deck start key = record { low = omega arith; on = λ r row h. h }
 
 module _ (deck : List ℕ) (from key : ℕ) (t : NotedRow) (card at : ℕ) (g : Selecting deck from key t card at) where
-  abbrev pub Whole : FsCards → List ℕ → Type 0
+  abbrev pub Whole : Result Noted Unread → List ℕ → Type 0
   Whole r row = FsSaid 2 (no_selection key) (fs_first (cards_in (drop from deck))) r row
 
   -- no FS card is left
-  abbrev all : FsCards
-  all = record { noted = t.0; unread = 0; column = 0 }
+  abbrev all : Result Noted Unread
+  all = Ok t.0
 
   ended : fs_first (cards_in (drop at deck)) ≡ [] → Whole all t.1
-  ended e = g.on all t.1 (subst (λ (os : List (List ℕ)). FsSaid card t os all t.1) (sym e) (refl, refl))
+  ended e = g.on all t.1 (subst (λ (os : List (List ℕ)). FsSaid card t os all t.1) (sym e) refl)
 
   pub selecting_none : Operandless (cards_in (drop at deck)) → Whole all t.1
   selecting_none h = ended (no_more_lem (cards_in (drop at deck)) h)
@@ -142,33 +144,35 @@ module _ (deck : List ℕ) (from key : ℕ) (t : NotedRow) (card at : ℕ) (g : 
     fs_first_lem : fs_first (cards_in (drop at deck)) ≡ operand ∷ fs_first (cards_in (drop next deck))
     fs_first_lem = ap fs_first h.is
 
-    -- what the two functions gave of the card
-    module _ (read_as_lem : ListRead) (row : List ℕ) (says : ListSays card (suc before_fs) (suc before_fs) t operand (list_of "/" (worded item) operand) read_as_lem row) where
+    -- what `list` gave of the card
+    module _ (row : List ℕ) where
       -- it could not be read
-      pub selecting_stop : (read_as_lem.unread ≡ 0 → ⊥) → (n : Noted) → Whole (record { noted = n; unread = card; column = read_as_lem.unread }) row
-      selecting_stop n x = g.on r row (subst (λ (os : List (List ℕ)). FsSaid card t os r row) (sym fs_first_lem) (go (list_of "/" (worded item) operand) refl says))
+      pub selecting_stop : (column : ℕ) → ListSays card (suc before_fs) (suc before_fs) t operand (list_of "/" (worded item) operand) (Err column) row
+          → Whole (Err (record { card = card; column = column })) row
+      selecting_stop column says = g.on r row (subst (λ (os : List (List ℕ)). FsSaid card t os r row) (sym fs_first_lem) (go (list_of "/" (worded item) operand) refl says))
         where
-          r : FsCards
-          r = record { noted = x; unread = card; column = read_as_lem.unread }
+          r : Result Noted Unread
+          r = Err (record { card = card; column = column })
 
-          go : (y : Read (List (Worded Item))) → list_of "/" (worded item) operand ≡ y → ListSays card (suc before_fs) (suc before_fs) t operand y read_as_lem row
-              → FsSaid card t (operand ∷ fs_first (cards_in (drop next deck))) r row
-          go (read ws left) e (u, m, w) = absurd (n u)
-          go (stopped left) e (k, l, d, u) = said_stop card t r row operand (fs_first (cards_in (drop next deck))) k l (e ∙ ap stopped d) refl u
+          go : (y : Read (List (Worded Item))) → list_of "/" (worded item) operand ≡ y → ListSays card (suc before_fs) (suc before_fs) t operand y (Err column) row
+              → FsSaid card t (operand ∷ fs_first (cards_in (drop next deck))) (Err (record { card = card; column = column })) row
+          go (read ws left) e h = absurd h
+          go (stopped left) e (k, l, d, u) = said_stop card t row operand (fs_first (cards_in (drop next deck))) k l (e ∙ ap stopped d) column u
 
       -- it could: the next card comes
-      pub selecting_more : read_as_lem.unread ≡ 0 → Selecting deck from key (read_as_lem.noted, row) (suc card) next
+      pub selecting_more : (n : Noted) → ListSays card (suc before_fs) (suc before_fs) t operand (list_of "/" (worded item) operand) (Ok n) row
+          → Selecting deck from key (n, row) (suc card) next
       unfolding with_card
-      selecting_more z =
+      selecting_more n says =
           let on : at < next = h.on in
           record { low = omega (arith, g.low); on = λ r row' k. g.on r row' (subst (λ (os : List (List ℕ)). FsSaid card t os r row') (sym fs_first_lem) (go r row' k (list_of "/" (worded item) operand) refl says)) }
         where
-          go : (r : FsCards) (row' : List ℕ) → FsSaid (suc card) (read_as_lem.noted, row) (fs_first (cards_in (drop next deck))) r row' → (y : Read (List (Worded Item))) → list_of "/" (worded item) operand ≡ y
-              → ListSays card (suc before_fs) (suc before_fs) t operand y read_as_lem row → FsSaid card t (operand ∷ fs_first (cards_in (drop next deck))) r row'
-          go r row' k (read ws left) e (u, m, w) =
-              said_card card t r row' operand (fs_first (cards_in (drop next deck))) ws left e
-              (subst (λ (x : NotedRow). FsSaid (suc card) x (fs_first (cards_in (drop next deck))) r row') (λ i. (m i, w i)) k)
-          go r row' k (stopped left) e (j, l, d, u) = absurd (omega arith)
+          go : (r : Result Noted Unread) (row' : List ℕ) → FsSaid (suc card) (n, row) (fs_first (cards_in (drop next deck))) r row' → (y : Read (List (Worded Item))) → list_of "/" (worded item) operand ≡ y
+              → ListSays card (suc before_fs) (suc before_fs) t operand y (Ok n) row → FsSaid card t (operand ∷ fs_first (cards_in (drop next deck))) r row'
+          go r row' k (read ws left) e h =
+              said_card card t row' operand (fs_first (cards_in (drop next deck))) r ws left e
+              (subst (λ (x : NotedRow). FsSaid (suc card) x (fs_first (cards_in (drop next deck))) r row') (λ i. (h.0 i, h.1 i)) k)
+          go r row' k (stopped left) e h = absurd h
 
 -- ---- a deck in order
 

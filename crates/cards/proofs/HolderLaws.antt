@@ -21,7 +21,8 @@ use Rattle.rules.proofs.Refusals.CardsOutcome.{grammatical_fine}
 use Rattle.rules.proofs.Columns.WordColumns.{plain_read, list_plain}
 use Rattle.terms.specs.Meaning.{field_cards}
 use Rattle.lines.specs.Meaning.{IsCard}
-use Rattle.cards.specs.declared.ListRead.{ListRead}
+use Rattle.std.specs.Prelude.{Ok, Err}
+use Rattle.cards.specs.declared.Noted.{Noted}
 use Rattle.cards.specs.declared.CardAt.{CardAt}
 use Rattle.cards.specs.declared.CardAt.TheVariants.{UAt}
 use Rattle.cards.specs.declared.DeckRead.{DeckRead}
@@ -66,30 +67,40 @@ reading card o os cs e =
     record { items = w.0; others = x.0; are = sym (fine_same (w.0 ∷ x.0) cs x.2); left = g.0; reads = g.1; next = x.1 }
 
 -- what is noted of it is that of its words
-noted_words : (card : ℕ) (t : NotedRow) (o : List ℕ) (is : List Item) (left : List ℕ) → fs_operand o ≡ read is left → (r : ListRead) (row : List ℕ)
-    → ListSays card (suc before_fs) (suc before_fs) t o (list_of "/" (worded item) o) r row → (ws : List (Worded Item)) × (r.noted ≡ (with_words card (suc before_fs) ws t).0) × (values_of ws ≡ is)
+noted_words : (card : ℕ) (t : NotedRow) (o : List ℕ) (is : List Item) (left : List ℕ) → fs_operand o ≡ read is left → (n : Noted) (row : List ℕ)
+    → ListSays card (suc before_fs) (suc before_fs) t o (list_of "/" (worded item) o) (Ok n) row → (ws : List (Worded Item)) × (n ≡ (with_words card (suc before_fs) ws t).0) × (values_of ws ≡ is)
 unfolding fs_operand
-noted_words card t o is left e r row says = go (list_of "/" (worded item) o) refl says
+noted_words card t o is left e n row says = go (list_of "/" (worded item) o) refl says
   where
-    go : (x : Read (List (Worded Item))) → list_of "/" (worded item) o ≡ x → ListSays card (suc before_fs) (suc before_fs) t o x r row
-        → (ws : List (Worded Item)) × (r.noted ≡ (with_words card (suc before_fs) ws t).0) × (values_of ws ≡ is)
-    go (read ws more) q (u, m, w) = let p : read (values_of ws) more ≡ read is left = sym (sym (list_plain "/" item o) ∙ ap plain_read q) ∙ e in (ws, m, cc)
-    go (stopped more) q s =
+    go : (x : Read (List (Worded Item))) → list_of "/" (worded item) o ≡ x → ListSays card (suc before_fs) (suc before_fs) t o x (Ok n) row
+        → (ws : List (Worded Item)) × (n ≡ (with_words card (suc before_fs) ws t).0) × (values_of ws ≡ is)
+    go (read ws more) q h = let m = h.0 in let p : read (values_of ws) more ≡ read is left = sym (sym (list_plain "/" item o) ∙ ap plain_read q) ∙ e in (ws, m, cc)
+    go (stopped more) q h = absurd h
+
+-- and it does not stop
+no_stop : (card : ℕ) (t : NotedRow) (o : List ℕ) (is : List Item) (left : List ℕ) → fs_operand o ≡ read is left → (unread : ℕ) (row : List ℕ)
+    → ListSays card (suc before_fs) (suc before_fs) t o (list_of "/" (worded item) o) (Err unread) row → ⊥
+unfolding fs_operand
+no_stop card t o is left e unread row says = go (list_of "/" (worded item) o) refl says
+  where
+    go : (x : Read (List (Worded Item))) → list_of "/" (worded item) o ≡ x → ListSays card (suc before_fs) (suc before_fs) t o x (Err unread) row → ⊥
+    go (read ws more) q h = h
+    go (stopped more) q h =
         let p : stopped more ≡ read is left = sym (sym (list_plain "/" item o) ∙ ap plain_read q) ∙ e in
         let z : ◌≡◌ {A = ℕ} 0 1 = cc in
-        absurd (omega arith)
+        omega arith
 
 -- its fields are counted
-counts : (card : ℕ) (t : NotedRow) (o : List ℕ) (is : List Item) (left : List ℕ) → fs_operand o ≡ read is left → t.0.count ≤ 64 → (r : ListRead) (row : List ℕ)
-    → ListSays card (suc before_fs) (suc before_fs) t o (list_of "/" (worded item) o) r row → r.noted.count ≡ min 64 (t.0.count + many_fields is)
-counts card t o is left e l r row says =
-    let w = noted_words card t o is left e r row says in
+counts : (card : ℕ) (t : NotedRow) (o : List ℕ) (is : List Item) (left : List ℕ) → fs_operand o ≡ read is left → t.0.count ≤ 64 → (n : Noted) (row : List ℕ)
+    → ListSays card (suc before_fs) (suc before_fs) t o (list_of "/" (worded item) o) (Ok n) row → n.count ≡ min 64 (t.0.count + many_fields is)
+counts card t o is left e l n row says =
+    let w = noted_words card t o is left e n row says in
     ap (λ n. n.count) w.1 ∙ words_many card (suc before_fs) w.0 t l ∙ ap (λ (c : List Item). min 64 (t.0.count + many_fields c)) w.2
 
 -- and the key stays
-holds_key : (card : ℕ) (t : NotedRow) (o : List ℕ) (is : List Item) (left : List ℕ) → fs_operand o ≡ read is left → (r : ListRead) (row : List ℕ)
-    → ListSays card (suc before_fs) (suc before_fs) t o (list_of "/" (worded item) o) r row → r.noted.key ≡ t.0.key
-holds_key card t o is left e r row says = let w = noted_words card t o is left e r row says in ap (λ n. n.key) w.1 ∙ words_key card (suc before_fs) w.0 t
+holds_key : (card : ℕ) (t : NotedRow) (o : List ℕ) (is : List Item) (left : List ℕ) → fs_operand o ≡ read is left → (n : Noted) (row : List ℕ)
+    → ListSays card (suc before_fs) (suc before_fs) t o (list_of "/" (worded item) o) (Ok n) row → n.key ≡ t.0.key
+holds_key card t o is left e n row says = let w = noted_words card t o is left e n row says in ap (λ n. n.key) w.1 ∙ words_key card (suc before_fs) w.0 t
 
 -- ---- card by card
 
@@ -138,51 +149,58 @@ module _ (deck : List ℕ) (from field : ℕ) (t : NotedRow) (card at : ℕ) (g 
   seeking_u b start end next h = ended (ap fs_first h.is)
 
   -- an FS card, and what was read of it
-  module _ (start end next : ℕ) (h : OperandAt fs_card deck at start end next) (r : ListRead) (row : List ℕ)
-      (says : ListSays card (suc before_fs) (suc before_fs) t (slice start end deck) (list_of "/" (worded item) (slice start end deck)) r row) where
-    here : Reading card (slice start end deck) (fs_first (cards_in (drop next deck))) g.others
-    here = reading card (slice start end deck) (fs_first (cards_in (drop next deck))) g.others (sym (ap (λ (cs : List (Option Card)). items_from card (fs_first cs)) h.is) ∙ g.reads)
+  module _ (start end next : ℕ) (h : OperandAt fs_card deck at start end next) where
+    abbrev operand : List ℕ
+    operand = slice start end deck
 
-    all_few : count + (many_fields here.items + length (all_fields here.others)) ≤ 64
-    all_few =
-        omega (
-          arith,
-          g.few,
-          ap (λ (cs : List (List Item)). length (all_fields cs)) here.are,
-          ap length (fields_append here.items (joined here.others)),
-          length-append (fields_of here.items) (all_fields here.others),
-        )
+    here : Reading card operand (fs_first (cards_in (drop next deck))) g.others
+    here = reading card operand (fs_first (cards_in (drop next deck))) g.others (sym (ap (λ (cs : List (Option Card)). items_from card (fs_first cs)) h.is) ∙ g.reads)
 
-    count_is : r.noted.count ≡ count + many_fields here.items
-    count_is = omega (arith, all_few, counts card t (slice start end deck) here.items here.left here.reads (omega (arith, all_few)) r row says)
+    -- it can be read
+    pub seeking_stop : (unread : ℕ) (row : List ℕ) → ListSays card (suc before_fs) (suc before_fs) t operand (list_of "/" (worded item) operand) (Err unread) row → ⊥
+    seeking_stop unread row says = no_stop card t operand here.items here.left here.reads unread row says
 
-    pub seeking_key : r.noted.key ≡ t.0.key
-    seeking_key = holds_key card t (slice start end deck) here.items here.left here.reads r row says
+    module _ (n : Noted) (row : List ℕ) (says : ListSays card (suc before_fs) (suc before_fs) t operand (list_of "/" (worded item) operand) (Ok n) row) where
+      all_few : count + (many_fields here.items + length (all_fields here.others)) ≤ 64
+      all_few =
+          omega (
+            arith,
+            g.few,
+            ap (λ (cs : List (List Item)). length (all_fields cs)) here.are,
+            ap length (fields_append here.items (joined here.others)),
+            length-append (fields_of here.items) (all_fields here.others),
+          )
 
-    -- the field stands on it
-    pub seeking_found : field < r.noted.count → Held card
-    seeking_found l cs e =
-        sym (card_first card here.items here.others (field - count) (omega (arith, l, count_is, g.before)))
-        ∙ sym (ap (λ (os : List (List Item)). get_or (field_cards card os) (field - count) 0) here.are)
-        ∙ g.on cs e
+      count_is : n.count ≡ count + many_fields here.items
+      count_is = omega (arith, all_few, counts card t operand here.items here.left here.reads (omega (arith, all_few)) n row says)
 
-    -- or it does not: the next card comes
-    pub seeking_more : r.noted.count ≤ field → Seeking deck from field r.noted.count (suc card) next
-    seeking_more l =
-        record {
-          low = omega (arith, g.low, h.on);
-          others = here.others;
-          reads = here.next;
-          few = omega (arith, all_few, count_is);
-          before = l;
-          on =
-              λ cs e.
-              let z : many_fields here.items + (field - r.noted.count) ≡ field - count = omega (arith, l, count_is) in
-              sym (card_behind card here.items here.others (field - r.noted.count))
-              ∙ ap (λ (k : ℕ). get_or (field_cards card (here.items ∷ here.others)) k 0) z
-              ∙ sym (ap (λ (os : List (List Item)). get_or (field_cards card os) (field - count) 0) here.are)
-              ∙ g.on cs e;
-        }
+      pub seeking_key : n.key ≡ t.0.key
+      seeking_key = holds_key card t operand here.items here.left here.reads n row says
+
+      -- the field stands on it
+      pub seeking_found : field < n.count → Held card
+      seeking_found l cs e =
+          sym (card_first card here.items here.others (field - count) (omega (arith, l, count_is, g.before)))
+          ∙ sym (ap (λ (os : List (List Item)). get_or (field_cards card os) (field - count) 0) here.are)
+          ∙ g.on cs e
+
+      -- or it does not: the next card comes
+      pub seeking_more : n.count ≤ field → Seeking deck from field n.count (suc card) next
+      seeking_more l =
+          record {
+            low = omega (arith, g.low, h.on);
+            others = here.others;
+            reads = here.next;
+            few = omega (arith, all_few, count_is);
+            before = l;
+            on =
+                λ cs e.
+                let z : many_fields here.items + (field - n.count) ≡ field - count = omega (arith, l, count_is) in
+                sym (card_behind card here.items here.others (field - n.count))
+                ∙ ap (λ (k : ℕ). get_or (field_cards card (here.items ∷ here.others)) k 0) z
+                ∙ sym (ap (λ (os : List (List Item)). get_or (field_cards card os) (field - count) 0) here.are)
+                ∙ g.on cs e;
+          }
 
 -- ---- the deck
 

@@ -30,13 +30,13 @@ use Rattle.terms.specs.declared.Field.{Field}
 use Rattle.terms.specs.Meaning.{kind_of, field_of, part_of, card_field, laid}
 use Rattle.rows.specs.Flat.{Short}
 use Rattle.readers.specs.declared.Places.{Places}
-use Rattle.readers.specs.declared.ItemRead.TheVariants.{IsField, IsCV, NoItem}
-use Rattle.readers.specs.Meaning.{Reads, places_in, field_places, ItemSays}
+use Rattle.std.specs.Prelude.{Result, Ok, Err}
+use Rattle.readers.specs.declared.Stop.{Stop}
+use Rattle.readers.specs.Meaning.{Reads, places_in, field_places, ItemSays, a_field, a_cv}
 use Rattle.readers.proofs.Callers.{item_places, places_inside}
 use Rattle.limits.specs.Limits.{shifted, field_outside}
 use Rattle.keys.proofs.KeyLaws.{laid_short}
 use Rattle.cards.specs.declared.Noted.{Noted}
-use Rattle.cards.specs.declared.ListRead.{ListRead}
 use Rattle.cards.specs.Selected.{field_noted, cv_noted, kept_row, NotedRow, with_item, with_words, ListSays}
 use Rattle.cards.proofs.RowLaws.{Fair, words_key}
 
@@ -51,13 +51,13 @@ module _ (card column : ℕ) (t : NotedRow) (s : List ℕ) where
     abbrev word : Worded Item
     word = record { value = i; text = take n s }
 
-    pub listed_item : (r : ListRead) (row : List ℕ)
+    pub listed_item : (r : Result Noted ℕ) (row : List ℕ)
         → ListSays card (1 + (column + n)) (column + n) (with_item card column (outside_in item_numbers column word) i t) (drop n s) (rest_of "/" (worded item) (drop n s)) r row
         → ListSays card column column t s (list_of "/" (worded item) s) r row
     listed_item r row h =
         subst (λ (x : Read (List (Worded Item))). ListSays card column column t s x r row)
         (sym (list_item "/" (worded item) takes s word (drop n s) (word_taken item s i n e.1)))
-        (go (rest_of "/" (worded item) (drop n s)) h)
+        (go (rest_of "/" (worded item) (drop n s)) r h)
       where
         after : NotedRow
         after = with_item card column (outside_in item_numbers column word) i t
@@ -65,54 +65,59 @@ module _ (card column : ℕ) (t : NotedRow) (s : List ℕ) where
         next : 1 + (column + n) ≡ column + suc (length (take n s))
         next = omega (arith, length-take-le n s e.0)
 
-        go : (x : Read (List (Worded Item))) → ListSays card (1 + (column + n)) (column + n) after (drop n s) x r row
+        go : (x : Read (List (Worded Item))) (r : Result Noted ℕ) → ListSays card (1 + (column + n)) (column + n) after (drop n s) x r row
             → ListSays card column column t s (onward x (λ ws. pure (word ∷ ws))) r row
-        go (read ws left) (u, m, w) =
-            (u, m ∙ ap (λ (c : ℕ). (with_words card c ws after).0) next, w ∙ ap (λ (c : ℕ). (with_words card c ws after).1) next)
-        go (stopped left) (k, l, d, u) = (n + k, omega (arith, length-drop n s, e.0), d ∙ drop-drop k n s, omega arith)
+        go (read ws left) (Ok m) h =
+            (h.0 ∙ ap (λ (c : ℕ). (with_words card c ws after).0) next, h.1 ∙ ap (λ (c : ℕ). (with_words card c ws after).1) next)
+        go (read ws left) (Err u) h = absurd h
+        go (stopped left) (Ok m) h = absurd h
+        go (stopped left) (Err u) (k, l, d, q) = (n + k, omega (arith, length-drop n s, e.0), d ∙ drop-drop k n s, omega arith)
 
-  pub listed_none : (a : ℕ) → ItemSays s (NoItem a) → (r : ListRead) (row : List ℕ) → r.unread ≡ column + a → ListSays card column column t s (list_of "/" (worded item) s) r row
-  listed_none a e r row h =
-      subst (λ (x : Read (List (Worded Item))). ListSays card column column t s x r row)
-      (sym (list_stop "/" (worded item) takes s (drop a s) (worded_stops item s (drop a s) e.1))) (a, e.0, refl, h)
+  pub listed_none : (stop : Stop) → ItemSays s (Err stop) → (row : List ℕ) → ListSays card column column t s (list_of "/" (worded item) s) (Err (column + stop.at)) row
+  listed_none stop e row =
+      let a = stop.at in
+      subst (λ (x : Read (List (Worded Item))). ListSays card column column t s x (Err (column + a)) row)
+      (sym (list_stop "/" (worded item) takes s (drop a s) (worded_stops item s (drop a s) e.1))) (a, e.0, refl, refl)
 
   -- ---- a rest
 
-  abbrev RestSays : ListRead → List ℕ → Type 0
+  abbrev RestSays : Result Noted ℕ → List ℕ → Type 0
   RestSays r row = ListSays card (1 + column) column t s (rest_of "/" (worded item) s) r row
 
-  pub rest_ended : length s ≡ 0 → (r : ListRead) → r.unread ≡ 0 → r.noted ≡ t.0 → RestSays r t.1
-  rest_ended z r u m =
-      subst (λ (x : Read (List (Worded Item))). ListSays card (1 + column) column t s x r t.1) (sym (empty s z)) (u, m, refl)
+  pub rest_ended : length s ≡ 0 → RestSays (Ok t.0) t.1
+  rest_ended z =
+      subst (λ (x : Read (List (Worded Item))). ListSays card (1 + column) column t s x (Ok t.0) t.1) (sym (empty s z)) (refl, refl)
     where
       empty : (s : List ℕ) → length s ≡ 0 → rest_of "/" (worded item) s ≡ read [] []
       empty [] z = rest_end "/" (worded item)
       empty (b ∷ s) z = absurd (omega arith)
 
-  pub rest_slash : 0 < length s → get_or s 0 0 ≡ 47 → (part : List ℕ) → part ≡ drop 1 s → (r : ListRead) (row : List ℕ)
+  pub rest_slash : 0 < length s → get_or s 0 0 ≡ 47 → (part : List ℕ) → part ≡ drop 1 s → (r : Result Noted ℕ) (row : List ℕ)
       → ListSays card (column + 1) (column + 1) t part (list_of "/" (worded item) part) r row → RestSays r row
   rest_slash l e part q r row h =
       let d : s ≡ 47 ∷ drop 1 s = drop-cons s 0 0 l ∙ ap (λ (b : ℕ). b ∷ drop 1 s) e in
       subst (λ (x : Read (List (Worded Item))). ListSays card (1 + column) column t s x r row)
       (sym (ap (rest_of "/" (worded item)) d ∙ rest_mark "/" (worded item) takes 47 refl (drop 1 s)))
-      (go (list_of "/" (worded item) (drop 1 s)) (subst (λ (l : List ℕ). ListSays card (column + 1) (column + 1) t l (list_of "/" (worded item) l) r row) q h))
+      (go (list_of "/" (worded item) (drop 1 s)) r (subst (λ (l : List ℕ). ListSays card (column + 1) (column + 1) t l (list_of "/" (worded item) l) r row) q h))
     where
-      go : (x : Read (List (Worded Item))) → ListSays card (column + 1) (column + 1) t (drop 1 s) x r row → ListSays card (1 + column) column t s x r row
-      go (read ws left) (u, m, w) =
+      go : (x : Read (List (Worded Item))) (r : Result Noted ℕ) → ListSays card (column + 1) (column + 1) t (drop 1 s) x r row → ListSays card (1 + column) column t s x r row
+      go (read ws left) (Ok m) h =
           let c : column + 1 ≡ 1 + column = omega arith in
-          (u, m ∙ ap (λ (b : ℕ). (with_words card b ws t).0) c, w ∙ ap (λ (b : ℕ). (with_words card b ws t).1) c)
-      go (stopped left) (k, m, d, u) = (1 + k, omega (arith, length-drop 1 s), d ∙ drop-drop k 1 s, omega arith)
+          (h.0 ∙ ap (λ (b : ℕ). (with_words card b ws t).0) c, h.1 ∙ ap (λ (b : ℕ). (with_words card b ws t).1) c)
+      go (read ws left) (Err u) h = absurd h
+      go (stopped left) (Ok m) h = absurd h
+      go (stopped left) (Err u) (k, m, d, q) = (1 + k, omega (arith, length-drop 1 s), d ∙ drop-drop k 1 s, omega arith)
 
-  pub rest_other_byte : 0 < length s → (get_or s 0 0 ≡ 47 → ⊥) → (r : ListRead) (row : List ℕ) → r.unread ≡ column → RestSays r row
-  rest_other_byte l e r row h =
+  pub rest_other_byte : 0 < length s → (get_or s 0 0 ≡ 47 → ⊥) → (row : List ℕ) → RestSays (Err column) row
+  rest_other_byte l e row =
       let d : s ≡ get_or s 0 0 ∷ drop 1 s = drop-cons s 0 0 l in
-      subst (λ (x : Read (List (Worded Item))). ListSays card (1 + column) column t s x r row)
+      subst (λ (x : Read (List (Worded Item))). ListSays card (1 + column) column t s x (Err column) row)
       (sym (ap (rest_of "/" (worded item)) d ∙ rest_other "/" (worded item) takes 47 refl (get_or s 0 0) (drop 1 s) e ∙ ap stopped (sym d)))
       (0, omega arith, refl, omega arith)
 
 -- ---- the numbers of a field
 
-module _ (s : List ℕ) (part : Part) (f : Field) (p : Places) (n : ℕ) (e : ItemSays s (IsField part f p n)) where
+module _ (s : List ℕ) (part : Part) (f : Field) (p : Places) (n : ℕ) (e : ItemSays s (a_field part f p n)) where
   abbrev the_word : Worded Item
   the_word = record { value = field (card_field part f); text = take n s }
 
@@ -186,13 +191,13 @@ words_fair o is t = parts_all (fs_worded o is t).0
 
 module _ (card column : ℕ) (t : NotedRow) (s : List ℕ) where
   -- a field: its first number outside its limits, the row, and what is noted
-  pub listed_field : (part : Part) (f : Field) (p : Places) (n : ℕ) → ItemSays s (IsField part f p n)
+  pub listed_field : (part : Part) (f : Field) (p : Places) (n : ℕ) → ItemSays s (a_field part f p n)
       → (out : ℕ) → out ≡ field_outside part f p column
       → (own : Field) → field_of own ≡ laid t.0.key (card_field part f)
       → (row : List ℕ) → row ≡ kept_row t.0.count out (field_of own) t.1
       → (m : Noted) → m ≡ field_noted t.0 card (part_of part) out
       → (rest : List ℕ) → rest ≡ drop n s
-      → (r : ListRead) (end : List ℕ) → ListSays card (1 + (column + n)) (column + n) (m, row) rest (rest_of "/" (worded item) rest) r end
+      → (r : Result Noted ℕ) (end : List ℕ) → ListSays card (1 + (column + n)) (column + n) (m, row) rest (rest_of "/" (worded item) rest) r end
       → ListSays card column column t s (list_of "/" (worded item) s) r end
   unfolding with_item card_field
   listed_field part f p n e out o own v row k m w rest d r end h =
@@ -202,8 +207,8 @@ module _ (card column : ℕ) (t : NotedRow) (s : List ℕ) where
       (subst (λ (x : NotedRow). ListSays card (1 + (column + n)) (column + n) x rest (rest_of "/" (worded item) rest) r end)
       (λ i. ((w ∙ ap (field_noted t.0 card (part_of part)) q) i, (k ∙ (λ j. kept_row t.0.count (q j) (v j) t.1)) i)) h))
 
-  pub listed_cv : (n : ℕ) → ItemSays s (IsCV n) → (m : Noted) → m ≡ cv_noted t.0 card column → (part : List ℕ) → part ≡ drop n s
-      → (r : ListRead) (end : List ℕ) → ListSays card (1 + (column + n)) (column + n) (m, t.1) part (rest_of "/" (worded item) part) r end
+  pub listed_cv : (n : ℕ) → ItemSays s (a_cv n) → (m : Noted) → m ≡ cv_noted t.0 card column → (part : List ℕ) → part ≡ drop n s
+      → (r : Result Noted ℕ) (end : List ℕ) → ListSays card (1 + (column + n)) (column + n) (m, t.1) part (rest_of "/" (worded item) part) r end
       → ListSays card column column t s (list_of "/" (worded item) s) r end
   unfolding with_item
   listed_cv n e m w part d r end h =
@@ -214,10 +219,10 @@ module _ (card column : ℕ) (t : NotedRow) (s : List ℕ) where
 -- ---- a card
 
 -- the key is what it was, where the card could be read
-pub key_kept : (card : ℕ) (t : NotedRow) (o : List ℕ) (r : ListRead) (row : List ℕ) → ListSays card 7 7 t o (list_of "/" (worded item) o) r row → r.unread ≡ 0
-    → r.noted.key ≡ t.0.key
-key_kept card t o r row h z = go (list_of "/" (worded item) o) h
+pub key_kept : (card : ℕ) (t : NotedRow) (o : List ℕ) (n : Noted) (row : List ℕ) → ListSays card 7 7 t o (list_of "/" (worded item) o) (Ok n) row
+    → n.key ≡ t.0.key
+key_kept card t o n row h = go (list_of "/" (worded item) o) h
   where
-    go : (x : Read (List (Worded Item))) → ListSays card 7 7 t o x r row → r.noted.key ≡ t.0.key
-    go (read ws left) (u, m, w) = ap (λ (n : Noted). n.key) m ∙ words_key card 7 ws t
-    go (stopped left) (k, l, d, u) = absurd (omega arith)
+    go : (x : Read (List (Worded Item))) → ListSays card 7 7 t o x (Ok n) row → n.key ≡ t.0.key
+    go (read ws left) h = ap (λ (n : Noted). n.key) h.0 ∙ words_key card 7 ws t
+    go (stopped left) h = absurd h

@@ -30,7 +30,9 @@ use Rattle.keys.specs.Keys.{key_of}
 use Rattle.cards.specs.declared.CardAt.{CardAt}
 use Rattle.cards.specs.declared.CardAt.TheVariants.{UAt, FsAt, NoOperand}
 use Rattle.cards.specs.declared.URead.{URead}
-use Rattle.cards.specs.declared.FsCards.{FsCards}
+use Rattle.cards.specs.declared.Unread.{Unread}
+use Rattle.cards.specs.declared.Noted.{Noted}
+use Rattle.std.specs.Prelude.{Result, Ok, Err}
 use Rattle.cards.specs.Selected.{NotedRow, no_selection, with_cards}
 use Rattle.cards.specs.Parameters.{UListed}
 use Rattle.cards.specs.Deck.{cards_in, fs_first, OperandAt, Operandless, CardAtSays, FsRead, FsSaid}
@@ -158,69 +160,74 @@ module _ (deck : List ℕ) (fs : ℕ) (order : InOrder deck fs) where
     words s = list_of "," (worded parameter) s
 
     -- what was read of the U card
-    module _ (r : URead) (l : UListed (start + 1) (slice start end deck) (words (slice start end deck)) r) where
-      listed : UListed (suc operands.before) operands.u (words operands.u) r
-      listed = subst (λ (s : List ℕ). UListed (suc operands.before) s (words s) r) u_is (subst (λ (c : ℕ). UListed c (slice start end deck) (words (slice start end deck)) r) before_is l)
+    abbrev pub Listed : Result URead ℕ → Type 0
+    Listed r = UListed (start + 1) (slice start end deck) (words (slice start end deck)) r
 
-      u_plain : (x : Read (List (Worded Parameter))) → words operands.u ≡ x → u_operand operands.u ≡ plain_read x
-      unfolding u_operand
-      u_plain x e = sym (list_plain "," parameter operands.u) ∙ ap plain_read e
+    listed : (r : Result URead ℕ) → Listed r → UListed (suc operands.before) operands.u (words operands.u) r
+    listed r l = subst (λ (s : List ℕ). UListed (suc operands.before) s (words s) r) u_is (subst (λ (c : ℕ). UListed c (slice start end deck) (words (slice start end deck)) r) before_is l)
 
-      -- the U card could not be read
-      pub unread_u : (r.unread ≡ 0 → ⊥) → (row : List ℕ) → DeckReads deck (refused_deck 3 1 r.unread) row
+    u_plain : (x : Read (List (Worded Parameter))) → words operands.u ≡ x → u_operand operands.u ≡ plain_read x
+    unfolding u_operand
+    u_plain x e = sym (list_plain "," parameter operands.u) ∙ ap plain_read e
+
+    -- the U card could not be read
+    pub unread_u : (unread : ℕ) → Listed (Err unread) → (row : List ℕ) → DeckReads deck (refused_deck 3 1 unread) row
+    unfolding cards_of ◌>>=◌
+    unread_u unread l row = go (words operands.u) refl (listed (Err unread) l)
+      where
+        go : (x : Read (List (Worded Parameter))) → words operands.u ≡ x → UListed (suc operands.before) operands.u x (Err unread) → DeckReads deck (refused_deck 3 1 unread) row
+        go (read ws left) e l = absurd l
+        go (stopped left) e (k, m, d, u) =
+            let c : operands.before + suc k ≡ unread = omega arith in
+            let g : grammatical 1 operands.before operands.u (u_operand operands.u) ≡ refused_at 3 1 unread
+            = grammatical_at 1 operands.before operands.u (u_operand operands.u) k m (u_plain (stopped left) e ∙ ap stopped d) ∙ ap (refused_at 3 1) c in
+            let q : asked_of deck ≡ refused_at 3 1 unread = asked_by ∙ rw g refl in
+            subst (λ (a : Answer RuleAsked). DeckAnswered a (refused_deck 3 1 unread) row) (sym q) refl
+
+    module _ (r : URead) (l : Listed (Ok r)) where
+      abbrev key : ℕ
+      key = key_of r.state.input
+
+      abbrev pub FsListed : Result Noted Unread → List ℕ → Type 0
+      FsListed f row = FsSaid 2 (no_selection (key_of r.state.input)) (fs_first (cards_in (drop next deck))) f row
+
+      fs_said : (f : Result Noted Unread) (row : List ℕ) → FsListed f row → FsSaid 2 (no_selection key) operands.fs f row
+      fs_said f row k = subst (λ (os : List (List ℕ)). FsSaid 2 (no_selection key) os f row) fs_are k
+
+      -- the parameters could be read
+      read_of : (ws : List (Worded Parameter)) (left : List ℕ) → words operands.u ≡ read ws left
+          → grammatical 1 operands.before operands.u (u_operand operands.u) ≡ fine (values_of ws)
+      read_of ws left e = ap (grammatical 1 operands.before operands.u) (u_plain (read ws left) e)
+
+      -- an FS card could not be read
+      pub unread_fs : (f : Unread) (row : List ℕ) → FsListed (Err f) row → DeckReads deck (refused_deck 3 f.card f.column) row
       unfolding cards_of ◌>>=◌
-      unread_u n row = go (words operands.u) refl listed
+      unread_fs f row k = go (words operands.u) refl (listed (Ok r) l) (items_from 2 operands.fs) refl (fs_said (Err f) row k)
         where
-          go : (x : Read (List (Worded Parameter))) → words operands.u ≡ x → UListed (suc operands.before) operands.u x r → DeckReads deck (refused_deck 3 1 r.unread) row
-          go (read ws left) e l = absurd (n l.0)
-          go (stopped left) e (k, m, d, u) =
-              let c : operands.before + suc k ≡ r.unread = omega arith in
-              let g : grammatical 1 operands.before operands.u (u_operand operands.u) ≡ refused_at 3 1 r.unread
-              = grammatical_at 1 operands.before operands.u (u_operand operands.u) k m (u_plain (stopped left) e ∙ ap stopped d) ∙ ap (refused_at 3 1) c in
-              let q : asked_of deck ≡ refused_at 3 1 r.unread = asked_by ∙ rw g refl in
-              subst (λ (a : Answer RuleAsked). DeckAnswered a (refused_deck 3 1 r.unread) row) (sym q) refl
+          go : (x : Read (List (Worded Parameter))) → words operands.u ≡ x → UListed (suc operands.before) operands.u x (Ok r)
+              → (y : Answer (List (List Item))) → items_from 2 operands.fs ≡ y → FsRead 2 (no_selection key) operands.fs y (Err f) row → DeckReads deck (refused_deck 3 f.card f.column) row
+          go (stopped left) e l y q w = absurd l
+          go (read ws left) e l (fine cs) q w = absurd w
+          go (read ws left) e l (refuse x) q w =
+              let v : asked_of deck ≡ refuse x = asked_by ∙ rw (read_of ws left e, q) refl in
+              subst (λ (a : Answer RuleAsked). DeckAnswered a (refused_deck 3 f.card f.column) row) (sym v)
+              (λ i. refused_deck (sym (items_refused operands.fs x q).0 i) (w.0 i) (w.1 i))
 
-      module _ (n : r.unread ≡ 0) (f : FsCards) (row : List ℕ) (k : FsSaid 2 (no_selection (key_of r.state.input)) (fs_first (cards_in (drop next deck))) f row) where
-        abbrev key : ℕ
-        key = key_of r.state.input
-
-        fs_said : FsSaid 2 (no_selection key) operands.fs f row
-        fs_said = subst (λ (os : List (List ℕ)). FsSaid 2 (no_selection key) os f row) fs_are k
-
-        -- the parameters could be read
-        read_of : (ws : List (Worded Parameter)) (left : List ℕ) → words operands.u ≡ read ws left
-            → grammatical 1 operands.before operands.u (u_operand operands.u) ≡ fine (values_of ws)
-        read_of ws left e = ap (grammatical 1 operands.before operands.u) (u_plain (read ws left) e)
-
-        -- an FS card could not be read
-        pub unread_fs : (f.unread ≡ 0 → ⊥) → DeckReads deck (refused_deck 3 f.unread f.column) row
-        unfolding cards_of ◌>>=◌
-        unread_fs z = go (words operands.u) refl listed (items_from 2 operands.fs) refl fs_said
-          where
-            go : (x : Read (List (Worded Parameter))) → words operands.u ≡ x → UListed (suc operands.before) operands.u x r
-                → (y : Answer (List (List Item))) → items_from 2 operands.fs ≡ y → FsRead 2 (no_selection key) operands.fs y f row → DeckReads deck (refused_deck 3 f.unread f.column) row
-            go (stopped left) e (k, m, d, u) y q w = absurd (omega arith)
-            go (read ws left) e l (fine cs) q w = absurd (z w.0)
-            go (read ws left) e l (refuse x) q w =
-                let v : asked_of deck ≡ refuse x = asked_by ∙ rw (read_of ws left e, q) refl in
-                subst (λ (a : Answer RuleAsked). DeckAnswered a (refused_deck 3 f.unread f.column) row) (sym v)
-                (λ i. refused_deck (sym (items_refused operands.fs x q).0 i) (w.0 i) (w.1 i))
-
-        -- all could be read
-        pub all_read : f.unread ≡ 0 → DeckReads deck (judged_as r.state r.outside f.noted fs) row
-        unfolding cards_of ◌>>=◌ u_words
-        all_read z = go (words operands.u) refl listed (items_from 2 operands.fs) refl fs_said
-          where
-            go : (x : Read (List (Worded Parameter))) → words operands.u ≡ x → UListed (suc operands.before) operands.u x r
-                → (y : Answer (List (List Item))) → items_from 2 operands.fs ≡ y → FsRead 2 (no_selection key) operands.fs y f row → DeckReads deck (judged_as r.state r.outside f.noted fs) row
-            go (stopped left) e (k, m, d, u) y q w = absurd (omega arith)
-            go (read ws left) e l (refuse x) q w = absurd (omega (arith, (items_refused operands.fs x q).1, w.0, z))
-            go (read ws left) e l (fine cs) q w =
-                let b : Both FsText operands.fs cs = both_map (λ o is x. read_text fs_operand FsText fs_exactly fs_left o is x.0 x.1) (items_fine 2 operands.fs cs q) in
-                let v = values_of_lem operands.fs cs b in
-                let m : fs ≡ length cs = sym (operands_in deck fs order).2 ∙ both_length b in
-                let t : UText operands.u (values_of ws) = read_text u_operand UText u_exactly u_left operands.u (values_of ws) left (u_plain (read ws left) e) in
-                let a : asked_of deck ≡ judging operands (record { parameters = values_of ws; items = cs }) = asked_by ∙ rw (read_of ws left e, q) refl in
-                subst (λ (x : Answer RuleAsked). DeckAnswered x (judged_as r.state r.outside f.noted fs) row) (sym a)
-                (judged_said operands r.state r.outside ws t (ap parts_of e) l.1 l.2 (f.noted, row) w.1 cs b
-                (subst (λ (x : NotedRow). Holds key x cs) (sym w.1) (subst (Holds key (with_cards 2 (map fs_words operands.fs) (no_selection key))) v.1 (holds_cards key (map fs_words operands.fs) v.0))) fs m)
+      -- all could be read
+      pub all_read : (noted : Noted) (row : List ℕ) → FsListed (Ok noted) row → DeckReads deck (judged_as r.state r.outside noted fs) row
+      unfolding cards_of ◌>>=◌ u_words
+      all_read noted row k = go (words operands.u) refl (listed (Ok r) l) (items_from 2 operands.fs) refl (fs_said (Ok noted) row k)
+        where
+          go : (x : Read (List (Worded Parameter))) → words operands.u ≡ x → UListed (suc operands.before) operands.u x (Ok r)
+              → (y : Answer (List (List Item))) → items_from 2 operands.fs ≡ y → FsRead 2 (no_selection key) operands.fs y (Ok noted) row → DeckReads deck (judged_as r.state r.outside noted fs) row
+          go (stopped left) e l y q w = absurd l
+          go (read ws left) e l (refuse x) q w = absurd w
+          go (read ws left) e l (fine cs) q w =
+              let b : Both FsText operands.fs cs = both_map (λ o is x. read_text fs_operand FsText fs_exactly fs_left o is x.0 x.1) (items_fine 2 operands.fs cs q) in
+              let v = values_of_lem operands.fs cs b in
+              let m : fs ≡ length cs = sym (operands_in deck fs order).2 ∙ both_length b in
+              let t : UText operands.u (values_of ws) = read_text u_operand UText u_exactly u_left operands.u (values_of ws) left (u_plain (read ws left) e) in
+              let a : asked_of deck ≡ judging operands (record { parameters = values_of ws; items = cs }) = asked_by ∙ rw (read_of ws left e, q) refl in
+              subst (λ (x : Answer RuleAsked). DeckAnswered x (judged_as r.state r.outside noted fs) row) (sym a)
+              (judged_said operands r.state r.outside ws t (ap parts_of e) l.0 l.1 (noted, row) w cs b
+              (subst (λ (x : NotedRow). Holds key x cs) (sym w) (subst (Holds key (with_cards 2 (map fs_words operands.fs) (no_selection key))) v.1 (holds_cards key (map fs_words operands.fs) v.0))) fs m)

@@ -24,14 +24,16 @@ use Rattle.rules.proofs.Columns.WordColumns.{word_taken, worded_stops, columns_s
 use Rattle.terms.specs.Meaning.{mode_of, format_of, size_of, input_of}
 use Rattle.readers.specs.declared.UParameter.{UParameter}
 use Rattle.readers.specs.declared.UParameter.TheVariants.{ModeIs, FormatIs, InputIs, OutputIs, RewindIn, RewindOut, FirstIs}
-use Rattle.readers.specs.declared.ParameterRead.TheVariants.{IsParameter, NoParameter}
+use Rattle.std.specs.Prelude.{Ok, Err}
+use Rattle.readers.specs.declared.Stop.{Stop}
+use Rattle.readers.specs.declared.Placed.{Placed}
 use Rattle.readers.specs.Meaning.{second_in, parameter_of, parameter_places, ParameterSays}
 use Rattle.readers.proofs.Callers.{parameter_places_lem, places_inside}
 use Rattle.limits.specs.Limits.{shifted, parameter_outside}
 use Rattle.cards.specs.declared.Parameters.{Parameters}
 use Rattle.cards.specs.declared.OutsideColumns.{OutsideColumns}
 use Rattle.cards.specs.declared.URead.{URead}
-use Rattle.cards.specs.Parameters.{no_parameter, with_part, with_letter, with_second, with_parameter, none_outside, with_numbers, has_seen, option, given_of, Notes, NotesOutside, u_read, UListed}
+use Rattle.cards.specs.Parameters.{no_parameter, with_part, with_letter, with_second, with_parameter, none_outside, with_numbers, has_seen, option, given_of, Notes, NotesOutside, UListed}
 
 pub letter_small : (p : Parameter) → letter p < 7
 letter_small (mode_is m) = omega arith
@@ -221,18 +223,28 @@ module _ (c : ℕ) (low : 1 ≤ c) (s : List ℕ) (st : Parameters) (o : Outside
   abbrev takes : Within 1 (worded parameter)
   takes = within_worded parameter within_parameter
 
-  stopped_at : (k : ℕ) → k ≤ length s → words s ≡ stopped (drop k s) → (r : URead) → r.unread ≡ c + k → UListed c s (words s) r
-  stopped_at k l e r h = subst (λ (x : Read (List (Worded Parameter))). UListed c s x r) (sym e) (k, l, refl, h)
+  stopped_at : (k : ℕ) → k ≤ length s → words s ≡ stopped (drop k s) → (unread : ℕ) → unread ≡ c + k → UListed c s (words s) (Err unread)
+  stopped_at k l e unread h = subst (λ (x : Read (List (Worded Parameter))). UListed c s x (Err unread)) (sym e) (k, l, refl, h)
 
   -- it stops
-  pub going_stop : (r : URead) (a : ℕ) → ParameterSays (drop at s) (NoParameter a) → r.unread ≡ c + at + a → UListed c s (words s) r
-  going_stop r a e h =
+  pub going_stop : (stop : Stop) → ParameterSays (drop at s) (Err stop) → UListed c s (words s) (Err (c + at + stop.at))
+  going_stop stop e =
+      let a = stop.at in
       let m = e.0 in
       stopped_at (at + a) (omega (arith, length-drop at s, g.inside))
       (g.on ∙ ahead_stop "," (worded parameter) takes 44 refl g.so (drop at s) (drop a (drop at s)) (worded_stops parameter (drop at s) (drop a (drop at s)) e.1) ∙ ap stopped (drop-drop a at s))
-      r (omega arith)
+      (c + at + a) (omega arith)
 
-  module _ (p : UParameter) (second n : ℕ) (e : ParameterSays (drop at s) (IsParameter p second n)) where
+  module _ (found : Placed UParameter) (e : ParameterSays (drop at s) (Ok found)) where
+    abbrev p : UParameter
+    p = found.value
+
+    abbrev second : ℕ
+    second = found.second
+
+    abbrev n : ℕ
+    n = found.used
+
     pub parameter_inside : at + n ≤ length s
     parameter_inside = let l = e.0.0 in omega (arith, length-drop at s, g.inside)
 
@@ -266,24 +278,27 @@ module _ (c : ℕ) (low : 1 ≤ c) (s : List ℕ) (st : Parameters) (o : Outside
         (numbers_more c low st g.so g.notes p part second (parameter_places_lem (drop at s) p second n e) o g.numbers)
 
     -- the last
+    abbrev pub last_read : URead
+    last_read = record { state = with_parameter st p (c + at); outside = with_numbers o p second (c + at) }
+
     pub going_last : at + n ≡ length s
-        → UListed c s (words s) (u_read (with_parameter st p (c + at)) (with_numbers o p second (c + at)) 0)
+        → UListed c s (words s) (Ok last_read)
     going_last l =
         let m : length s ≤ at + n = omega arith in
         let k : drop (at + n) s ≡ [] = drop_of_length-le s m in
-        subst (λ (x : Read (List (Worded Parameter))). UListed c s x (u_read (with_parameter st p (c + at)) (with_numbers o p second (c + at)) 0))
+        subst (λ (x : Read (List (Worded Parameter))). UListed c s x (Ok last_read))
         (sym (g.on ∙ ahead_last "," (worded parameter) takes 44 refl g.so (drop at s) the_word (behind ∙ ap (read the_word) k)))
-        (refl, more, more_numbers)
+        (more, more_numbers)
 
     -- another byte than a comma behind it
-    pub going_other : (r : URead) → at + n < length s → (get_or s (at + n) 0 ≡ 44 → ⊥) → r.unread ≡ c + (at + n) → UListed c s (words s) r
-    going_other r l f h =
+    pub going_other : at + n < length s → (get_or s (at + n) 0 ≡ 44 → ⊥) → UListed c s (words s) (Err (c + (at + n)))
+    going_other l f =
         stopped_at (at + n) (omega arith)
         (g.on
         ∙ ahead_other "," (worded parameter) takes 44 refl g.so (drop at s) the_word (get_or s (at + n) 0) (drop (at + n + 1) s)
         (behind ∙ ap (read the_word) (next (get_or s (at + n) 0) l refl)) f
         ∙ ap stopped (sym (next (get_or s (at + n) 0) l refl)))
-        r h
+        (c + (at + n)) refl
 
     -- a comma behind it
     pub going_more : at + n < length s → get_or s (at + n) 0 ≡ 44 → Going c s (with_parameter st p (c + at)) (with_numbers o p second (c + at)) (at + n + 1)

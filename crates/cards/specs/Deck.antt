@@ -1,5 +1,5 @@
 -- Where the operands of a deck's cards stand, and what was read of its FS cards.
-use Rattle.std.specs.Prelude.{◌≡◌, List, [], ◌∷◌, map, ℕ, ◌-◌, ◌≤◌, ◌<◌, length, drop}
+use Rattle.std.specs.Prelude.{◌≡◌, List, [], ◌∷◌, map, ℕ, ◌-◌, ◌≤◌, ◌<◌, length, drop, Result, Ok, Err}
 use Rattle.std.proofs.Math.Option.{Option, none, some}
 use Rattle.std.proofs.Math.Seq.{slice}
 use Rattle.rules.specs.Base.{joined}
@@ -10,7 +10,8 @@ use Rattle.rules.specs.Words.{fs_words}
 use Rattle.rules.specs.Asked.{fields_of, items_from}
 use Rattle.cards.specs.declared.CardAt.{CardAt}
 use Rattle.cards.specs.declared.CardAt.TheVariants.{UAt, FsAt, NoOperand}
-use Rattle.cards.specs.declared.FsCards.{FsCards}
+use Rattle.cards.specs.declared.Noted.{Noted}
+use Rattle.cards.specs.declared.Unread.{Unread}
 use Rattle.cards.specs.Selected.{NotedRow, with_cards}
 
 -- what card each line is
@@ -49,11 +50,13 @@ CardAtSays deck at NoOperand = Operandless (cards_in (drop at deck))
 -- ---- FS cards
 
 -- what was read of the FS cards with these operands, from a card on: the items of all of them, or the first card that could not be read, and where it stopped
-abbrev pub FsRead : ℕ → NotedRow → List (List ℕ) → Answer (List (List Item)) → FsCards → List ℕ → Type 0
-FsRead card t os (fine cs) r row = (r.unread ≡ 0) × ((r.noted, row) ≡ with_cards card (map fs_words os) t)
-FsRead card t os (refuse x) r row = (r.unread ≡ x.place) × (r.column ≡ x.column)
+abbrev pub FsRead : ℕ → NotedRow → List (List ℕ) → Answer (List (List Item)) → Result Noted Unread → List ℕ → Type 0
+FsRead card t os (fine cs) (Ok n) row = (n, row) ≡ with_cards card (map fs_words os) t
+FsRead card t os (fine cs) (Err unread) row = ⊥
+FsRead card t os (refuse x) (Ok n) row = ⊥
+FsRead card t os (refuse x) (Err unread) row = (unread.card ≡ x.place) × (unread.column ≡ x.column)
 
-abbrev pub FsSaid : ℕ → NotedRow → List (List ℕ) → FsCards → List ℕ → Type 0
+abbrev pub FsSaid : ℕ → NotedRow → List (List ℕ) → Result Noted Unread → List ℕ → Type 0
 FsSaid card t os r row = FsRead card t os (items_from card os) r row
 
 -- all FS cards with these operands can be read, and have at most 64 fields

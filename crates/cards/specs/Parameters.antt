@@ -1,5 +1,5 @@
 -- What the parameters of the U card have said so far, and what a parameter more makes of it.
-use Rattle.std.specs.Prelude.{◌≡◌, Bool, true, false, cond, List, [], map, ℕ, eqb, length, get_or, set, replicate}
+use Rattle.std.specs.Prelude.{◌≡◌, Bool, true, false, cond, List, [], map, ℕ, eqb, length, get_or, set, replicate, Result, Ok, Err}
 use Rattle.std.proofs.Math.Option.{Option, none, some}
 use Rattle.rules.specs.Reader.{Read, read, stopped}
 use Rattle.rules.specs.Grammar.{Parameter, ff, fv}
@@ -24,31 +24,21 @@ no_parameter = record { mode = TC; format = FF; input = Plain (One 0); output = 
 
 -- the part that a parameter gives; the letters of I and O say nothing
 unfoldable pub with_part : Parameters → UParameter → Parameters
-with_part st (ModeIs m) = record { mode = m; format = st.format; input = st.input; output = st.output; first = st.first; seen = st.seen; twice = st.twice }
-with_part st (FormatIs f) = record { mode = st.mode; format = f; input = st.input; output = st.output; first = st.first; seen = st.seen; twice = st.twice }
-with_part st (InputIs s) = record { mode = st.mode; format = st.format; input = s; output = st.output; first = st.first; seen = st.seen; twice = st.twice }
-with_part st (OutputIs s) = record { mode = st.mode; format = st.format; input = st.input; output = s; first = st.first; seen = st.seen; twice = st.twice }
+with_part st (ModeIs m) = record st { mode = m }
+with_part st (FormatIs f) = record st { format = f }
+with_part st (InputIs s) = record st { input = s }
+with_part st (OutputIs s) = record st { output = s }
 with_part st RewindIn = st
 with_part st RewindOut = st
-with_part st (FirstIs n) = record { mode = st.mode; format = st.format; input = st.input; output = st.output; first = n; seen = st.seen; twice = st.twice }
+with_part st (FirstIs n) = record st { first = n }
 
 -- its letter has stood
 unfoldable pub with_letter : Parameters → ℕ → Parameters
-with_letter st k =
-    record {
-      mode = st.mode;
-      format = st.format;
-      input = st.input;
-      output = st.output;
-      first = st.first;
-      seen = set st.seen k true;
-      twice = st.twice;
-    }
+with_letter st k = record st { seen = set st.seen k true }
 
 -- a letter has stood before, and its parameter begins at this column
 unfoldable pub with_second : Parameters → ℕ → Parameters
-with_second st column =
-    record { mode = st.mode; format = st.format; input = st.input; output = st.output; first = st.first; seen = st.seen; twice = first_column st.twice column }
+with_second st column = record st { twice = first_column st.twice column }
 
 -- the first of a letter counts
 unfoldable pub with_parameter : Parameters → UParameter → ℕ → Parameters
@@ -96,10 +86,9 @@ pub record NotesOutside (column : ℕ) (o : OutsideColumns) (ws : List (Worded P
   pub plain : o.plain ≡ outside_among (parameter_numbers ff) column ws
   pub variable : o.variable ≡ outside_among (parameter_numbers fv) column ws
 
-abbrev pub u_read : Parameters → OutsideColumns → ℕ → URead
-u_read st o unread = record { state = st; outside = o; unread = unread }
-
 -- what was read of a U card whose operand begins at this column: its parameters, or where it stopped
-abbrev pub UListed : ℕ → List ℕ → Read (List (Worded Parameter)) → URead → Type 0
-UListed column s (read ws left) r = (r.unread ≡ 0) × Notes column r.state ws × NotesOutside column r.outside ws
-UListed column s (stopped left) r = StopsAt column s left r.unread
+abbrev pub UListed : ℕ → List ℕ → Read (List (Worded Parameter)) → Result URead ℕ → Type 0
+UListed column s (read ws left) (Ok u) = Notes column u.state ws × NotesOutside column u.outside ws
+UListed column s (read ws left) (Err unread) = ⊥
+UListed column s (stopped left) (Ok u) = ⊥
+UListed column s (stopped left) (Err unread) = StopsAt column s left unread

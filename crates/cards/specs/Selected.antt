@@ -11,7 +11,7 @@ use Rattle.terms.specs.Meaning.{field_of, laid}
 use Rattle.rows.specs.Flat.{flat_of, Short}
 use Rattle.rows.specs.Kept.{row_of}
 use Rattle.cards.specs.declared.Noted.{Noted}
-use Rattle.cards.specs.declared.ListRead.{ListRead}
+use Rattle.std.specs.Prelude.{Result, Ok, Err}
 use Rattle.cards.specs.Stops.{StopsAt}
 
 -- ---- what is noted
@@ -21,21 +21,16 @@ nothing_noted key = record { key = key; count = 0; sixty_fifth = 0; cv = 0; keye
 
 -- a field more is fieldCounted; of the 65th its card is noted
 unfoldable pub field_counted : Noted → ℕ → Noted
-field_counted n card =
-    cond (ltb n.count 64)
-    (record { key = n.key; count = n.count + 1; sixty_fifth = n.sixty_fifth; cv = n.cv; keyed = n.keyed; second_cv = n.second_cv; second_column = n.second_column; beyond = n.beyond; beyond_column = n.beyond_column })
-    (record { key = n.key; count = n.count; sixty_fifth = first_column n.sixty_fifth card; cv = n.cv; keyed = n.keyed; second_cv = n.second_cv; second_column = n.second_column; beyond = n.beyond; beyond_column = n.beyond_column })
+field_counted n card = cond (ltb n.count 64) (record n { count = n.count + 1 }) (record n { sixty_fifth = first_column n.sixty_fifth card })
 
 -- of the first field that is taken from the key the card is noted
 abbrev pub key_noted : Noted → ℕ → Part → Noted
 key_noted n card in_data = n
-key_noted n card in_key =
-    record { key = n.key; count = n.count; sixty_fifth = n.sixty_fifth; cv = n.cv; keyed = first_column n.keyed card; second_cv = n.second_cv; second_column = n.second_column; beyond = n.beyond; beyond_column = n.beyond_column }
+key_noted n card in_key = record n { keyed = first_column n.keyed card }
 
 -- of the first field with a number outside its limits the card and the number's column are noted
 abbrev pub beyond_noted : Noted → ℕ → ℕ → Noted
-beyond_noted n card column =
-    record { key = n.key; count = n.count; sixty_fifth = n.sixty_fifth; cv = n.cv; keyed = n.keyed; second_cv = n.second_cv; second_column = n.second_column; beyond = card; beyond_column = column }
+beyond_noted n card column = record n { beyond = card; beyond_column = column }
 
 unfoldable pub field_noted : Noted → ℕ → Part → ℕ → Noted
 field_noted n card part outside =
@@ -44,12 +39,10 @@ field_noted n card part outside =
 
 -- the card of CV, and the card and column of the second CV, are noted
 abbrev pub first_noted : Noted → ℕ → Noted
-first_noted n card =
-    record { key = n.key; count = n.count; sixty_fifth = n.sixty_fifth; cv = card; keyed = n.keyed; second_cv = n.second_cv; second_column = n.second_column; beyond = n.beyond; beyond_column = n.beyond_column }
+first_noted n card = record n { cv = card }
 
 abbrev pub second_noted : Noted → ℕ → ℕ → Noted
-second_noted n card column =
-    record { key = n.key; count = n.count; sixty_fifth = n.sixty_fifth; cv = n.cv; keyed = n.keyed; second_cv = card; second_column = column; beyond = n.beyond; beyond_column = n.beyond_column }
+second_noted n card column = record n { second_cv = card; second_column = column }
 
 unfoldable pub cv_noted : Noted → ℕ → ℕ → Noted
 cv_noted n card column = cond (eqb n.cv 0) (first_noted n card) (cond (eqb n.second_cv 0) (second_noted n card column) n)
@@ -81,9 +74,11 @@ with_words card column (w ∷ ws) t =
     with_words card (column + suc (length w.text)) ws (with_item card column (outside_in item_numbers column w) w.value t)
 
 -- what a list, or a rest, gives: of a text that begins at a column, whose first item begins at column b
-abbrev pub ListSays : ℕ → ℕ → ℕ → NotedRow → List ℕ → Read (List (Worded Item)) → ListRead → List ℕ → Type 0
-ListSays card b column t s (read ws left) r row = (r.unread ≡ 0) × (r.noted ≡ (with_words card b ws t).0) × (row ≡ (with_words card b ws t).1)
-ListSays card b column t s (stopped left) r row = StopsAt column s left r.unread
+abbrev pub ListSays : ℕ → ℕ → ℕ → NotedRow → List ℕ → Read (List (Worded Item)) → Result Noted ℕ → List ℕ → Type 0
+ListSays card b column t s (read ws left) (Ok n) row = (n ≡ (with_words card b ws t).0) × (row ≡ (with_words card b ws t).1)
+ListSays card b column t s (read ws left) (Err unread) row = ⊥
+ListSays card b column t s (stopped left) (Ok n) row = ⊥
+ListSays card b column t s (stopped left) (Err unread) row = StopsAt column s left unread
 
 -- ---- the cards
 

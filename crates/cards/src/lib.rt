@@ -10,18 +10,17 @@ ghost use Rattle.rules.specs.Words.{worded};
 ghost use Rattle.rules.specs.Asked.{letter, items_from, asked_of};
 ghost use Rattle.terms.specs.Meaning.{format_of, field_of, part_of, field_cards};
 ghost use Rattle.rows.specs.Kept.{row_of};
-ghost use Rattle.readers.specs.declared.UParameter.TheVariants.{ModeIs, FormatIs, InputIs, OutputIs};
 ghost use Rattle.readers.specs.Meaning.{parameter_of};
 ghost use Rattle.limits.specs.Limits.{Reaches};
 ghost use Rattle.lines.specs.Meaning.{IsCard, LineSays};
 ghost use Rattle.cards.specs.Selected.{nothing_noted, field_counted, key_noted, field_noted, cv_noted, Keepable, kept_row, ListSays, no_selection};
-ghost use Rattle.cards.specs.Parameters.{no_parameter, with_part, with_parameter, none_outside, with_numbers, u_read, UListed};
+ghost use Rattle.cards.specs.Parameters.{no_parameter, with_part, with_parameter, none_outside, with_numbers, UListed};
 ghost use Rattle.cards.specs.Deck.{cards_in, fs_first, CardAtSays, FsSaid, FsFine};
 ghost use Rattle.cards.specs.CardRefusals.{is_complete, u_outside, limits_of, card_refusal_of, asked_for, judged_as};
 ghost use Rattle.cards.specs.Promise.{refused_deck, nothing_asked, InOrder, DeckReads, DeckSays, card_of_field};
 
 use lines::{CardRead, LineRead};
-use readers::{ItemRead, ParameterRead, UParameter};
+use readers::{CardItem, UParameter};
 use terms::{Asked, Field, Format, Input, Mode, Part, Size};
 
 const COMMA: u8 = b',';
@@ -135,60 +134,71 @@ fn keep(row: &mut [u16; 320], count: usize, field: Field, outside: usize)
     }
 }
 
-// What a list gives beside the row: what is noted, and the column at which it stopped, or 0 where all of it was read.
-#[derive(Clone, Copy)]
-struct ListRead {
-    noted: Noted,
-    unread: usize,
-}
-
-// A list is an item and its rest.
+// A list is an item and its rest. It gives what is noted, or the column at which it stopped.
 #[cycle(list_rest)]
-fn list(operand: &[u8], card: usize, column: usize, noted: Noted, row: &mut [u16; 320]) -> ListRead
+fn list(
+    operand: &[u8],
+    card: usize,
+    column: usize,
+    noted: Noted,
+    row: &mut [u16; 320],
+) -> Result<Noted, usize>
     requires { (length row.old ≡ 320) × (1 ≤ column) × Reaches column (length operand.now) × (noted.key ≤ 4096) }
     ensures { (length row.new ≡ 320) × ListSays card column column (noted, row.old) operand.now (list_of "/" (worded item) operand.now) result row.new }
 {
-    let next = readers::item(operand);
-    match next {
-        ItemRead::IsField {
-            part,
-            field,
-            places,
-            used,
-        } => {
-            let outside = limits::field_outside(part, field, places, column);
-            let own = keys::laid(part, field, noted.key);
-            keep(row, noted.count, own, outside);
-            let after = field_noted(noted, card, part, outside);
-            rest(&operand[used..], card, column + used, after, row)
-        }
-        ItemRead::IsCV { used } => {
-            let after = cv_noted(noted, card, column);
-            rest(&operand[used..], card, column + used, after, row)
-        }
-        ItemRead::NoItem { at } => {
-            let unread = column + at;
-            ListRead { noted, unread }
-        }
+    match readers::item(operand) {
+        Ok(found) => match found.value {
+            CardItem::Field {
+                part,
+                field,
+                places,
+            } => {
+                let outside = limits::field_outside(part, field, places, column);
+                let own = keys::laid(part, field, noted.key);
+                keep(row, noted.count, own, outside);
+                let after = field_noted(noted, card, part, outside);
+                rest(
+                    &operand[found.used..],
+                    card,
+                    column + found.used,
+                    after,
+                    row,
+                )
+            }
+            CardItem::CV => {
+                let after = cv_noted(noted, card, column);
+                rest(
+                    &operand[found.used..],
+                    card,
+                    column + found.used,
+                    after,
+                    row,
+                )
+            }
+        },
+        Err(stop) => Err(column + stop.at),
     }
 }
 
 // A rest is nothing, or a slash and a list.
 #[cycle(list_rest)]
-fn rest(operand: &[u8], card: usize, column: usize, noted: Noted, row: &mut [u16; 320]) -> ListRead
+fn rest(
+    operand: &[u8],
+    card: usize,
+    column: usize,
+    noted: Noted,
+    row: &mut [u16; 320],
+) -> Result<Noted, usize>
     requires { (length row.old ≡ 320) × (1 ≤ column) × Reaches column (length operand.now) × (noted.key ≤ 4096) }
     ensures { (length row.new ≡ 320) × ListSays card (1 + column) column (noted, row.old) operand.now (rest_of "/" (worded item) operand.now) result row.new }
 {
     if operand.len() == 0 {
-        return ListRead { noted, unread: 0 };
+        return Ok(noted);
     }
     if operand[0] == SLASH {
         return list(&operand[1..], card, column + 1, noted, row);
     }
-    ListRead {
-        noted,
-        unread: column,
-    }
+    Err(column)
 }
 
 // ---- the U card
@@ -236,98 +246,18 @@ fn letter(parameter: UParameter) -> usize
     }
 }
 
-// T is given.
-fn with_mode(state: Parameters, mode: Mode) -> Parameters
-    ensures { result ≡ with_part state (ModeIs mode) }
-{
-    let format = state.format;
-    let input = state.input;
-    let output = state.output;
-    let seen = state.seen;
-    Parameters {
-        mode,
-        format,
-        input,
-        output,
-        first: state.first,
-        seen,
-        twice: state.twice,
-    }
-}
-
-// F is given.
-fn with_format(state: Parameters, format: Format) -> Parameters
-    ensures { result ≡ with_part state (FormatIs format) }
-{
-    let mode = state.mode;
-    let input = state.input;
-    let output = state.output;
-    let seen = state.seen;
-    Parameters {
-        mode,
-        format,
-        input,
-        output,
-        first: state.first,
-        seen,
-        twice: state.twice,
-    }
-}
-
-// A is given.
-fn with_input(state: Parameters, input: Input) -> Parameters
-    ensures { result ≡ with_part state (InputIs input) }
-{
-    let mode = state.mode;
-    let format = state.format;
-    let output = state.output;
-    let seen = state.seen;
-    Parameters {
-        mode,
-        format,
-        input,
-        output,
-        first: state.first,
-        seen,
-        twice: state.twice,
-    }
-}
-
-// B is given.
-fn with_output(state: Parameters, output: Size) -> Parameters
-    ensures { result ≡ with_part state (OutputIs output) }
-{
-    let mode = state.mode;
-    let format = state.format;
-    let input = state.input;
-    let seen = state.seen;
-    Parameters {
-        mode,
-        format,
-        input,
-        output,
-        first: state.first,
-        seen,
-        twice: state.twice,
-    }
-}
-
 // The part that a parameter gives takes the place of the part before. The letters of I and O say nothing.
+#[tactic(auto, unfolding(crate::specs::Parameters::with_part))]
 fn with_part(state: Parameters, parameter: UParameter) -> Parameters
     ensures { result ≡ with_part state parameter }
 {
-    let mut next = state;
     match parameter {
-        UParameter::ModeIs(mode) => with_mode(state, mode),
-        UParameter::FormatIs(format) => with_format(state, format),
-        UParameter::InputIs(input) => with_input(state, input),
-        UParameter::OutputIs(output) => with_output(state, output),
-        UParameter::RewindIn => state,
-        UParameter::RewindOut => state,
-        UParameter::FirstIs(first) => {
-            next.first = first;
-            next
-        }
+        UParameter::ModeIs(mode) => Parameters { mode, ..state },
+        UParameter::FormatIs(format) => Parameters { format, ..state },
+        UParameter::InputIs(input) => Parameters { input, ..state },
+        UParameter::OutputIs(output) => Parameters { output, ..state },
+        UParameter::RewindIn | UParameter::RewindOut => state,
+        UParameter::FirstIs(first) => Parameters { first, ..state },
     }
 }
 
@@ -384,26 +314,15 @@ fn with_numbers(
     }
 }
 
-// What the parameters of a U card say, and the column at which it stopped, or 0 where all of it was read.
+// What the parameters of a U card say.
 #[derive(Clone, Copy)]
 struct URead {
     state: Parameters,
     outside: OutsideColumns,
-    unread: usize,
 }
 
-fn u_read(state: Parameters, outside: OutsideColumns, unread: usize) -> URead
-    ensures { result ≡ u_read state outside unread }
-{
-    URead {
-        state,
-        outside,
-        unread,
-    }
-}
-
-// One or more parameters in any order with commas between. The operand begins at this column.
-fn u_card(operand: &[u8], column: usize) -> URead
+// One or more parameters in any order with commas between, or the column at which they stop. The operand begins at this column.
+fn u_card(operand: &[u8], column: usize) -> Result<URead, usize>
     requires { (1 ≤ column) × Reaches column (length operand.now + 5) }
     ensures { UListed column operand.now (list_of "," (worded ruleParameter) operand.now) result }
 {
@@ -411,26 +330,19 @@ fn u_card(operand: &[u8], column: usize) -> URead
     let mut outside = none_outside();
     let mut at: usize = 0;
     loop {
-        let next = readers::parameter(&operand[at..]);
-        match next {
-            ParameterRead::NoParameter { at: stop } => {
-                return u_read(state, outside, column + at + stop);
-            }
-            ParameterRead::IsParameter {
-                parameter,
-                second,
-                used,
-            } => {
-                state = with_parameter(state, parameter, column + at);
-                outside = with_numbers(outside, parameter, second, column + at);
-                at += used;
+        match readers::parameter(&operand[at..]) {
+            Err(stop) => return Err(column + at + stop.at),
+            Ok(found) => {
+                state = with_parameter(state, found.value, column + at);
+                outside = with_numbers(outside, found.value, found.second, column + at);
+                at += found.used;
             }
         }
         if at == operand.len() {
-            return u_read(state, outside, 0);
+            return Ok(URead { state, outside });
         }
         if operand[at] != COMMA {
-            return u_read(state, outside, column + at);
+            return Err(column + at);
         }
         at += 1;
     }
@@ -488,17 +400,16 @@ fn card_at(deck: &[u8], at: usize) -> CardAt
     }
 }
 
-// What the FS cards say beside the row, and the first card that could not be read with the column at which it stopped, or 0 and 0.
+// The first FS card that could not be read, and the column at which it stopped.
 #[derive(Clone, Copy)]
-struct FsCards {
-    noted: Noted,
-    unread: usize,
+struct Unread {
+    card: usize,
     column: usize,
 }
 
 // The FS cards from the line that begins at `from` on, behind a key of so many bytes. The first of them is card 2, and an operand begins at column 7. Their fields
 // go into the row.
-fn fs_cards(deck: &[u8], from: usize, key: usize, row: &mut [u16; 320]) -> FsCards
+fn fs_cards(deck: &[u8], from: usize, key: usize, row: &mut [u16; 320]) -> Result<Noted, Unread>
     requires all { All IsCard (cards_in (drop from deck.now)) }
     requires row_value { (row.old ≡ row_of []) × (key ≤ 4096) }
     ensures { (length row.new ≡ 320) × FsSaid 2 (no_selection key) (fs_first (cards_in (drop from deck.now))) result row.new }
@@ -509,22 +420,12 @@ fn fs_cards(deck: &[u8], from: usize, key: usize, row: &mut [u16; 320]) -> FsCar
     loop {
         let found = card_at(deck, at);
         let CardAt::FsAt { start, end, next } = found else {
-            return FsCards {
-                noted,
-                unread: 0,
-                column: 0,
-            };
+            return Ok(noted);
         };
-        let read = list(&deck[start..end], card, 7, noted, row);
-        let unread = read.unread;
-        noted = read.noted;
-        if unread != 0 {
-            return FsCards {
-                noted,
-                unread: card,
-                column: unread,
-            };
-        }
+        noted = match list(&deck[start..end], card, 7, noted, row) {
+            Ok(more) => more,
+            Err(column) => return Err(Unread { card, column }),
+        };
         card += 1;
         at = next;
     }
@@ -537,16 +438,7 @@ fn is_complete(parameters: Parameters) -> bool
     ensures { result ≡ is_complete parameters }
 {
     let seen = parameters.seen;
-    if !seen[0] {
-        return false;
-    }
-    if !seen[1] {
-        return false;
-    }
-    if !seen[2] {
-        return false;
-    }
-    seen[3]
+    seen[0] && seen[1] && seen[2] && seen[3]
 }
 
 // The column of the U card's first number outside its limits, or 0.
@@ -728,20 +620,14 @@ fn read_ordered(deck: &[u8], fs: usize, row: &mut [u16; 320]) -> DeckRead
         // The first card of a deck in order is a U card.
         return refused(2, 1, 0);
     };
-    let u = u_card(&deck[start..end], start + 1);
-    if u.unread != 0 {
-        return refused(3, 1, u.unread);
+    let u = match u_card(&deck[start..end], start + 1) {
+        Ok(u) => u,
+        Err(column) => return refused(3, 1, column),
+    };
+    match fs_cards(deck, next, keys::key_length(u.state.input), row) {
+        Ok(noted) => judged(u.state, u.outside, noted, fs),
+        Err(unread) => refused(3, unread.card, unread.column),
     }
-    let parameters = u.state;
-    let input = parameters.input;
-    let selected = fs_cards(deck, next, keys::key_length(input), row);
-    let unread = selected.unread;
-    if unread != 0 {
-        return refused(3, unread, selected.column);
-    }
-    let outside = u.outside;
-    let noted = selected.noted;
-    judged(parameters, outside, noted, fs)
 }
 
 // Reads a deck into a row that holds no fields yet; of a refused deck it may hold some.
@@ -785,8 +671,11 @@ fn card_over(deck: &[u8], from: usize, field: usize) -> usize
         let CardAt::FsAt { start, end, next } = found else {
             return 0;
         };
-        let read = list(&deck[start..end], card, 7, noted, &mut row);
-        noted = read.noted;
+        let Ok(more) = list(&deck[start..end], card, 7, noted, &mut row) else {
+            // All of them can be read.
+            return 0;
+        };
+        noted = more;
         if field < noted.count {
             return card;
         }

@@ -19,12 +19,9 @@ use Rattle.rules.proofs.Grammar.GrammarLaws.{parameter_sound, item_sound}
 use Rattle.terms.specs.Meaning.{field_of, card_field}
 use Rattle.terms.specs.declared.Part.{Part}
 use Rattle.terms.specs.declared.Field.{Field}
-use Rattle.readers.specs.Meaning.{Reads, NumberSays, parameter_of, ParameterSays, parameter_places, ItemSays, field_places}
-use Rattle.readers.specs.declared.NumberRead.TheVariants.{IsNumber}
+use Rattle.readers.specs.Meaning.{Reads, NumberSays, parameter_of, ParameterSays, parameter_places, ItemSays, field_places, a_number, a_parameter, a_field, a_cv}
 use Rattle.readers.specs.declared.UParameter.{UParameter}
-use Rattle.readers.specs.declared.ParameterRead.TheVariants.{IsParameter}
 use Rattle.readers.specs.declared.Places.{Places}
-use Rattle.readers.specs.declared.ItemRead.TheVariants.{IsField, IsCV}
 pub use Rattle.readers.proofs.NumberPlaces.{places_inside}
 use Rattle.terms.proofs.FieldLaws.{input_of_lem, output_of}
 use Rattle.readers.proofs.OnlyOne.{taken_once}
@@ -37,21 +34,21 @@ takes p w s a n r =
     let k = within_read 1 p w s a (drop n s) r.1 in
     omega (arith, k.least, taken_once s n k.taken r.0 k.most k.is)
 
-pub number_takes : (s : List ℕ) (v n : ℕ) → NumberSays s (IsNumber v n) → 1 ≤ n
+pub number_takes : (s : List ℕ) (v n : ℕ) → NumberSays s (a_number v n) → 1 ≤ n
 number_takes s v n r = takes number within_number s v n r
 
-pub parameter_takes : (s : List ℕ) (u : UParameter) (second n : ℕ) → ParameterSays s (IsParameter u second n) → 1 ≤ n
+pub parameter_takes : (s : List ℕ) (u : UParameter) (second n : ℕ) → ParameterSays s (a_parameter u second n) → 1 ≤ n
 parameter_takes s u second n r = takes parameter within_parameter s (parameter_of u) n r.0
 
-pub field_takes : (s : List ℕ) (part : Part) (f : Field) (p : Places) (n : ℕ) → ItemSays s (IsField part f p n) → 1 ≤ n
+pub field_takes : (s : List ℕ) (part : Part) (f : Field) (p : Places) (n : ℕ) → ItemSays s (a_field part f p n) → 1 ≤ n
 field_takes s part f p n r = takes item within_item s (field (card_field part f)) n r.0
 
-pub cv_takes : (s : List ℕ) (n : ℕ) → ItemSays s (IsCV n) → 1 ≤ n
+pub cv_takes : (s : List ℕ) (n : ℕ) → ItemSays s (a_cv n) → 1 ≤ n
 cv_takes s n r = takes item within_item s cv n r
 
 -- ---- at most 99,999
 
-pub number_small : (s : List ℕ) (v n : ℕ) → NumberSays s (IsNumber v n) → v < 100000
+pub number_small : (s : List ℕ) (v n : ℕ) → NumberSays s (a_number v n) → v < 100000
 number_small s v n r = value_small s v (drop n s) r.1
 
 abbrev pub SmallSize : RuleSize → Type 0
@@ -98,7 +95,7 @@ small_parameter ParameterText.ON = tt
 small_parameter ParameterText.OU = tt
 small_parameter (ParameterText.R a) = text_small a
 
-pub parameter_small : (s : List ℕ) (u : UParameter) (second n : ℕ) → ParameterSays s (IsParameter u second n) → SmallParameter (parameter_of u)
+pub parameter_small : (s : List ℕ) (u : UParameter) (second n : ℕ) → ParameterSays s (a_parameter u second n) → SmallParameter (parameter_of u)
 parameter_small s u second n r = small_parameter (parameter_sound s (parameter_of u) (drop n s) r.0.1).2
 
 -- the numbers of a field
@@ -125,7 +122,7 @@ small_item : {x : List ℕ} {i : Item} → ItemText x i → SmallItem i
 small_item (ItemText.a_field a k c) = let h = small_kind k in (small_start a, h.0, h.1, text_small c)
 small_item ItemText.CV = tt
 
-pub field_small : (s : List ℕ) (part : Part) (f : Field) (p : Places) (n : ℕ) → ItemSays s (IsField part f p n) → SmallField f
+pub field_small : (s : List ℕ) (part : Part) (f : Field) (p : Places) (n : ℕ) → ItemSays s (a_field part f p n) → SmallField f
 unfolding card_field field_of
 field_small s part f p n q =
     let h : SmallItem (field (card_field part f)) = small_item (item_sound s (field (card_field part f)) (drop n s) q.0.1).2 in
@@ -134,9 +131,9 @@ field_small s part f p n q =
 -- ---- where the numbers begin
 
 -- the one place that a parameter's answer tells, and the four that a field's answer tells, are all that there are but the fixed ones
-pub parameter_places_lem : (s : List ℕ) (u : UParameter) (second n : ℕ) → ParameterSays s (IsParameter u second n)
+pub parameter_places_lem : (s : List ℕ) (u : UParameter) (second n : ℕ) → ParameterSays s (a_parameter u second n)
     → number_columns false 0 (take n s) ≡ parameter_places u second
 parameter_places_lem s u second n r = parameter_numbers s n u second r.0 r.1
 
-pub item_places : (s : List ℕ) (part : Part) (f : Field) (p : Places) (n : ℕ) → ItemSays s (IsField part f p n) → number_columns false 0 (take n s) ≡ field_places f.kind p
+pub item_places : (s : List ℕ) (part : Part) (f : Field) (p : Places) (n : ℕ) → ItemSays s (a_field part f p n) → number_columns false 0 (take n s) ≡ field_places f.kind p
 item_places s part f p n r = item_numbers s part f p n r.0 r.2

@@ -20,12 +20,14 @@ use Rattle.terms.specs.Meaning.{kind_of, OneSize, field_of, part_of, card_field}
 use Rattle.terms.specs.declared.Part.{Part}
 use Rattle.terms.specs.declared.Kind.{Kind}
 use Rattle.terms.specs.declared.Kind.TheVariants.{Copy, Pack, Unpack}
-use Rattle.readers.specs.Meaning.{ReadsFrom, StopsFrom, Stops, numbers_in, places_in, Sized, kind_places, KindFrom, behind_places, field_places, ItemFrom, ItemSays}
-use Rattle.readers.specs.declared.KindRead.{KindRead}
-use Rattle.readers.specs.declared.KindRead.TheVariants.{IsKind, NoKind}
+use Rattle.readers.specs.Meaning.{ReadsFrom, StopsFrom, Stops, numbers_in, places_in, Sized, kind_places, KindFrom, behind_places, field_places, ItemUpTo, ItemFrom, ItemReads, ItemSays}
+use Rattle.std.specs.Prelude.{Result, Ok, Err}
+use Rattle.readers.specs.declared.Stop.{Stop}
+use Rattle.readers.specs.declared.Found.{Found}
+use Rattle.readers.specs.declared.Middle.{Middle}
 use Rattle.readers.specs.declared.Places.{Places}
-use Rattle.readers.specs.declared.ItemRead.{ItemRead}
-use Rattle.readers.specs.declared.ItemRead.TheVariants.{IsField, IsCV, NoItem}
+use Rattle.readers.specs.declared.CardItem.{CardItem}
+use Rattle.readers.specs.declared.CardItem.TheVariants.{Field as AField, CV}
 use Rattle.readers.proofs.NumberPlaces.{text_is, text_ahead, none_between, mark_passed, marks_passed, number_ahead, number_passed, then_text, then_ahead, then_passed, both_passed}
 use Rattle.readers.proofs.TextPlaces.{behind_places_lem}
 use Rattle.readers.proofs.Parts.{marks_not, both_there, second_not}
@@ -80,11 +82,11 @@ module _ (say : ℕ → ℕ → RuleKind) (s : List ℕ) (from : ℕ) where
 module _ (s : List ℕ) (from : ℕ) where
   -- behind a letter
   module _ (say : ℕ → ℕ → RuleKind) (bracket : get_or s from 256 ≡ 40) (m : ℕ) (letter : get_or s (from + 1) 256 ≡ m) (plain : is_digit m ≡ false) where
-    pub kind_goes : kind_reader (drop from s) ≡ sizes_behind say (drop (from + 2) s) → (k : KindRead) → KindFrom (sizes_behind say) (from + 2) s k → KindFrom kind_reader from s k
-    kind_goes e (IsKind k a b i j n) h =
+    pub kind_goes : kind_reader (drop from s) ≡ sizes_behind say (drop (from + 2) s) → (k : Result (Found Middle) Stop) → KindFrom (sizes_behind say) (from + 2) s k → KindFrom kind_reader from s k
+    kind_goes e (Ok k) h =
         let l = h.2 in
-        ((h.0.0, e ∙ h.0.1), h.1, omega arith, h.3, marks_passed s from 40 m n bracket letter refl plain l h.0.0 ∙ h.4)
-    kind_goes e (NoKind a) h = (h.0, e ∙ h.1)
+        ((h.0.0, e ∙ h.0.1), h.1, omega arith, h.3, marks_passed s from 40 m k.used bracket letter refl plain l h.0.0 ∙ h.4)
+    kind_goes e (Err stop) h = (h.0, e ∙ h.1)
 
   -- no bracket
   module _ (other : get_or s from 256 ≡ 40 → ⊥) where
@@ -144,19 +146,19 @@ places_back Unpack p e = refl
 
 -- what is behind r tells the item, where all that is before holds the number r alone
 start_goes : (s : List ℕ) (b : Start) (place to : ℕ) → item s ≡ field_behind b (drop to s)
-    → ((n : ℕ) → to ≤ n → n ≤ length s → numbers_in false s 0 n ≡ place ∷ numbers_in false s to n) → (x : ItemRead) → ItemFrom (field_behind b) to place s x → ItemSays s x
-start_goes s b place to e passed (IsField part f p n) h =
+    → ((n : ℕ) → to ≤ n → n ≤ length s → numbers_in false s 0 n ≡ place ∷ numbers_in false s to n) → (x : CardItem) (n : ℕ) → ItemUpTo (field_behind b) to place s x n → ItemReads s x n
+start_goes s b place to e passed (AField part f p) n h =
     let c : numbers_in false s 0 n ≡ field_places f.kind p
     = passed n h.2 h.0.0 ∙ ap (λ (x : List ℕ). place ∷ x) h.4 ∙ ap (λ (r : ℕ). r ∷ behind_places f.kind p) (sym h.5) in
     ((h.0.0, e ∙ h.0.1), h.1, sym (ap places_in c ∙ places_back f.kind p h.3))
-start_goes s b place to e passed (IsCV n) h = (h.0, e ∙ h.1)
-start_goes s b place to e passed (NoItem a) h = (h.0, e ∙ h.1)
+start_goes s b place to e passed CV n h = (h.0, e ∙ h.1)
 
 -- `r,`
 module _ (s : List ℕ) (other : get_or s 0 256 ≡ 67 → ⊥) (bare : get_or s 0 256 ≡ 40 → ⊥) where
-  pub item_goes : (v to : ℕ) → ReadsFrom (number_then 44) 0 s v to → (x : ItemRead) → ItemFrom (field_behind (start in_data v)) to 0 s x → ItemSays s x
-  item_goes v to r x h =
-      start_goes s (start in_data v) 0 to (item_field s other bare ∙ rw r.1 refl) (λ n k l. then_passed s 0 44 v to (omega arith) r n refl k l) x h
+  pub item_goes : (v to : ℕ) → ReadsFrom (number_then 44) 0 s v to → (x : Result (Found CardItem) Stop) → ItemFrom (field_behind (start in_data v)) to 0 s x → ItemSays s x
+  item_goes v to r (Ok x) h =
+      start_goes s (start in_data v) 0 to (item_field s other bare ∙ rw r.1 refl) (λ n k l. then_passed s 0 44 v to (omega arith) r n refl k l) x.value x.used h
+  item_goes v to r (Err stop) h = (h.0, item_field s other bare ∙ rw r.1 refl ∙ h.1)
 
   pub item_stops : (a : ℕ) → StopsFrom (number_then 44) 0 s a → Stops item s a
   item_stops a r = (r.0, item_field s other bare ∙ rw r.1 refl)
@@ -222,8 +224,9 @@ module _ (s : List ℕ) (bracket : get_or s 0 256 ≡ 40) where
       mark_passed s 0 false 40 n bracket refl (omega arith) l ∙ ap (number_columns false 1) (text_ahead s 1 to (key_text x.1) i x.2 n (omega arith) k l)
       ∙ key_columns x.1 (slice to n s) x.3 ∙ ap (λ (j : ℕ). 3 ∷ number_columns false j (slice to n s)) (sym e)
 
-  pub key_goes : (v to : ℕ) → ReadsFrom key_then 1 s v to → (x : ItemRead) → ItemFrom (field_behind (start in_key v)) to 3 s x → ItemSays s x
-  key_goes v to r x h = start_goes s (start in_key v) 3 to (item_key s bracket ∙ rw r.1 refl) (key_passed v to r) x h
+  pub key_goes : (v to : ℕ) → ReadsFrom key_then 1 s v to → (x : Result (Found CardItem) Stop) → ItemFrom (field_behind (start in_key v)) to 3 s x → ItemSays s x
+  key_goes v to r (Ok x) h = start_goes s (start in_key v) 3 to (item_key s bracket ∙ rw r.1 refl) (key_passed v to r) x.value x.used h
+  key_goes v to r (Err stop) h = (h.0, item_key s bracket ∙ rw r.1 refl ∙ h.1)
 
   pub key_item_stops : (a : ℕ) → StopsFrom key_then 1 s a → Stops item s a
   key_item_stops a r = (r.0, item_key s bracket ∙ rw r.1 refl)

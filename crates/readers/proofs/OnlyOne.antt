@@ -21,15 +21,15 @@ use Rattle.terms.specs.declared.Part.TheVariants.{Data, Key}
 use Rattle.terms.specs.declared.Field.{Field}
 use Rattle.terms.proofs.BackLaws.{mode_back, mode_back_lem, format_back, format_back_lem}
 use Rattle.terms.proofs.FieldLaws.{kind_back, input_of_lem, output_of}
-use Rattle.readers.specs.Meaning.{Reads, Stops, NumberSays, second_in, places_in, parameter_of, ParameterSays, ItemSays}
-use Rattle.readers.specs.declared.NumberRead.{NumberRead}
-use Rattle.readers.specs.declared.NumberRead.TheVariants.{IsNumber, NoNumber}
+use Rattle.readers.specs.Meaning.{Reads, Stops, NumberSays, second_in, places_in, parameter_of, ParameterSays, ItemReads, ItemSays}
+use Rattle.std.specs.Prelude.{Result, Ok, Err}
+use Rattle.readers.specs.declared.Stop.{Stop}
+use Rattle.readers.specs.declared.Found.{Found}
+use Rattle.readers.specs.declared.Placed.{Placed}
 use Rattle.readers.specs.declared.UParameter.{UParameter}
 use Rattle.readers.specs.declared.UParameter.TheVariants.{ModeIs, FormatIs, InputIs, OutputIs, RewindIn, RewindOut, FirstIs}
-use Rattle.readers.specs.declared.ParameterRead.{ParameterRead}
-use Rattle.readers.specs.declared.ParameterRead.TheVariants.{IsParameter, NoParameter}
-use Rattle.readers.specs.declared.ItemRead.{ItemRead}
-use Rattle.readers.specs.declared.ItemRead.TheVariants.{IsField, IsCV, NoItem}
+use Rattle.readers.specs.declared.CardItem.{CardItem}
+use Rattle.readers.specs.declared.CardItem.TheVariants.{Field as AField, CV}
 
 -- ---- what one reader answers to one text
 
@@ -52,13 +52,19 @@ module _ {A : Type 0} (p : Reader A) (s : List ℕ) where
   pub not_both : (a : A) (n m : ℕ) → Reads p s a n → Stops p s m → ⊥
   not_both a n m r q = not_read (drop m s) a (drop n s) (sym q.1 ∙ r.1)
 
+-- where two answers stop
+stop_once : (a b : Stop) → a.at ≡ b.at → a ≡ b
+stop_once a b e = λ i. record { at = e i }
+
 -- ---- a number
 
-pub number_only_one : (s : List ℕ) (a b : NumberRead) → NumberSays s a → NumberSays s b → a ≡ b
-number_only_one s (IsNumber v n) (IsNumber w m) r q = let e = one_read number s v w n m r q in let f = e.0 in let g = e.1 in cc
-number_only_one s (IsNumber v n) (NoNumber m) r q = absurd (not_both number s v n m r q)
-number_only_one s (NoNumber n) (IsNumber w m) r q = absurd (not_both number s w m n q r)
-number_only_one s (NoNumber n) (NoNumber m) r q = ap NoNumber (one_stop number s n m r q)
+pub number_only_one : (s : List ℕ) (a b : Result (Found ℕ) Stop) → NumberSays s a → NumberSays s b → a ≡ b
+number_only_one s (Ok a) (Ok b) r q =
+    let e = one_read number s a.value b.value a.used b.used r q in
+    ap Ok (λ i. record { value = e.0 i; used = e.1 i })
+number_only_one s (Ok a) (Err b) r q = absurd (not_both number s a.value a.used b.at r q)
+number_only_one s (Err a) (Ok b) r q = absurd (not_both number s b.value b.used a.at q r)
+number_only_one s (Err a) (Err b) r q = ap Err (stop_once a b (one_stop number s a.at b.at r q))
 
 -- ---- a parameter
 
@@ -99,16 +105,15 @@ parameter_back_lem (FirstIs n) = refl
 pub parameter_once : (u w : UParameter) → parameter_of u ≡ parameter_of w → u ≡ w
 parameter_once u w e = sym (parameter_back_lem u) ∙ ap parameter_back e ∙ parameter_back_lem w
 
-pub parameter_only_one : (s : List ℕ) (a b : ParameterRead) → ParameterSays s a → ParameterSays s b → a ≡ b
-parameter_only_one s (IsParameter u a n) (IsParameter w b m) r q =
-    let e = one_read parameter s (parameter_of u) (parameter_of w) n m r.0 q.0 in
-    let f = parameter_once u w e.0 in
-    let g = e.1 in
-    let h : a ≡ b = r.1 ∙ ap (λ (k : ℕ). second_in (number_columns false 0 (take k s))) g ∙ sym q.1 in
-    cc
-parameter_only_one s (IsParameter u a n) (NoParameter m) r q = absurd (not_both parameter s (parameter_of u) n m r.0 q)
-parameter_only_one s (NoParameter n) (IsParameter w b m) r q = absurd (not_both parameter s (parameter_of w) m n q.0 r)
-parameter_only_one s (NoParameter n) (NoParameter m) r q = ap NoParameter (one_stop parameter s n m r q)
+pub parameter_only_one : (s : List ℕ) (a b : Result (Placed UParameter) Stop) → ParameterSays s a → ParameterSays s b → a ≡ b
+parameter_only_one s (Ok a) (Ok b) r q =
+    let e = one_read parameter s (parameter_of a.value) (parameter_of b.value) a.used b.used r.0 q.0 in
+    let f = parameter_once a.value b.value e.0 in
+    let h : a.second ≡ b.second = r.1 ∙ ap (λ (k : ℕ). second_in (number_columns false 0 (take k s))) e.1 ∙ sym q.1 in
+    ap Ok (λ i. record { value = f i; second = h i; used = e.1 i })
+parameter_only_one s (Ok a) (Err b) r q = absurd (not_both parameter s (parameter_of a.value) a.used b.at r.0 q)
+parameter_only_one s (Err a) (Ok b) r q = absurd (not_both parameter s (parameter_of b.value) b.used a.at q.0 r)
+parameter_only_one s (Err a) (Err b) r q = ap Err (stop_once a b (one_stop parameter s a.at b.at r q))
 
 -- ---- an item
 
@@ -150,20 +155,26 @@ field_value f g e = cc
 not_cv : (f : CardField) → field f ≡ cv → ⊥
 not_cv f e = let z : ◌≡◌ {A = ℕ} 0 1 = cc in omega arith
 
-pub item_only_one : (s : List ℕ) (a b : ItemRead) → ItemSays s a → ItemSays s b → a ≡ b
-item_only_one s (IsField o f a n) (IsField p g b m) r q =
+item_once : (s : List ℕ) (x y : CardItem) (n m : ℕ) → ItemReads s x n → ItemReads s y m → (x ≡ y) × (n ≡ m)
+item_once s (AField o f a) (AField p g b) n m r q =
     let e = one_read item s (field (card_field o f)) (field (card_field p g)) n m r.0 q.0 in
     let h = card_once o p f g r.1 q.1 (field_value (card_field o f) (card_field p g) e.0) in
     let i = h.0 in
     let j = h.1 in
-    let k = e.1 in
-    let l : a ≡ b = r.2 ∙ ap (λ (j : ℕ). places_in (number_columns false 0 (take j s))) k ∙ sym q.2 in
-    cc
-item_only_one s (IsField o f a n) (IsCV m) r q = absurd (not_cv (card_field o f) (one_read item s (field (card_field o f)) cv n m r.0 q).0)
-item_only_one s (IsField o f a n) (NoItem m) r q = absurd (not_both item s (field (card_field o f)) n m r.0 q)
-item_only_one s (IsCV n) (IsField p g b m) r q = absurd (not_cv (card_field p g) (one_read item s (field (card_field p g)) cv m n q.0 r).0)
-item_only_one s (IsCV n) (IsCV m) r q = ap IsCV (one_read item s cv cv n m r q).1
-item_only_one s (IsCV n) (NoItem m) r q = absurd (not_both item s cv n m r q)
-item_only_one s (NoItem n) (IsField p g b m) r q = absurd (not_both item s (field (card_field p g)) m n q.0 r)
-item_only_one s (NoItem n) (IsCV m) r q = absurd (not_both item s cv m n q r)
-item_only_one s (NoItem n) (NoItem m) r q = ap NoItem (one_stop item s n m r q)
+    let l : a ≡ b = r.2 ∙ ap (λ (j : ℕ). places_in (number_columns false 0 (take j s))) e.1 ∙ sym q.2 in
+    (cc, e.1)
+item_once s (AField o f a) CV n m r q = absurd (not_cv (card_field o f) (one_read item s (field (card_field o f)) cv n m r.0 q).0)
+item_once s CV (AField p g b) n m r q = absurd (not_cv (card_field p g) (one_read item s (field (card_field p g)) cv m n q.0 r).0)
+item_once s CV CV n m r q = (refl, (one_read item s cv cv n m r q).1)
+
+item_or_stop : (s : List ℕ) (x : CardItem) (n m : ℕ) → ItemReads s x n → Stops item s m → ⊥
+item_or_stop s (AField o f a) n m r q = not_both item s (field (card_field o f)) n m r.0 q
+item_or_stop s CV n m r q = not_both item s cv n m r q
+
+pub item_only_one : (s : List ℕ) (a b : Result (Found CardItem) Stop) → ItemSays s a → ItemSays s b → a ≡ b
+item_only_one s (Ok a) (Ok b) r q =
+    let e = item_once s a.value b.value a.used b.used r q in
+    ap Ok (λ i. record { value = e.0 i; used = e.1 i })
+item_only_one s (Ok a) (Err b) r q = absurd (item_or_stop s a.value a.used b.at r q)
+item_only_one s (Err a) (Ok b) r q = absurd (item_or_stop s b.value b.used a.at q r)
+item_only_one s (Err a) (Err b) r q = ap Err (stop_once a b (one_stop item s a.at b.at r q))

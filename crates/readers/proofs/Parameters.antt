@@ -13,13 +13,13 @@ use Rattle.rules.specs.Grammar.{Size, two, one, Input, input_is, output_is, firs
 use Rattle.rules.specs.Words.{number_columns}
 use Rattle.rules.specs.TextParts.{number_then, size_behind, data_behind, keyed_behind}
 use Rattle.rules.proofs.Grammar.ChoiceLaws.{Ending, byte_inside, mark_there, mark_not, parameter_a=, parameter_b=, parameter_first, size_open, size_comma, size_close, input_keyed, input_plain}
+use Rattle.std.specs.Prelude.{Result, Ok, Err}
 use Rattle.terms.specs.declared.Size.{Size as GivenSize}
+use Rattle.terms.specs.declared.Input.{Input as GivenInput}
 use Rattle.terms.specs.declared.Input.TheVariants.{Plain, Keyed}
 use Rattle.readers.specs.Meaning.{Reads, Stops, ReadsFrom, StopsFrom, numbers_in, first_in, second_in, SizeFrom, InputFrom}
-use Rattle.readers.specs.declared.SizeRead.{SizeRead}
-use Rattle.readers.specs.declared.SizeRead.TheVariants.{IsSize, NoSize}
-use Rattle.readers.specs.declared.InputRead.{InputRead}
-use Rattle.readers.specs.declared.InputRead.TheVariants.{IsInput, NoInput}
+use Rattle.readers.specs.declared.Stop.{Stop}
+use Rattle.readers.specs.declared.Placed.{Placed}
 use Rattle.readers.proofs.Parts.{marks_not, both_there, second_not}
 use Rattle.readers.proofs.NumberPlaces.{none_between, mark_passed, marks_passed, number_ahead, number_passed, then_ahead, then_passed}
 use Rattle.readers.proofs.TextPlaces.{alone}
@@ -49,17 +49,17 @@ module _ (s : List ℕ) (from n : ℕ) (comma : get_or s from 256 ≡ 44) where
 
 -- behind the bracket
 module _ (s : List ℕ) (from : ℕ) (bracket : get_or s from 256 ≡ 40) where
-  pub size_goes : (v to : ℕ) → ReadsFrom number (from + 1) s v to → (z : SizeRead) → SizeFrom true first_in (size_behind v) to s z
+  pub size_goes : (v to : ℕ) → ReadsFrom number (from + 1) s v to → (z : Result (Placed GivenSize) Stop) → SizeFrom true first_in (size_behind v) to s z
       → SizeFrom false second_in size_reader from s z
-  size_goes v to r (IsSize z second n) h =
+  size_goes v to r (Ok z) h =
       let l : from + 1 ≤ length s = omega (arith, byte_inside s from 40 bracket (omega arith)) in
       let a = number_ahead s (from + 1) v to l r in
       let b = h.1 in (
         (h.0.0, size_open s from bracket ∙ rw r.1 h.0.1),
         omega arith,
-        h.2 ∙ sym (ap second_in (mark_passed s from false 40 n bracket refl (omega arith) h.0.0 ∙ number_passed s (from + 1) v to l r n b h.0.0)),
+        h.2 ∙ sym (ap second_in (mark_passed s from false 40 z.used bracket refl (omega arith) h.0.0 ∙ number_passed s (from + 1) v to l r z.used b h.0.0)),
       )
-  size_goes v to r (NoSize a) h = (h.0, size_open s from bracket ∙ rw r.1 h.1)
+  size_goes v to r (Err stop) h = (h.0, size_open s from bracket ∙ rw r.1 h.1)
 
   pub size_stops : (a : ℕ) → StopsFrom number (from + 1) s a → StopsFrom size_reader from s a
   size_stops a r = (r.0, size_open s from bracket ∙ rw r.1 refl)
@@ -78,7 +78,7 @@ module _ (key : ℕ) (s : List ℕ) (from : ℕ) where
     data_unsigned h = (omega (arith, byte_inside s from 68 letter (omega arith)), rw (second_not 68 61 s from letter (omega arith) h))
 
     module _ (sign : get_or s (from + 1) 256 ≡ 61) where
-      pub data_read : (d to : ℕ) → ReadsFrom (number_then 41) (from + 2) s d to → InputFrom first_in (data_behind key) from s (IsInput (Keyed key d) (from + 2) to)
+      pub data_read : (d to : ℕ) → ReadsFrom (number_then 41) (from + 2) s d to → InputFrom first_in (data_behind key) from s (Ok (record { value = Keyed key d; second = from + 2; used = to }))
       unfolding data_behind
       data_read d to r =
           let l : from + 2 ≤ length s = omega (arith, byte_inside s (from + 1) 61 sign (omega arith)) in
@@ -99,33 +99,33 @@ module _ (s : List ℕ) (from : ℕ) where
   keyed_unsigned l h = (l, rw (mark_not 61 s from h))
 
   module _ (sign : get_or s from 256 ≡ 61) where
-    pub keyed_goes : (k to : ℕ) → ReadsFrom (number_then 44) (from + 1) s k to → (i : InputRead) → InputFrom first_in (data_behind k) to s i → InputFrom second_in keyed_behind from s i
+    pub keyed_goes : (k to : ℕ) → ReadsFrom (number_then 44) (from + 1) s k to → (i : Result (Placed GivenInput) Stop) → InputFrom first_in (data_behind k) to s i → InputFrom second_in keyed_behind from s i
     unfolding keyed_behind
-    keyed_goes k to r (IsInput i second n) h =
+    keyed_goes k to r (Ok i) h =
         let l : from + 1 ≤ length s = omega (arith, byte_inside s from 61 sign (omega arith)) in
         let a = then_ahead s (from + 1) 44 k to l r in
         let b = h.1 in (
           (h.0.0, rw (mark_there 61 s from (omega arith) sign, r.1) h.0.1),
           omega arith,
-          h.2 ∙ sym (ap second_in (mark_passed s from false 61 n sign refl (omega arith) h.0.0 ∙ then_passed s (from + 1) 44 k to l r n refl b h.0.0)),
+          h.2 ∙ sym (ap second_in (mark_passed s from false 61 i.used sign refl (omega arith) h.0.0 ∙ then_passed s (from + 1) 44 k to l r i.used refl b h.0.0)),
         )
-    keyed_goes k to r (NoInput a) h = (h.0, rw (mark_there 61 s from (omega arith) sign, r.1) h.1)
+    keyed_goes k to r (Err stop) h = (h.0, rw (mark_there 61 s from (omega arith) sign, r.1) h.1)
 
     pub keyed_stops : (a : ℕ) → StopsFrom (number_then 44) (from + 1) s a → StopsFrom keyed_behind from s a
     unfolding keyed_behind
     keyed_stops a r = (r.0, rw (mark_there 61 s from (omega arith) sign, r.1))
 
   -- `(K`
-  pub input_goes : get_or s from 256 ≡ 40 → get_or s (from + 1) 256 ≡ 75 → (i : InputRead) → InputFrom second_in keyed_behind (from + 2) s i → InputFrom second_in input_reader from s i
-  input_goes o k (IsInput i second n) h =
+  pub input_goes : get_or s from 256 ≡ 40 → get_or s (from + 1) 256 ≡ 75 → (i : Result (Placed GivenInput) Stop) → InputFrom second_in keyed_behind (from + 2) s i → InputFrom second_in input_reader from s i
+  input_goes o k (Ok i) h =
       let l = h.1 in
-      ((h.0.0, input_keyed s from o k ∙ h.0.1), omega arith, h.2 ∙ sym (ap second_in (marks_passed s from 40 75 n o k refl refl l h.0.0)))
-  input_goes o k (NoInput a) h = (h.0, input_keyed s from o k ∙ h.1)
+      ((h.0.0, input_keyed s from o k ∙ h.0.1), omega arith, h.2 ∙ sym (ap second_in (marks_passed s from 40 75 i.used o k refl refl l h.0.0)))
+  input_goes o k (Err stop) h = (h.0, input_keyed s from o k ∙ h.1)
 
   -- no `(K`
   module _ (other : get_or s from 256 ≡ 40 → get_or s (from + 1) 256 ≡ 75 → ⊥) where
-    pub plain_read : (z : GivenSize) (second n : ℕ) → SizeFrom false second_in size_reader from s (IsSize z second n) → InputFrom second_in input_reader from s (IsInput (Plain z) second n)
-    plain_read z second n r = ((r.0.0, input_plain s from other ∙ rw r.0.1 refl), r.1, r.2)
+    pub plain_read : (z : Placed GivenSize) → SizeFrom false second_in size_reader from s (Ok z) → InputFrom second_in input_reader from s (Ok (record { value = Plain z.value; second = z.second; used = z.used }))
+    plain_read z r = ((r.0.0, input_plain s from other ∙ rw r.0.1 refl), r.1, r.2)
 
     pub plain_stops : (a : ℕ) → StopsFrom size_reader from s a → StopsFrom input_reader from s a
     plain_stops a r = (r.0, input_plain s from other ∙ rw r.1 refl)

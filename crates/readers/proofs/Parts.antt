@@ -1,5 +1,7 @@
 -- What is read from a place of a text on: what is left behind a part is the text from a later place on.
 use mathlib.Core.Path.{◌≡◌, refl, ap, sym, ◌∙◌}
+use mathlib.Core.Bool.{Bool, false}
+use Rattle.std.specs.Prelude.{IsTrue}
 use mathlib.Core.List.{List, [], ◌∷◌}
 use Prim.Native.Nat.{ℕ, suc, ◌+◌, ◌≤◌, ◌<◌}
 use native.Mathlib.Numerals.{add-one}
@@ -57,3 +59,7 @@ module _ (mark : ℕ) (s : List ℕ) (from : ℕ) where
   pub then_stop : (a : ℕ) → StopsFrom number from s a → StopsFrom (number_then mark) from s a
   unfolding number_then
   then_stop a r = (r.0, rw r.1)
+
+-- a mark that a test did not find
+pub not_there : {P : Type 0} (b : Bool) → (P → IsTrue b) → b ≡ false → P → ⊥
+not_there b h e p = let t = h p in cc

@@ -1,31 +1,28 @@
 -- What the answers of the readers mean: each says what the rules' reader of the same text answers, and where.
-use Rattle.std.specs.Prelude.{◌≡◌, Bool, false, cond, List, [], ◌∷◌, ℕ, ◌-◌, ◌≤◌, length, take, drop}
+use Rattle.std.specs.Prelude.{◌≡◌, Bool, false, cond, List, [], ◌∷◌, ℕ, ◌+◌, ◌-◌, ◌<◌, ◌≤◌, length, take, drop, get_or, Option, Some, None, Result, Ok, Err}
 use Rattle.std.proofs.Math.Seq.{slice}
 use Rattle.rules.specs.Reader.{read, stopped, Reader, is_digit, number}
 use Rattle.rules.specs.Halves.{Kind as RuleKind}
 use Rattle.rules.specs.Grammar.{Size as RuleSize, Input as RuleInput, Parameter as RuleParameter, mode_is, format_is, input_is, output_is, rewind_in, rewind_out, first_is, Item, field, cv, parameter, item}
 use Rattle.rules.specs.Words.{number_columns}
 use Rattle.terms.specs.Meaning.{mode_of, format_of, size_of, input_of, kind_of, OneSize, card_field}
+use Rattle.terms.specs.declared.Size.{Size}
 use Rattle.terms.specs.declared.Size.TheVariants.{Two, One}
+use Rattle.terms.specs.declared.Input.{Input}
 use Rattle.terms.specs.declared.Input.TheVariants.{Plain, Keyed}
 use Rattle.terms.specs.declared.Kind.{Kind}
+use Rattle.terms.specs.declared.Part.{Part}
 use Rattle.terms.specs.declared.Field.{Field}
 use Rattle.terms.specs.declared.Kind.TheVariants.{Copy, Pack, Unpack}
-use Rattle.readers.specs.declared.NumberRead.{NumberRead}
-use Rattle.readers.specs.declared.NumberRead.TheVariants.{IsNumber, NoNumber}
-use Rattle.readers.specs.declared.SizeRead.{SizeRead}
-use Rattle.readers.specs.declared.SizeRead.TheVariants.{IsSize, NoSize}
-use Rattle.readers.specs.declared.InputRead.{InputRead}
-use Rattle.readers.specs.declared.InputRead.TheVariants.{IsInput, NoInput}
-use Rattle.readers.specs.declared.KindRead.{KindRead}
-use Rattle.readers.specs.declared.KindRead.TheVariants.{IsKind, NoKind}
+use Rattle.readers.specs.declared.Stop.{Stop}
+use Rattle.readers.specs.declared.Found.{Found}
+use Rattle.readers.specs.declared.Placed.{Placed}
+use Rattle.readers.specs.declared.Middle.{Middle}
 use Rattle.readers.specs.declared.UParameter.{UParameter}
 use Rattle.readers.specs.declared.UParameter.TheVariants.{ModeIs, FormatIs, InputIs, OutputIs, RewindIn, RewindOut, FirstIs}
-use Rattle.readers.specs.declared.ParameterRead.{ParameterRead}
-use Rattle.readers.specs.declared.ParameterRead.TheVariants.{IsParameter, NoParameter}
 use Rattle.readers.specs.declared.Places.{Places}
-use Rattle.readers.specs.declared.ItemRead.{ItemRead}
-use Rattle.readers.specs.declared.ItemRead.TheVariants.{IsField, IsCV, NoItem}
+use Rattle.readers.specs.declared.CardItem.{CardItem}
+use Rattle.readers.specs.declared.CardItem.TheVariants.{Field as AField, CV}
 
 -- ---- what is read, and where it stops
 
@@ -45,19 +42,31 @@ module _ {A : Type 0} (p : Reader A) where
   abbrev pub Stops : List ℕ → ℕ → Type 0
   Stops s at = (at ≤ length s) × (p s ≡ stopped (drop at s))
 
+-- ---- a byte
+
+-- the byte at a place, where the text has one; 256 is no byte
+abbrev pub PeekSays : List ℕ → ℕ → Option ℕ → Type 0
+PeekSays s at (Some b) = (at < length s) × (get_or s at 256 ≡ b)
+PeekSays s at None = get_or s at 256 ≡ 256
+
+-- the place behind a mark, where it stands there
+abbrev pub MarkSays : ℕ → ℕ → List ℕ → Result ℕ Stop → Type 0
+MarkSays mark at s (Ok to) = (get_or s at 256 ≡ mark) × (to ≡ at + 1) × (to ≤ length s)
+MarkSays mark at s (Err stop) = (get_or s at 256 ≡ mark → ⊥) × (stop.at ≡ at)
+
 -- ---- a number
 
--- the value of a digit, and 10 for what is no digit
-abbrev pub digit_value : ℕ → ℕ
-digit_value b = cond (is_digit b) (b - 48) 10
+-- the value of a digit
+abbrev pub digit_value : ℕ → Option ℕ
+digit_value b = cond (is_digit b) (Some (b - 48)) None
 
-abbrev pub NumberFrom : Reader ℕ → ℕ → List ℕ → NumberRead → Type 0
-NumberFrom p from s (IsNumber v n) = ReadsFrom p from s v n
-NumberFrom p from s (NoNumber a) = StopsFrom p from s a
+abbrev pub NumberFrom : Reader ℕ → ℕ → List ℕ → Result (Found ℕ) Stop → Type 0
+NumberFrom p from s (Ok n) = ReadsFrom p from s n.value n.used
+NumberFrom p from s (Err stop) = StopsFrom p from s stop.at
 
-abbrev pub NumberSays : List ℕ → NumberRead → Type 0
-NumberSays s (IsNumber v n) = Reads number s v n
-NumberSays s (NoNumber a) = Stops number s a
+abbrev pub NumberSays : List ℕ → Result (Found ℕ) Stop → Type 0
+NumberSays s (Ok n) = Reads number s n.value n.used
+NumberSays s (Err stop) = Stops number s stop.at
 
 -- ---- where numbers begin
 
@@ -85,13 +94,13 @@ places_in (r ∷ n ∷ m ∷ t ∷ more) = record { r = r; input = n; output = m
 
 -- ---- a parameter
 
-abbrev pub SizeFrom : Bool → (List ℕ → ℕ) → Reader RuleSize → ℕ → List ℕ → SizeRead → Type 0
-SizeFrom digit place p from s (IsSize z second n) = ReadsFrom p from s (size_of z) n × (from ≤ n) × (second ≡ place (numbers_in digit s from n))
-SizeFrom digit place p from s (NoSize a) = StopsFrom p from s a
+abbrev pub SizeFrom : Bool → (List ℕ → ℕ) → Reader RuleSize → ℕ → List ℕ → Result (Placed Size) Stop → Type 0
+SizeFrom digit place p from s (Ok z) = ReadsFrom p from s (size_of z.value) z.used × (from ≤ z.used) × (z.second ≡ place (numbers_in digit s from z.used))
+SizeFrom digit place p from s (Err stop) = StopsFrom p from s stop.at
 
-abbrev pub InputFrom : (List ℕ → ℕ) → Reader RuleInput → ℕ → List ℕ → InputRead → Type 0
-InputFrom place p from s (IsInput i second n) = ReadsFrom p from s (input_of i) n × (from ≤ n) × (second ≡ place (numbers_in false s from n))
-InputFrom place p from s (NoInput a) = StopsFrom p from s a
+abbrev pub InputFrom : (List ℕ → ℕ) → Reader RuleInput → ℕ → List ℕ → Result (Placed Input) Stop → Type 0
+InputFrom place p from s (Ok i) = ReadsFrom p from s (input_of i.value) i.used × (from ≤ i.used) × (i.second ≡ place (numbers_in false s from i.used))
+InputFrom place p from s (Err stop) = StopsFrom p from s stop.at
 
 abbrev pub parameter_of : UParameter → RuleParameter
 parameter_of (ModeIs m) = mode_is (mode_of m)
@@ -102,9 +111,16 @@ parameter_of RewindIn = rewind_in
 parameter_of RewindOut = rewind_out
 parameter_of (FirstIs n) = first_is n
 
-abbrev pub ParameterSays : List ℕ → ParameterRead → Type 0
-ParameterSays s (IsParameter u second n) = Reads parameter s (parameter_of u) n × (second ≡ second_in (number_columns false 0 (take n s)))
-ParameterSays s (NoParameter a) = Stops parameter s a
+abbrev pub ParameterSays : List ℕ → Result (Placed UParameter) Stop → Type 0
+ParameterSays s (Ok u) = Reads parameter s (parameter_of u.value) u.used × (u.second ≡ second_in (number_columns false 0 (take u.used s)))
+ParameterSays s (Err stop) = Stops parameter s stop.at
+
+-- the answers that found something
+abbrev pub a_number : ℕ → ℕ → Result (Found ℕ) Stop
+a_number v n = Ok (record { value = v; used = n })
+
+abbrev pub a_parameter : UParameter → ℕ → ℕ → Result (Placed UParameter) Stop
+a_parameter u second n = Ok (record { value = u; second = second; used = n })
 
 -- the places of a parameter's numbers
 abbrev pub parameter_places : UParameter → ℕ → List ℕ
@@ -133,10 +149,12 @@ kind_places Copy first second = first ∷ []
 kind_places Pack first second = first ∷ second ∷ []
 kind_places Unpack first second = first ∷ second ∷ []
 
-abbrev pub KindFrom : Reader RuleKind → ℕ → List ℕ → KindRead → Type 0
-KindFrom p from s (IsKind k input output first second n) =
-    ReadsFrom p from s (kind_of k input output) n × OneSize k input output × (from ≤ n) × OneSize k first second × (numbers_in false s from n ≡ kind_places k first second)
-KindFrom p from s (NoKind a) = StopsFrom p from s a
+abbrev pub KindFrom : Reader RuleKind → ℕ → List ℕ → Result (Found Middle) Stop → Type 0
+KindFrom p from s (Ok m) =
+    let k = m.value in
+    ReadsFrom p from s (kind_of k.kind k.input k.output) m.used × OneSize k.kind k.input k.output
+    × (from ≤ m.used) × OneSize k.kind k.first k.second × (numbers_in false s from m.used ≡ kind_places k.kind k.first k.second)
+KindFrom p from s (Err stop) = StopsFrom p from s stop.at
 
 -- the places of a field's numbers behind r, and of all of them
 abbrev pub behind_places : Kind → Places → List ℕ
@@ -147,19 +165,29 @@ behind_places Unpack p = p.input ∷ p.output ∷ p.t ∷ []
 abbrev pub field_places : Kind → Places → List ℕ
 field_places k p = p.r ∷ behind_places k p
 
-abbrev pub field_struct : Kind → ℕ → ℕ → ℕ → ℕ → Field
-field_struct k r input output t = record { kind = k; r = r; input = input; output = output; t = t }
-
--- from a place on, where r stands at another
-abbrev pub ItemFrom : Reader Item → ℕ → ℕ → List ℕ → ItemRead → Type 0
-ItemFrom p from place s (IsField part f q n) =
+-- from a place on up to another, where r stands at a third
+abbrev pub ItemUpTo : Reader Item → ℕ → ℕ → List ℕ → CardItem → ℕ → Type 0
+ItemUpTo p from place s (AField part f q) n =
     ReadsFrom p from s (field (card_field part f)) n × OneSize f.kind f.input f.output
     × (from ≤ n) × OneSize f.kind q.input q.output × (numbers_in false s from n ≡ behind_places f.kind q) × (q.r ≡ place)
-ItemFrom p from place s (IsCV n) = ReadsFrom p from s cv n
-ItemFrom p from place s (NoItem a) = StopsFrom p from s a
+ItemUpTo p from place s CV n = ReadsFrom p from s cv n
 
-abbrev pub ItemSays : List ℕ → ItemRead → Type 0
-ItemSays s (IsField part f p n) =
+abbrev pub ItemFrom : Reader Item → ℕ → ℕ → List ℕ → Result (Found CardItem) Stop → Type 0
+ItemFrom p from place s (Ok i) = ItemUpTo p from place s i.value i.used
+ItemFrom p from place s (Err stop) = StopsFrom p from s stop.at
+
+-- from the front
+abbrev pub ItemReads : List ℕ → CardItem → ℕ → Type 0
+ItemReads s (AField part f p) n =
     Reads item s (field (card_field part f)) n × OneSize f.kind f.input f.output × (p ≡ places_in (number_columns false 0 (take n s)))
-ItemSays s (IsCV n) = Reads item s cv n
-ItemSays s (NoItem a) = Stops item s a
+ItemReads s CV n = Reads item s cv n
+
+abbrev pub ItemSays : List ℕ → Result (Found CardItem) Stop → Type 0
+ItemSays s (Ok i) = ItemReads s i.value i.used
+ItemSays s (Err stop) = Stops item s stop.at
+
+abbrev pub a_field : Part → Field → Places → ℕ → Result (Found CardItem) Stop
+a_field part f p n = Ok (record { value = AField part f p; used = n })
+
+abbrev pub a_cv : ℕ → Result (Found CardItem) Stop
+a_cv n = Ok (record { value = CV; used = n })

@@ -12,10 +12,11 @@ use Rattle.rules.proofs.Base.AllLaws.{all_tail}
 use Rattle.lines.specs.Meaning.{IsCard}
 use Rattle.cards.specs.declared.CardAt.{CardAt}
 use Rattle.cards.specs.declared.CardAt.TheVariants.{UAt, FsAt, NoOperand}
+use Rattle.std.specs.Prelude.{Ok, Err}
 use Rattle.cards.specs.declared.Noted.{Noted}
 use Rattle.cards.specs.Selected.{NotedRow}
 use Rattle.cards.specs.Deck.{OperandAt, CardAtSays}
-use Rattle.cards.proofs.HolderLaws.{Seeking, Held, seeking_start, seeking_none, seeking_u, seeking_key, seeking_found, seeking_more}
+use Rattle.cards.proofs.HolderLaws.{Seeking, Held, seeking_start, seeking_none, seeking_u, seeking_stop, seeking_key, seeking_found, seeking_more}
 use Rattle.cards.proofs.DeckLaws.{lent_list}
 use Rattle.cards.proofs.card_over.Goals as goal
 
@@ -56,8 +57,8 @@ slice_bounds-list-end c =
     let is_fs : OperandAt fs_card c.args.deck.now c.loop-start.at c.in-FsAt.start c.in-FsAt.end c.in-FsAt.next = subst (CardAtSays c.args.deck.now c.loop-start.at) c.in-FsAt.is c.card_at-found.ensures in
     is_fs.upto
 
-pub list-read-requires : goal.list-read-requires
-list-read-requires c =
+pub list-requires : goal.list-requires
+list-requires c =
     let is_fs : OperandAt fs_card c.args.deck.now c.loop-start.at c.in-FsAt.start c.in-FsAt.end c.in-FsAt.next = subst (CardAtSays c.args.deck.now c.loop-start.at) c.in-FsAt.is c.card_at-found.ensures in
     let l = c.loop-start in
     let h = is_fs in
@@ -69,9 +70,10 @@ returns-then-field-noted c =
     let l = c.loop-start in
     let a = c.args in
     let g = c.in-FsAt in
-    let r = c.list-read in
-    let told = lent_list l.card (l.noted, l.row) a.deck.now g.start g.end is_fs.from r.result r.new.row r.ensures.1 in
-    seeking_found a.deck.now a.from a.field (l.noted, l.row) l.card l.at l.invariant.3 g.start g.end g.next is_fs r.result r.new.row told c.if-field-noted.true
+    let r = c.list in
+    let n = c.in-Ok.more in
+    let told = lent_list l.card (l.noted, l.row) a.deck.now g.start g.end is_fs.from (Ok n) r.new.row c.in-Ok.ensures.1 in
+    seeking_found a.deck.now a.from a.field (l.noted, l.row) l.card l.at l.invariant.3 g.start g.end g.next is_fs n r.new.row told c.if-field-noted.true
 
 pub overflow_add-card : goal.overflow_add-card
 overflow_add-card c =
@@ -89,11 +91,22 @@ loop-start-preserved c =
     let l = c.loop-start in
     let a = c.args in
     let g = c.in-FsAt in
-    let r = c.list-read in
-    let told = lent_list l.card (l.noted, l.row) a.deck.now g.start g.end is_fs.from r.result r.new.row r.ensures.1 in (
+    let r = c.list in
+    let n = c.in-Ok.more in
+    let told = lent_list l.card (l.noted, l.row) a.deck.now g.start g.end is_fs.from (Ok n) r.new.row c.in-Ok.ensures.1 in (
       r.ensures.0,
       all_tail (subst (All IsCard) is_fs.is l.invariant.1),
-      omega (arith, seeking_key a.deck.now a.from a.field (l.noted, l.row) l.card l.at l.invariant.3 g.start g.end g.next is_fs r.result r.new.row told, l.invariant.2),
+      omega (arith, seeking_key a.deck.now a.from a.field (l.noted, l.row) l.card l.at l.invariant.3 g.start g.end g.next is_fs n r.new.row told, l.invariant.2),
       rw (add-one l.card)
-          (seeking_more a.deck.now a.from a.field (l.noted, l.row) l.card l.at l.invariant.3 g.start g.end g.next is_fs r.result r.new.row told c.if-field-noted.false),
+          (seeking_more a.deck.now a.from a.field (l.noted, l.row) l.card l.at l.invariant.3 g.start g.end g.next is_fs n r.new.row told c.if-field-noted.false),
     )
+
+-- all of them can be read
+pub returns-in_default-list : goal.returns-in_default-list
+returns-in_default-list c =
+    let is_fs : OperandAt fs_card c.args.deck.now c.loop-start.at c.in-FsAt.start c.in-FsAt.end c.in-FsAt.next = subst (CardAtSays c.args.deck.now c.loop-start.at) c.in-FsAt.is c.card_at-found.ensures in
+    let l = c.loop-start in
+    let a = c.args in
+    let g = c.in-FsAt in
+    let told = lent_list l.card (l.noted, l.row) a.deck.now g.start g.end is_fs.from (Err c.in_default-list.field-0) c.list.new.row c.in_default-list.ensures.1 in
+    absurd (seeking_stop a.deck.now a.from a.field (l.noted, l.row) l.card l.at l.invariant.3 g.start g.end g.next is_fs c.in_default-list.field-0 c.list.new.row told)

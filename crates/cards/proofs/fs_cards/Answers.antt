@@ -14,6 +14,7 @@ use Rattle.rows.proofs.RowLaws.{length_row}
 use Rattle.lines.specs.Meaning.{IsCard}
 use Rattle.cards.specs.declared.CardAt.{CardAt}
 use Rattle.cards.specs.declared.CardAt.TheVariants.{UAt, FsAt, NoOperand}
+use Rattle.std.specs.Prelude.{Ok, Err}
 use Rattle.cards.specs.declared.Noted.{Noted}
 use Rattle.cards.specs.Selected.{NotedRow, nothing_noted, no_selection}
 use Rattle.cards.specs.Deck.{cards_in, fs_first, OperandAt, CardAtSays, FsSaid}
@@ -40,7 +41,7 @@ card_at-found-requires c = c.loop-start.invariant.1
 -- a card that is no `FsAt`
 other : (deck : List ℕ) (from key : ℕ) (t : NotedRow) (card at : ℕ) → Selecting deck from key t card at → (r : CardAt) → CardAtSays deck at r
     → ((start end next : ℕ) → r ≡ FsAt start end next → ⊥)
-    → FsSaid 2 (no_selection key) (fs_first (cards_in (drop from deck))) (record { noted = t.0; unread = 0; column = 0 }) t.1
+    → FsSaid 2 (no_selection key) (fs_first (cards_in (drop from deck))) (Ok t.0) t.1
 other deck from key t card at g (UAt start end next) h k = selecting_u deck from key t card at g (start - at) start end next h
 other deck from key t card at g (FsAt start end next) h k = absurd (k start end next refl)
 other deck from key t card at g NoOperand h k = selecting_none deck from key t card at g h
@@ -67,22 +68,22 @@ slice_bounds-list-end c =
     let is_fs : OperandAt fs_card c.args.deck.now c.loop-start.at c.in-FsAt.start c.in-FsAt.end c.in-FsAt.next = subst (CardAtSays c.args.deck.now c.loop-start.at) c.in-FsAt.is c.card_at-found.ensures in
     is_fs.upto
 
-pub list-read-requires : goal.list-read-requires
-list-read-requires c =
+pub list-requires : goal.list-requires
+list-requires c =
     let is_fs : OperandAt fs_card c.args.deck.now c.loop-start.at c.in-FsAt.start c.in-FsAt.end c.in-FsAt.next = subst (CardAtSays c.args.deck.now c.loop-start.at) c.in-FsAt.is c.card_at-found.ensures in
     let l = c.loop-start in
     let h = is_fs in
     (l.invariant.0, omega arith, omega (arith, h.upto), l.invariant.2)
 
-pub returns-then-unread-ne0 : goal.returns-then-unread-ne0
-returns-then-unread-ne0 c =
+pub returns-in-Err : goal.returns-in-Err
+returns-in-Err c =
     let is_fs : OperandAt fs_card c.args.deck.now c.loop-start.at c.in-FsAt.start c.in-FsAt.end c.in-FsAt.next = subst (CardAtSays c.args.deck.now c.loop-start.at) c.in-FsAt.is c.card_at-found.ensures in
     let l = c.loop-start in
     let a = c.args in
     let g = c.in-FsAt in
-    let r = c.list-read in
-    let told = lent_list l.card (l.noted, l.row) a.deck.now g.start g.end is_fs.from r.result r.new.row r.ensures.1 in
-    (r.ensures.0, selecting_stop a.deck.now a.from a.key (l.noted, l.row) l.card l.at l.invariant.3 g.start g.end g.next is_fs r.result r.new.row told c.if-unread-ne0.true _)
+    let r = c.list in
+    let told = lent_list l.card (l.noted, l.row) a.deck.now g.start g.end is_fs.from (Err c.in-Err.column) r.new.row c.in-Err.ensures.1 in
+    (r.ensures.0, selecting_stop a.deck.now a.from a.key (l.noted, l.row) l.card l.at l.invariant.3 g.start g.end g.next is_fs r.new.row c.in-Err.column told)
 
 pub overflow_add-card : goal.overflow_add-card
 overflow_add-card c =
@@ -100,11 +101,12 @@ loop-start-preserved c =
     let l = c.loop-start in
     let a = c.args in
     let g = c.in-FsAt in
-    let r = c.list-read in
-    let told = lent_list l.card (l.noted, l.row) a.deck.now g.start g.end is_fs.from r.result r.new.row r.ensures.1 in (
+    let r = c.list in
+    let n = c.in-Ok.more in
+    let told = lent_list l.card (l.noted, l.row) a.deck.now g.start g.end is_fs.from (Ok n) r.new.row c.in-Ok.ensures.1 in (
       r.ensures.0,
       all_tail (subst (All IsCard) is_fs.is l.invariant.1),
-      omega (arith, key_kept l.card (l.noted, l.row) _ r.result _ told c.if-unread-ne0.false, l.invariant.2),
+      omega (arith, key_kept l.card (l.noted, l.row) _ n _ told, l.invariant.2),
       rw (add-one l.card)
-          (selecting_more a.deck.now a.from a.key (l.noted, l.row) l.card l.at l.invariant.3 g.start g.end g.next is_fs r.result r.new.row told c.if-unread-ne0.false),
+          (selecting_more a.deck.now a.from a.key (l.noted, l.row) l.card l.at l.invariant.3 g.start g.end g.next is_fs r.new.row n told),
     )

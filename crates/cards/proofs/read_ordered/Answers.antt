@@ -16,6 +16,7 @@ use Rattle.rows.proofs.RowLaws.{length_row}
 use Rattle.lines.specs.Meaning.{IsCard}
 use Rattle.keys.specs.Keys.{key_of}
 use Rattle.keys.proofs.KeyLaws.{key_most}
+use Rattle.std.specs.Prelude.{Ok, Err}
 use Rattle.cards.specs.declared.DeckRead.{DeckRead}
 use Rattle.cards.specs.Selected.{no_selection}
 use Rattle.cards.specs.Parameters.{UListed}
@@ -52,60 +53,60 @@ overflow_add-start c =
     let is_u : OperandAt (u_card (c.in-UAt.start - 0)) c.args.deck.now 0 c.in-UAt.start c.in-UAt.end c.in-UAt.next = subst (CardAtSays c.args.deck.now 0) c.in-UAt.is c.card_at-first.ensures in
     let h = is_u in omega (arith, h.from, h.upto)
 
-pub u_card-u-requires : goal.u_card-u-requires
-u_card-u-requires c =
+pub u_card-requires : goal.u_card-requires
+u_card-requires c =
     let is_u : OperandAt (u_card (c.in-UAt.start - 0)) c.args.deck.now 0 c.in-UAt.start c.in-UAt.end c.in-UAt.next = subst (CardAtSays c.args.deck.now 0) c.in-UAt.is c.card_at-first.ensures in
     let h = is_u in (omega arith, omega (arith, h.from, h.upto))
 
-pub returns-then-u-ne0 : goal.returns-then-u-ne0
-returns-then-u-ne0 c =
-    let is_u : OperandAt (u_card (c.in-UAt.start - 0)) c.args.deck.now 0 c.in-UAt.start c.in-UAt.end c.in-UAt.next = subst (CardAtSays c.args.deck.now 0) c.in-UAt.is c.card_at-first.ensures in
-    let said : UListed (c.in-UAt.start + 1) (slice c.in-UAt.start c.in-UAt.end c.args.deck.now)
-    (list_of "," (worded parameter) (slice c.in-UAt.start c.in-UAt.end c.args.deck.now)) c.u_card-u.result = let g = c.in-UAt in
-    subst (λ (o : List ℕ). UListed (g.start + 1) o (list_of "," (worded parameter) o) c.u_card-u.result)
-    (sym (slice_part g.start g.end c.args.deck.now is_u.from)) c.u_card-u.ensures in
+pub returns-in-Err : goal.returns-in-Err
+returns-in-Err c =
+    let deck = c.args.deck.now in
     let g = c.in-UAt in
+    let is_u : OperandAt (u_card (g.start - 0)) deck 0 g.start g.end g.next = subst (CardAtSays deck 0) g.is c.card_at-first.ensures in
+    let said : UListed (g.start + 1) (slice g.start g.end deck) (list_of "," (worded parameter) (slice g.start g.end deck)) (Err c.in-Err.column)
+    = subst (λ (o : List ℕ). UListed (g.start + 1) o (list_of "," (worded parameter) o) (Err c.in-Err.column)) (sym (slice_part g.start g.end deck is_u.from)) c.in-Err.ensures in
     let row = c.args.row.now in (
       ap length c.requires.row_value ∙ length_row [] (omega arith),
-      subst (λ (r : DeckRead). DeckReads c.args.deck.now r row) (sym c.refused-then-u-ne0.ensures)
-          (unread_u c.args.deck.now c.args.fs c.requires.in_order g.start g.end g.next is_u c.u_card-u.result said c.if-u-ne0.true row),
+      subst (λ (r : DeckRead). DeckReads deck r row) (sym c.refused-in-Err.ensures)
+          (unread_u deck c.args.fs c.requires.in_order g.start g.end g.next is_u c.in-Err.column said row),
     )
 
-pub fs_cards-selected-requires : goal.fs_cards-selected-requires
-fs_cards-selected-requires c =
-    let is_u : OperandAt (u_card (c.in-UAt.start - 0)) c.args.deck.now 0 c.in-UAt.start c.in-UAt.end c.in-UAt.next = subst (CardAtSays c.args.deck.now 0) c.in-UAt.is c.card_at-first.ensures in
-    record { all = all_tail (subst (All IsCard) is_u.is (all_cards c.args.deck.now c.args.fs c.requires.in_order)); row_value = (c.requires.row_value, omega (arith, c.key_length.ensures, key_most c.u_card-u.result.state.input)) }
+pub fs_cards-requires : goal.fs_cards-requires
+fs_cards-requires c =
+    let deck = c.args.deck.now in
+    let g = c.in-UAt in
+    let is_u : OperandAt (u_card (g.start - 0)) deck 0 g.start g.end g.next = subst (CardAtSays deck 0) g.is c.card_at-first.ensures in
+    record { all = all_tail (subst (All IsCard) is_u.is (all_cards deck c.args.fs c.requires.in_order)); row_value = (c.requires.row_value, omega (arith, c.key_length.ensures, key_most c.in-Ok.u.state.input)) }
 
 -- what was read of the FS cards, behind the key of the U card
-pub returns-then-unread-ne0 : goal.returns-then-unread-ne0
-returns-then-unread-ne0 c =
-    let said_fs : FsSaid 2 (no_selection (key_of c.u_card-u.result.state.input)) (fs_first (cards_in (drop c.in-UAt.next c.args.deck.now))) c.fs_cards-selected.result c.fs_cards-selected.new.row = subst (λ (k : ℕ). FsSaid 2 (no_selection k) (fs_first (cards_in (drop c.in-UAt.next c.args.deck.now))) c.fs_cards-selected.result c.fs_cards-selected.new.row)
-    c.key_length.ensures c.fs_cards-selected.ensures.1 in
-    let is_u : OperandAt (u_card (c.in-UAt.start - 0)) c.args.deck.now 0 c.in-UAt.start c.in-UAt.end c.in-UAt.next = subst (CardAtSays c.args.deck.now 0) c.in-UAt.is c.card_at-first.ensures in
-    let said : UListed (c.in-UAt.start + 1) (slice c.in-UAt.start c.in-UAt.end c.args.deck.now)
-    (list_of "," (worded parameter) (slice c.in-UAt.start c.in-UAt.end c.args.deck.now)) c.u_card-u.result = let g = c.in-UAt in
-    subst (λ (o : List ℕ). UListed (g.start + 1) o (list_of "," (worded parameter) o) c.u_card-u.result)
-    (sym (slice_part g.start g.end c.args.deck.now is_u.from)) c.u_card-u.ensures in
+pub returns-in-Err-fs_cards : goal.returns-in-Err-fs_cards
+returns-in-Err-fs_cards c =
+    let deck = c.args.deck.now in
     let g = c.in-UAt in
-    let k = c.fs_cards-selected in (
+    let is_u : OperandAt (u_card (g.start - 0)) deck 0 g.start g.end g.next = subst (CardAtSays deck 0) g.is c.card_at-first.ensures in
+    let said : UListed (g.start + 1) (slice g.start g.end deck) (list_of "," (worded parameter) (slice g.start g.end deck)) (Ok c.in-Ok.u)
+    = subst (λ (o : List ℕ). UListed (g.start + 1) o (list_of "," (worded parameter) o) (Ok c.in-Ok.u)) (sym (slice_part g.start g.end deck is_u.from)) c.in-Ok.ensures in
+    let u = c.in-Ok.u in
+    let k = c.fs_cards in
+    let said_fs : FsSaid 2 (no_selection (key_of u.state.input)) (fs_first (cards_in (drop g.next deck))) (Err c.in-Err-fs_cards.unread) k.new.row
+    = subst (λ (n : ℕ). FsSaid 2 (no_selection n) (fs_first (cards_in (drop g.next deck))) (Err c.in-Err-fs_cards.unread) k.new.row) c.key_length.ensures c.in-Err-fs_cards.ensures.1 in (
       k.ensures.0,
-      subst (λ (r : DeckRead). DeckReads c.args.deck.now r k.new.row) (sym c.refused-then-unread-ne0.ensures)
-          (unread_fs c.args.deck.now c.args.fs c.requires.in_order g.start g.end g.next is_u c.u_card-u.result said c.if-u-ne0.false
-          k.result k.new.row said_fs c.if-unread-ne0.true),
+      subst (λ (r : DeckRead). DeckReads deck r k.new.row) (sym c.refused-in-Err-fs_cards.ensures)
+          (unread_fs deck c.args.fs c.requires.in_order g.start g.end g.next is_u u said c.in-Err-fs_cards.unread k.new.row said_fs),
     )
 
-pub returns : goal.returns
-returns c =
-    let said_fs : FsSaid 2 (no_selection (key_of c.u_card-u.result.state.input)) (fs_first (cards_in (drop c.in-UAt.next c.args.deck.now))) c.fs_cards-selected.result c.fs_cards-selected.new.row = subst (λ (k : ℕ). FsSaid 2 (no_selection k) (fs_first (cards_in (drop c.in-UAt.next c.args.deck.now))) c.fs_cards-selected.result c.fs_cards-selected.new.row)
-    c.key_length.ensures c.fs_cards-selected.ensures.1 in
-    let is_u : OperandAt (u_card (c.in-UAt.start - 0)) c.args.deck.now 0 c.in-UAt.start c.in-UAt.end c.in-UAt.next = subst (CardAtSays c.args.deck.now 0) c.in-UAt.is c.card_at-first.ensures in
-    let said : UListed (c.in-UAt.start + 1) (slice c.in-UAt.start c.in-UAt.end c.args.deck.now)
-    (list_of "," (worded parameter) (slice c.in-UAt.start c.in-UAt.end c.args.deck.now)) c.u_card-u.result = let g = c.in-UAt in
-    subst (λ (o : List ℕ). UListed (g.start + 1) o (list_of "," (worded parameter) o) c.u_card-u.result)
-    (sym (slice_part g.start g.end c.args.deck.now is_u.from)) c.u_card-u.ensures in
+pub returns-in-Ok-fs_cards : goal.returns-in-Ok-fs_cards
+returns-in-Ok-fs_cards c =
+    let deck = c.args.deck.now in
     let g = c.in-UAt in
-    let w = c.fs_cards-selected in (
-      w.ensures.0,
-      subst (λ (r : DeckRead). DeckReads c.args.deck.now r w.new.row) (sym c.judged.ensures)
-          (all_read c.args.deck.now c.args.fs c.requires.in_order g.start g.end g.next is_u c.u_card-u.result said c.if-u-ne0.false w.result w.new.row said_fs c.if-unread-ne0.false),
+    let is_u : OperandAt (u_card (g.start - 0)) deck 0 g.start g.end g.next = subst (CardAtSays deck 0) g.is c.card_at-first.ensures in
+    let said : UListed (g.start + 1) (slice g.start g.end deck) (list_of "," (worded parameter) (slice g.start g.end deck)) (Ok c.in-Ok.u)
+    = subst (λ (o : List ℕ). UListed (g.start + 1) o (list_of "," (worded parameter) o) (Ok c.in-Ok.u)) (sym (slice_part g.start g.end deck is_u.from)) c.in-Ok.ensures in
+    let u = c.in-Ok.u in
+    let k = c.fs_cards in
+    let said_fs : FsSaid 2 (no_selection (key_of u.state.input)) (fs_first (cards_in (drop g.next deck))) (Ok c.in-Ok-fs_cards.noted) k.new.row
+    = subst (λ (n : ℕ). FsSaid 2 (no_selection n) (fs_first (cards_in (drop g.next deck))) (Ok c.in-Ok-fs_cards.noted) k.new.row) c.key_length.ensures c.in-Ok-fs_cards.ensures.1 in (
+      k.ensures.0,
+      subst (λ (r : DeckRead). DeckReads deck r k.new.row) (sym c.judged.ensures)
+          (all_read deck c.args.fs c.requires.in_order g.start g.end g.next is_u u said c.in-Ok-fs_cards.noted k.new.row said_fs),
     )

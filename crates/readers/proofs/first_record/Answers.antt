@@ -1,21 +1,15 @@
 -- `readers::first_record` meets its contract: the number stands behind the R.
-use mathlib.Core.Path.{subst}
-use native.Mathlib.Omega.{arith}
-use Rattle.rules.specs.Reader.{number}
-use Rattle.rules.proofs.Grammar.ChoiceLaws.{byte_inside}
-use Rattle.readers.specs.Meaning.{NumberFrom}
+use Rattle.std.proofs.lemmas.Result.{err_from_is_err_and}
 use Rattle.readers.proofs.Parameters.{first_read, first_stop}
 use Rattle.readers.proofs.first_record.Goals as goal
 
-pub number_at-n-requires : goal.number_at-n-requires
-number_at-n-requires c = omega (arith, byte_inside c.args.s.now 0 82 c.requires (omega arith))
-
-pub returns-in-IsNumber : goal.returns-in-IsNumber
-returns-in-IsNumber c =
+pub returns-in_err-n : goal.returns-in_err-n
+returns-in_err-n c =
     let s = c.args.s.now in
-    first_read s c.requires _ _ (subst (NumberFrom number 1 s) c.in-IsNumber.is c.number_at-n.ensures)
+    let p = err_from_is_err_and c.from_residual.result c.from_residual.ensures.1 in
+    rw (p.1, p.2) (first_stop s c.requires _ c.in_err-n.ensures)
 
-pub returns-in-NoNumber : goal.returns-in-NoNumber
-returns-in-NoNumber c =
+pub returns : goal.returns
+returns c =
     let s = c.args.s.now in
-    first_stop s c.requires _ (subst (NumberFrom number 1 s) c.in-NoNumber.is c.number_at-n.ensures)
+    rw c.single.ensures (first_read s c.requires _ _ c.in_ok-n.ensures)

@@ -1,52 +1,40 @@
 -- `readers::key_start` meets its contract: the letter, the comma, the number and its bracket, and the comma behind it.
-use mathlib.Core.Path.{◌≡◌, sym, ◌∙◌, subst}
-use lib.ListN.{get_or}
-use native.Mathlib.Omega.{arith}
-use Rattle.rules.specs.TextParts.{number_then}
-use Rattle.rules.proofs.Grammar.ChoiceLaws.{byte_inside}
-use Rattle.readers.specs.Meaning.{NumberFrom, ReadsFrom}
+use Rattle.std.proofs.Common.{◌≡◌, arith}
+use Rattle.std.proofs.lemmas.Result.{err_from_is_err_and}
 use Rattle.readers.proofs.Items.{no_key, key_comma, key_stops, key_read, key_open}
 use Rattle.readers.proofs.key_start.Goals as goal
 
-pub returns-then-letter-ne-LETTER_K : goal.returns-then-letter-ne-LETTER_K
-returns-then-letter-ne-LETTER_K c = no_key c.args.s.now c.requires (λ e. c.if-letter-ne-LETTER_K.true (c.peek-letter.ensures ∙ e))
-
--- the letter is there, and the comma
-pub returns-then-comma-ne-COMMA : goal.returns-then-comma-ne-COMMA
-returns-then-comma-ne-COMMA c =
-    let letter : get_or c.args.s.now 1 256 ≡ 75 = sym c.peek-letter.ensures ∙ c.if-letter-ne-LETTER_K.false in
-    key_comma c.args.s.now letter (λ e. c.if-comma-ne-COMMA.true (c.peek-comma.ensures ∙ e))
-
-pub number_then-n-requires : goal.number_then-n-requires
-number_then-n-requires c =
-    let comma : get_or c.args.s.now 2 256 ≡ 44 = sym c.peek-comma.ensures ∙ c.if-comma-ne-COMMA.false in
-    omega (arith, byte_inside c.args.s.now 2 44 comma (omega arith))
-
--- the number and its bracket
-pub overflow_add-behind : goal.overflow_add-behind
-overflow_add-behind c =
-    let is : ReadsFrom (number_then 41) 3 c.args.s.now c.in-IsNumber.value c.in-IsNumber.used = subst (NumberFrom (number_then 41) 3 c.args.s.now) c.in-IsNumber.is c.number_then-n.ensures in
-    let h = is in omega arith
-
-pub returns-then-mark-eq-COMMA : goal.returns-then-mark-eq-COMMA
-returns-then-mark-eq-COMMA c =
-    let letter : get_or c.args.s.now 1 256 ≡ 75 = sym c.peek-letter.ensures ∙ c.if-letter-ne-LETTER_K.false in
-    let comma : get_or c.args.s.now 2 256 ≡ 44 = sym c.peek-comma.ensures ∙ c.if-comma-ne-COMMA.false in
-    let is : ReadsFrom (number_then 41) 3 c.args.s.now c.in-IsNumber.value c.in-IsNumber.used = subst (NumberFrom (number_then 41) 3 c.args.s.now) c.in-IsNumber.is c.number_then-n.ensures in
+pub returns-in_err-comma : goal.returns-in_err-comma
+returns-in_err-comma c =
     let s = c.args.s.now in
-    key_read s letter comma _ _ is (sym c.peek-mark.ensures ∙ c.if-mark-eq-COMMA.true)
+    let p = err_from_is_err_and c.from_residual.result c.from_residual.ensures.1 in
+    rw (p.1, p.2) (rw c.in_err-comma.ensures.1 (no_key s c.requires (λ z. c.in_err-comma.ensures.0 z)))
 
-pub returns-else-mark-eq-COMMA : goal.returns-else-mark-eq-COMMA
-returns-else-mark-eq-COMMA c =
-    let letter : get_or c.args.s.now 1 256 ≡ 75 = sym c.peek-letter.ensures ∙ c.if-letter-ne-LETTER_K.false in
-    let comma : get_or c.args.s.now 2 256 ≡ 44 = sym c.peek-comma.ensures ∙ c.if-comma-ne-COMMA.false in
-    let is : ReadsFrom (number_then 41) 3 c.args.s.now c.in-IsNumber.value c.in-IsNumber.used = subst (NumberFrom (number_then 41) 3 c.args.s.now) c.in-IsNumber.is c.number_then-n.ensures in
+pub returns-in_err-first : goal.returns-in_err-first
+returns-in_err-first c =
     let s = c.args.s.now in
-    key_open s letter comma _ _ is (λ e. c.if-mark-eq-COMMA.false (c.peek-mark.ensures ∙ e))
+    let p = err_from_is_err_and c.from_residual-in_err-first.result c.from_residual-in_err-first.ensures.1 in
+    rw (p.1, p.2) (rw (c.in_err-first.ensures.1, c.in_ok-comma.ensures.1) (key_comma s c.in_ok-comma.ensures.0 (rw c.in_ok-comma.ensures.1 at c.in_err-first.ensures.0)))
 
-pub returns-in-NoNumber : goal.returns-in-NoNumber
-returns-in-NoNumber c =
-    let letter : get_or c.args.s.now 1 256 ≡ 75 = sym c.peek-letter.ensures ∙ c.if-letter-ne-LETTER_K.false in
-    let comma : get_or c.args.s.now 2 256 ≡ 44 = sym c.peek-comma.ensures ∙ c.if-comma-ne-COMMA.false in
+pub returns-in_err-r : goal.returns-in_err-r
+returns-in_err-r c =
     let s = c.args.s.now in
-    key_stops s letter comma _ (subst (NumberFrom (number_then 41) 3 s) c.in-NoNumber.is c.number_then-n.ensures)
+    let first : c.in_ok-first.first ≡ 3 = omega (arith, c.in_ok-comma.ensures, c.in_ok-first.ensures) in
+    let comma = rw c.in_ok-comma.ensures.1 at c.in_ok-first.ensures.0 in
+    let p = err_from_is_err_and c.from_residual-in_err-r.result c.from_residual-in_err-r.ensures.1 in
+    rw (p.1, p.2) (key_stops s c.in_ok-comma.ensures.0 comma _ (rw first at c.in_err-r.ensures))
+
+pub returns-in_err-used : goal.returns-in_err-used
+returns-in_err-used c =
+    let s = c.args.s.now in
+    let first : c.in_ok-first.first ≡ 3 = omega (arith, c.in_ok-comma.ensures, c.in_ok-first.ensures) in
+    let comma = rw c.in_ok-comma.ensures.1 at c.in_ok-first.ensures.0 in
+    let p = err_from_is_err_and c.from_residual-in_err-used.result c.from_residual-in_err-used.ensures.1 in
+    rw (p.1, p.2) (rw c.in_err-used.ensures.1 (key_open s c.in_ok-comma.ensures.0 comma _ _ (rw first at c.in_ok-r.ensures) (λ z. c.in_err-used.ensures.0 z)))
+
+pub returns : goal.returns
+returns c =
+    let s = c.args.s.now in
+    let first : c.in_ok-first.first ≡ 3 = omega (arith, c.in_ok-comma.ensures, c.in_ok-first.ensures) in
+    let comma = rw c.in_ok-comma.ensures.1 at c.in_ok-first.ensures.0 in
+    rw c.in_ok-used.ensures.1 (key_read s c.in_ok-comma.ensures.0 comma _ _ (rw first at c.in_ok-r.ensures) c.in_ok-used.ensures.0)

@@ -1,71 +1,51 @@
 -- `readers::kind` meets its contract: by the bracket and the letter behind it.
-use Prim.Native.Nat.{◌+◌}
-use mathlib.Core.Path.{◌≡◌, refl, sym, ◌∙◌, subst}
-use lib.ListN.{get_or}
-use native.Mathlib.Omega.{arith}
-use Rattle.rules.specs.Reader.{number}
+use Rattle.std.proofs.Common.{◌≡◌, ◌+◌, get_or, refl, ◌∙◌, arith}
+use Rattle.std.proofs.lemmas.Result.{err_from_is_err_and}
 use Rattle.rules.specs.Halves.{pack, unpack}
 use Rattle.rules.proofs.Grammar.ChoiceLaws.{byte_inside, kind_pack, kind_unpack, kind_else}
-use Rattle.readers.specs.Meaning.{NumberFrom}
+use Rattle.readers.proofs.Parts.{not_there}
 use Rattle.readers.proofs.Items.{kind_goes, copy_read, copy_placed, copy_stops}
+use Rattle.readers.proofs.kind.Goals.{in_default-via-in-Some+in_default, in_default-via-in_default}
 use Rattle.readers.proofs.kind.Goals as goal
 
--- the bracket, and the letter behind it
-pub sizes_behind-requires : goal.sizes_behind-requires
-sizes_behind-requires c =
-    let letter : get_or c.args.s.now (c.args.from + 1) 256 ≡ c.peek-letter.result = sym c.peek-letter.ensures in
-    let a = c.args in
-    (omega (arith, byte_inside a.s.now (a.from + 1) 80 (letter ∙ c.if-letter-eq-LETTER_P.true) (omega arith)), tt)
-
-pub returns-then-letter-eq-LETTER_P : goal.returns-then-letter-eq-LETTER_P
-returns-then-letter-eq-LETTER_P c =
-    let bracket : get_or c.args.s.now c.args.from 256 ≡ 40 = sym c.peek-first.ensures ∙ c.if-first-eq-OPEN.true in
-    let letter : get_or c.args.s.now (c.args.from + 1) 256 ≡ c.peek-letter.result = sym c.peek-letter.ensures in
+pub returns-in-Some-eq80 : goal.returns-in-Some-eq80
+returns-in-Some-eq80 c =
     let a = c.args in
     let s = a.s.now in
-    let e = bracket in
-    let f = letter ∙ c.if-letter-eq-LETTER_P.true in
-    kind_goes s a.from pack e 80 f refl (kind_pack s a.from e f) c.sizes_behind.result c.sizes_behind.ensures
+    let o = c.is_at.ensures.0 c.if-is_at.true in
+    let e = c.in-Some-eq80.ensures.1 ∙ c.in-Some-eq80.field-0-test in
+    kind_goes s a.from pack o 80 e refl (kind_pack s a.from o e) c.sizes_behind.result c.sizes_behind.ensures
 
-pub sizes_behind-requires-then-letter-eq-LETTER_U : goal.sizes_behind-requires-then-letter-eq-LETTER_U
-sizes_behind-requires-then-letter-eq-LETTER_U c =
-    let letter : get_or c.args.s.now (c.args.from + 1) 256 ≡ c.peek-letter.result = sym c.peek-letter.ensures in
-    let a = c.args in
-    (omega (arith, byte_inside a.s.now (a.from + 1) 85 (letter ∙ c.if-letter-eq-LETTER_U.true) (omega arith)), tt)
-
-pub returns-then-letter-eq-LETTER_U : goal.returns-then-letter-eq-LETTER_U
-returns-then-letter-eq-LETTER_U c =
-    let bracket : get_or c.args.s.now c.args.from 256 ≡ 40 = sym c.peek-first.ensures ∙ c.if-first-eq-OPEN.true in
-    let letter : get_or c.args.s.now (c.args.from + 1) 256 ≡ c.peek-letter.result = sym c.peek-letter.ensures in
+pub returns-in-Some-eq85 : goal.returns-in-Some-eq85
+returns-in-Some-eq85 c =
     let a = c.args in
     let s = a.s.now in
-    let e = bracket in
-    let f = letter ∙ c.if-letter-eq-LETTER_U.true in
-    kind_goes s a.from unpack e 85 f refl (kind_unpack s a.from e f) c.sizes_behind-then-letter-eq-LETTER_U.result c.sizes_behind-then-letter-eq-LETTER_U.ensures
+    let o = c.is_at.ensures.0 c.if-is_at.true in
+    let e = c.in-Some-eq85.ensures.1 ∙ c.in-Some-eq85.field-0-test in
+    kind_goes s a.from unpack o 85 e refl (kind_unpack s a.from o e) c.sizes_behind-in-Some-eq85.result c.sizes_behind-in-Some-eq85.ensures
 
-pub returns-then-first-eq-OPEN : goal.returns-then-first-eq-OPEN
-returns-then-first-eq-OPEN c =
-    let bracket : get_or c.args.s.now c.args.from 256 ≡ 40 = sym c.peek-first.ensures ∙ c.if-first-eq-OPEN.true in
-    let letter : get_or c.args.s.now (c.args.from + 1) 256 ≡ c.peek-letter.result = sym c.peek-letter.ensures in
+pub returns-in_default : goal.returns-in_default
+returns-in_default c =
     let a = c.args in
     let s = a.s.now in
-    let e = sym letter in (
-      omega (arith, byte_inside s a.from 40 bracket (omega arith)),
-      kind_else s a.from bracket (λ z. c.if-letter-eq-LETTER_P.false (e ∙ z)) (λ z. c.if-letter-eq-LETTER_U.false (e ∙ z)),
-    )
+    let o = c.is_at.ensures.0 c.if-is_at.true in
+    let other : (get_or s (a.from + 1) 256 ≡ 80 → ⊥) × (get_or s (a.from + 1) 256 ≡ 85 → ⊥) = elim c.in_default.branch [
+      | in_default-via-in-Some+in_default w ↦ let e = w.in_default.ensures.1 in let t = w.in_default.field-0-test in (λ z. omega (arith, e), λ z. omega (arith, e))
+      | in_default-via-in_default w ↦ let e = rw w.in_default.is at c.peek.ensures in (λ z. omega (arith, e), λ z. omega (arith, e))
+    ] in
+    (omega (arith, byte_inside s a.from 40 o (omega arith)), kind_else s a.from o other.0 other.1)
 
-pub returns-in-IsNumber : goal.returns-in-IsNumber
-returns-in-IsNumber c =
+pub returns-in_err-n : goal.returns-in_err-n
+returns-in_err-n c =
     let a = c.args in
     let s = a.s.now in
-    let other : get_or s a.from 256 ≡ 40 → ⊥ = λ z. c.if-first-eq-OPEN.false (c.peek-first.ensures ∙ z) in
-    let r = subst (NumberFrom number a.from s) c.in-IsNumber.is c.number_at-n.ensures in
-    let q = copy_placed s a.from other _ _ c.requires r in
-    (copy_read s a.from other _ _ r, refl, q.0, q.1, q.2)
+    let p = err_from_is_err_and c.from_residual.result c.from_residual.ensures.1 in
+    rw (p.1, p.2) (copy_stops s a.from (not_there c.is_at.result c.is_at.ensures.1 c.if-is_at.false) _ c.in_err-n.ensures)
 
-pub returns-in-NoNumber : goal.returns-in-NoNumber
-returns-in-NoNumber c =
+pub returns : goal.returns
+returns c =
     let a = c.args in
     let s = a.s.now in
-    copy_stops s a.from (λ z. c.if-first-eq-OPEN.false (c.peek-first.ensures ∙ z)) _
-    (subst (NumberFrom number a.from s) c.in-NoNumber.is c.number_at-n.ensures)
+    let other : get_or s a.from 256 ≡ 40 → ⊥ = not_there c.is_at.result c.is_at.ensures.1 c.if-is_at.false in
+    let q = copy_placed s a.from other _ _ c.requires c.in_ok-n.ensures in
+    (copy_read s a.from other _ _ c.in_ok-n.ensures, refl, q.0, q.1, q.2)

@@ -1,33 +1,34 @@
 -- `readers::rewind` meets its contract: by the byte behind the I or the O.
-use Prim.Native.Nat.{◌<◌}
-use mathlib.Core.Path.{refl, sym, ◌∙◌, subst}
-use mathlib.Core.Logic.{⊎_elim}
-use lib.ListN.{length, get_or}
-use native.Mathlib.Omega.{arith}
+use Rattle.std.proofs.Common.{◌<◌, length, get_or, refl, sym, subst, ⊎_elim, arith}
 use Rattle.rules.specs.Grammar.{rewind_in, rewind_out}
 use Rattle.rules.proofs.Grammar.ChoiceLaws.{Ending, byte_inside, parameter_i_letter, parameter_o_letter, parameter_rewind_else}
+use Rattle.readers.proofs.Parts.{not_there}
 use Rattle.readers.proofs.Parameters.{ending_inside}
 use Rattle.readers.proofs.TextPlaces.{alone}
 use Rattle.readers.proofs.rewind.Goals as goal
 
--- the byte behind the letter is one of the three
-pub returns-then-letter-eq-LETTER_I : goal.returns-then-letter-eq-LETTER_I
-returns-then-letter-eq-LETTER_I c =
-    let ending : Ending (get_or c.args.s.now 1 256) = subst Ending c.peek-second.ensures c.in-82.is in
+pub returns-then-is_at : goal.returns-then-is_at
+returns-then-is_at c =
     let s = c.args.s.now in
-    let e = ending in
-    alone s 2 rewind_in (λ k. refl) (ending_inside s e, parameter_i_letter s (sym c.peek-letter.ensures ∙ c.if-letter-eq-LETTER_I.true) e)
+    let e : Ending (get_or s 1 256) = subst Ending (sym c.in-Some-eq82.ensures.1) c.in-Some-eq82.field-0-test in
+    rw c.single.ensures (alone s 2 rewind_in (λ k. refl) (ending_inside s e, parameter_i_letter s (c.is_at.ensures.0 c.if-is_at.true) e))
 
-pub returns-else-letter-eq-LETTER_I : goal.returns-else-letter-eq-LETTER_I
-returns-else-letter-eq-LETTER_I c =
-    let ending : Ending (get_or c.args.s.now 1 256) = subst Ending c.peek-second.ensures c.in-82.is in
+pub returns-else-is_at : goal.returns-else-is_at
+returns-else-is_at c =
     let s = c.args.s.now in
-    let e = ending in
-    let o = ⊎_elim (λ z. absurd (c.if-letter-eq-LETTER_I.false (c.peek-letter.ensures ∙ z))) (λ z. z) c.requires in
-    alone s 2 rewind_out (λ k. refl) (ending_inside s e, parameter_o_letter s o e)
+    let e : Ending (get_or s 1 256) = subst Ending (sym c.in-Some-eq82.ensures.1) c.in-Some-eq82.field-0-test in
+    let o = ⊎_elim (λ z. absurd (not_there c.is_at.result c.is_at.ensures.1 c.if-is_at.false z)) (λ z. z) c.requires in
+    rw c.single-in-Some-eq82.ensures (alone s 2 rewind_out (λ k. refl) (ending_inside s e, parameter_o_letter s o e))
 
 pub returns-in_default : goal.returns-in_default
 returns-in_default c =
     let s = c.args.s.now in
     let l : 0 < length s = ⊎_elim (λ z. byte_inside s 0 73 z (omega arith)) (λ z. byte_inside s 0 79 z (omega arith)) c.requires in
-    (omega arith, parameter_rewind_else s c.requires (λ e. grind arith))
+    (omega arith, parameter_rewind_else s c.requires (λ e. c.in_default.field-0-test.1 (subst Ending c.in_default.ensures.1 e)))
+
+pub returns-in_default-2 : goal.returns-in_default-2
+returns-in_default-2 c =
+    let s = c.args.s.now in
+    let n = rw c.in_default.is at c.peek.ensures in
+    let l : 0 < length s = ⊎_elim (λ z. byte_inside s 0 73 z (omega arith)) (λ z. byte_inside s 0 79 z (omega arith)) c.requires in
+    (omega arith, parameter_rewind_else s c.requires (⊎_elim (λ z. omega (arith, n)) (⊎_elim (λ z. omega (arith, n)) (λ z. omega (arith, n)))))

@@ -1,45 +1,32 @@
 -- `readers::size_behind` meets its contract: by the byte behind the number.
-use Prim.Native.Nat.{◌+◌}
-use mathlib.Core.Path.{◌≡◌, sym, ◌∙◌, subst}
-use lib.ListN.{get_or}
-use native.Mathlib.Omega.{arith}
-use Rattle.rules.specs.TextParts.{number_then}
-use Rattle.rules.proofs.Grammar.ChoiceLaws.{byte_inside, size_neither}
-use Rattle.readers.specs.Meaning.{NumberFrom}
+use Rattle.std.proofs.lemmas.Result.{err_from_is_err_and}
+use Rattle.rules.proofs.Grammar.ChoiceLaws.{size_neither}
+use Rattle.readers.proofs.Parts.{not_there}
 use Rattle.readers.proofs.Parameters.{only_read, second_read, second_stop}
 use Rattle.readers.proofs.size_behind.Goals as goal
 
--- the byte behind the number
-pub returns-then-mark-eq-CLOSE : goal.returns-then-mark-eq-CLOSE
-returns-then-mark-eq-CLOSE c =
-    let mark : get_or c.args.s.now c.args.from 256 ≡ c.peek-mark.result = sym c.peek-mark.ensures in
-    let a = c.args in
-    only_read a.s.now a.from a.n (mark ∙ c.if-mark-eq-CLOSE.true)
-
-pub returns-then-mark-ne-COMMA : goal.returns-then-mark-ne-COMMA
-returns-then-mark-ne-COMMA c =
-    let mark : get_or c.args.s.now c.args.from 256 ≡ c.peek-mark.result = sym c.peek-mark.ensures in
-    let e = sym mark in
-    (c.requires, size_neither c.args.s.now c.args.from c.args.n (λ z. c.if-mark-ne-COMMA.true (e ∙ z)) (λ z. c.if-mark-eq-CLOSE.false (e ∙ z)))
-
-pub number_then-m-requires : goal.number_then-m-requires
-number_then-m-requires c =
-    let mark : get_or c.args.s.now c.args.from 256 ≡ c.peek-mark.result = sym c.peek-mark.ensures in
-    let a = c.args in
-    omega (arith, byte_inside a.s.now a.from 44 (mark ∙ c.if-mark-ne-COMMA.false) (omega arith))
-
-pub returns-in-IsNumber : goal.returns-in-IsNumber
-returns-in-IsNumber c =
-    let mark : get_or c.args.s.now c.args.from 256 ≡ c.peek-mark.result = sym c.peek-mark.ensures in
+pub returns-then-is_at : goal.returns-then-is_at
+returns-then-is_at c =
     let a = c.args in
     let s = a.s.now in
-    second_read s a.from a.n (mark ∙ c.if-mark-ne-COMMA.false) _ _
-    (subst (NumberFrom (number_then 41) (a.from + 1) s) c.in-IsNumber.is c.number_then-m.ensures)
+    only_read s a.from a.n (c.is_at.ensures.0 c.if-is_at.true)
 
-pub returns-in-NoNumber : goal.returns-in-NoNumber
-returns-in-NoNumber c =
-    let mark : get_or c.args.s.now c.args.from 256 ≡ c.peek-mark.result = sym c.peek-mark.ensures in
+pub returns-in_err-second : goal.returns-in_err-second
+returns-in_err-second c =
     let a = c.args in
     let s = a.s.now in
-    second_stop s a.from a.n (mark ∙ c.if-mark-ne-COMMA.false) _
-    (subst (NumberFrom (number_then 41) (a.from + 1) s) c.in-NoNumber.is c.number_then-m.ensures)
+    let p = err_from_is_err_and c.from_residual.result c.from_residual.ensures.1 in
+    rw (p.1, p.2) (rw c.in_err-second.ensures.1 (c.requires, size_neither s a.from a.n (λ z. c.in_err-second.ensures.0 z) (not_there c.is_at.result c.is_at.ensures.1 c.if-is_at.false)))
+
+pub returns-in_err-m : goal.returns-in_err-m
+returns-in_err-m c =
+    let a = c.args in
+    let s = a.s.now in
+    let p = err_from_is_err_and c.from_residual-in_err-m.result c.from_residual-in_err-m.ensures.1 in
+    rw (p.1, p.2) (second_stop s a.from a.n c.in_ok-second.ensures.0 _ (rw c.in_ok-second.ensures.1 at c.in_err-m.ensures))
+
+pub returns : goal.returns
+returns c =
+    let a = c.args in
+    let s = a.s.now in
+    rw c.in_ok-second.ensures.1 (second_read s a.from a.n c.in_ok-second.ensures.0 _ _ (rw c.in_ok-second.ensures.1 at c.in_ok-m.ensures))
