@@ -1,23 +1,22 @@
 // What is answered where twins are asked for, and what is left of an output of which a part was lent, as words of a line.
-ghost use Rattle.io.specs.Counts.{IsPrefixLen};
+ghost use Rattle.std.specs.Prelude.{◌≤◌, length};
 
-use crate::{digest, say, text};
+use crate::say::{self, say};
+use crate::{digest, text};
 use std::io::Print;
 use twins::Twins;
 
 fn tell_answer(to: &impl Print, answer: Twins) {
     say::refusal(to, answer.refusal, answer.place, answer.column);
-    say::labelled(to, b" ", answer.reason);
-    say::labelled(to, b" ", answer.length);
+    say(to, format_args!(" {} {}", answer.reason, answer.length));
 }
 
 // The twins of a deck into the first bytes of an output that was marked.
 pub(crate) fn tell(to: &impl Print, deck: &[u8], out: &mut [u8], lent: usize)
-    requires { IsPrefixLen lent out.old }
+    requires { lent ≤ length out.old }
 {
     let answer = bhexodana::bhx_twins(deck, &mut out[..lent]);
     tell_answer(to, answer);
-    say::labelled(to, b" ", digest::of_bytes(out));
-    say::words(to, b" ");
+    say(to, format_args!(" {} ", digest::of_bytes(out).number));
     say::written(to, answer.refusal, text::first(out, answer.length));
 }

@@ -1,10 +1,9 @@
 // What is answered of a reel from elsewhere, as words of a line.
-use crate::say;
+use crate::say::{self, say};
 use std::io::Print;
 
 pub(crate) fn tell(to: &impl Print, deck: &[u8], ours: &[u8], theirs: &[u8]) {
     let answer = bhexodana::bhx_judge(deck, ours, theirs);
     say::refusal(to, answer.refusal, answer.place, answer.column);
-    say::labelled(to, b" ", answer.yes);
-    say::labelled(to, b" ", answer.number);
+    say(to, format_args!(" {} {}", answer.yes, answer.number));
 }

@@ -26,7 +26,7 @@ mod text;
 
 ghost use Rattle.std.specs.Prelude.{◌≡◌, length};
 
-use check::same;
+use crate::say::say;
 use inputs::Source;
 use std::fs::File;
 use std::io::{Error, ErrorKind, Print, Result};
@@ -47,11 +47,10 @@ fn room() -> [u8; 70000]
 
 // Packs or unpacks src into dst.
 fn half_into(step: &[u8], src: &[u8], dst: &mut [u8]) {
-    if same(step, b"pack") {
-        halves::pack(src, dst);
-        return;
-    }
-    halves::unpack(src, dst);
+    match step {
+        b"pack" => halves::pack(src, dst),
+        _ => halves::unpack(src, dst),
+    };
 }
 
 // What all of dst holds once src was packed or unpacked into it.
@@ -61,130 +60,116 @@ fn say_half(to: &impl Print, step: &[u8], src: &[u8], dst: &mut [u8]) {
 }
 
 fn half(to: &impl Print, words: &[u8]) {
-    let step = text::before(words, b' ');
-    let rest = text::after(words, b' ');
+    let (step, rest) = text::cut(words, b' ');
+    let (source, count) = text::cut(rest, b' ');
     let mut src = io::buffer();
-    let n = text::decode(text::before(rest, b' '), &mut src);
     let mut dst = [0x5Au8; 64];
-    let m = text::count(text::after(rest, b' '), &dst);
-    say_half(to, step, &src[..n], &mut dst[..m]);
+    let m = text::number(count).min(dst.len());
+    say_half(to, step, text::decode(source, &mut src), &mut dst[..m]);
 }
 
 fn deck(to: &impl Print, words: &[u8]) {
-    let mut bytes = room();
-    let n = text::decode(words, &mut bytes);
+    let mut room = room();
+    let deck = text::decode(words, &mut room);
     let mut row = [0u16; 320];
-    let read = cards::read_deck(&bytes[..n], &mut row);
+    let read = cards::read_deck(deck, &mut row);
     say::refusal(to, read.refusal, read.place, read.column);
     if read.refusal == 0 {
         let asked = read.asked;
         let end = 5 * asked.count;
-        asked::tell(to, &bytes[..n], asked, &row[..end]);
+        asked::tell(to, deck, asked, &row[..end]);
     }
 }
 
 fn deck_and_reel(to: &impl Print, words: &[u8]) {
+    let (deck, reel) = text::cut(words, b' ');
     let mut bytes = room();
-    let n = text::decode(text::before(words, b' '), &mut bytes);
     let mut row = [0u16; 320];
-    let read = cards::read_deck(&bytes[..n], &mut row);
+    let read = cards::read_deck(text::decode(deck, &mut bytes), &mut row);
     if read.refusal != 0 {
         say::refusal(to, read.refusal, read.place, read.column);
         return;
     }
-    let m = text::decode(text::after(words, b' '), &mut bytes);
-    reel::tell(to, reel::form_of(read.asked), &bytes[..m]);
+    reel::tell(
+        to,
+        reel::form_of(read.asked),
+        text::decode(reel, &mut bytes),
+    );
 }
 
 fn deck_and_table(to: &impl Print, words: &[u8]) {
-    let mut bytes = room();
-    let n = text::decode(text::before(words, b' '), &mut bytes);
-    let entries = text::after(words, b' ');
-    if same(entries, b"-") {
-        plan::tell(to, &bytes[..n]);
-        return;
+    let (deck, entries) = text::cut(words, b' ');
+    let mut room = room();
+    let deck = text::decode(deck, &mut room);
+    match entries {
+        b"-" => plan::tell(to, deck),
+        _ => plan::tell_into(to, deck, text::number(entries).min(70)),
     }
-    plan::tell_into(to, &bytes[..n], text::at_most(entries, 70));
 }
 
 fn deck_and_output(to: &impl Print, words: &[u8]) {
-    let rest = text::after(words, b' ');
-    let mut deck = room();
-    let n = text::decode(text::before(words, b' '), &mut deck);
-    let mut reel = room();
-    let m = text::decode(text::before(rest, b' '), &mut reel);
+    let (deck, rest) = text::cut(words, b' ');
+    let (reel, count) = text::cut(rest, b' ');
+    let mut deck_room = room();
+    let deck = text::decode(deck, &mut deck_room);
+    let mut reel_room = room();
+    let reel = text::decode(reel, &mut reel_room);
     let mut out = room();
     run::mark(&mut out);
-    let lent = text::count(text::after(rest, b' '), &out);
-    run::tell(to, &deck[..n], &reel[..m], &mut out, lent);
+    let lent = text::number(count).min(out.len());
+    run::tell(to, deck, reel, &mut out, lent);
 }
 
 fn deck_and_records(to: &impl Print, words: &[u8]) {
-    let mut deck = room();
-    let n = text::decode(text::before(words, b' '), &mut deck);
+    let (deck, count) = text::cut(words, b' ');
+    let mut deck_room = room();
+    let deck = text::decode(deck, &mut deck_room);
     let mut out = room();
     run::mark(&mut out);
-    let lent = text::count(text::after(words, b' '), &out);
-    alike::tell(to, &deck[..n], &mut out, lent);
+    let lent = text::number(count).min(out.len());
+    alike::tell(to, deck, &mut out, lent);
 }
 
 fn deck_and_two_reels(to: &impl Print, words: &[u8]) {
-    let rest = text::after(words, b' ');
-    let mut deck = room();
-    let n = text::decode(text::before(words, b' '), &mut deck);
-    let mut ours = room();
-    let m = text::decode(text::before(rest, b' '), &mut ours);
-    let mut theirs = room();
-    let k = text::decode(text::after(rest, b' '), &mut theirs);
-    judge::tell(to, &deck[..n], &ours[..m], &theirs[..k]);
+    let (deck, rest) = text::cut(words, b' ');
+    let (ours, theirs) = text::cut(rest, b' ');
+    let mut deck_room = room();
+    let deck = text::decode(deck, &mut deck_room);
+    let mut ours_room = room();
+    let ours = text::decode(ours, &mut ours_room);
+    let mut theirs_room = room();
+    let theirs = text::decode(theirs, &mut theirs_room);
+    judge::tell(to, deck, ours, theirs);
 }
 
 fn case(to: &impl Print, line: &[u8]) {
-    say::words(to, text::before(line, b' '));
-    say::words(to, b" ");
-    let rest = text::after(line, b' ');
-    let subject = text::before(rest, b' ');
-    let words = text::after(rest, b' ');
-    if same(subject, b"half") {
-        half(to, words);
-    } else if same(subject, b"deck") {
-        deck(to, words);
-    } else if same(subject, b"reel") {
-        deck_and_reel(to, words);
-    } else if same(subject, b"plan") {
-        deck_and_table(to, words);
-    } else if same(subject, b"run") {
-        deck_and_output(to, words);
-    } else if same(subject, b"twins") {
-        deck_and_records(to, words);
-    } else if same(subject, b"judge") {
-        deck_and_two_reels(to, words);
-    } else {
-        say::words(to, b"is no case");
+    let (name, rest) = text::cut(line, b' ');
+    let (subject, words) = text::cut(rest, b' ');
+    say::raw(to, name);
+    say(to, " ");
+    match subject {
+        b"half" => half(to, words),
+        b"deck" => deck(to, words),
+        b"reel" => deck_and_reel(to, words),
+        b"plan" => deck_and_table(to, words),
+        b"run" => deck_and_output(to, words),
+        b"twins" => deck_and_records(to, words),
+        b"judge" => deck_and_two_reels(to, words),
+        _ => say(to, "is no case"),
     }
-    say::words(to, b"\n");
+    say(to, "\n");
 }
 
+// An empty line is a comment too.
 fn is_comment(line: &[u8]) -> bool {
-    if line.len() == 0 {
-        return true;
-    }
-    line[0] == b'#'
-}
-
-fn line(to: &impl Print, line: &[u8]) {
-    if !is_comment(line) {
-        case(to, line);
-    }
+    matches!(line, [] | [b'#', ..])
 }
 
 fn lines(to: &impl Print, all: &[u8]) {
-    let mut at = 0;
-    while at < all.len() {
-        let rest = &all[at..];
-        let end = text::find(rest, b'\n');
-        line(to, &rest[..end]);
-        at += end + 1;
+    for line in all.split(|b| *b == b'\n') {
+        if !is_comment(line) {
+            case(to, line);
+        }
     }
 }
 
@@ -202,7 +187,7 @@ fn cases(rt: &HostRuntime, file: File) {
     let n = inputs::fill(&mut Source::new(file), &mut all).length;
     lines(rt, &all[..n]);
     if n == 262144 {
-        say::words(rt, b"a file of cases is too long\n");
+        say(rt, "a file of cases is too long\n");
     }
 }
 

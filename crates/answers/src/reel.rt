@@ -1,5 +1,5 @@
 // What a reel is read as, as words of a line.
-use crate::say;
+use crate::say::{self, say};
 use pieces::{Cursor, Form, PieceRead, StartRead};
 use reels::ReelRead;
 use std::io::Print;
@@ -47,9 +47,9 @@ fn with_piece(to: &impl Print, told: Told, length: usize, code: usize) -> Told {
         };
     }
     if told.any {
-        say::words(to, b",");
+        say(to, ",");
     }
-    say::number(to, held);
+    say(to, held);
     Told { any: true, held: 0 }
 }
 
@@ -151,11 +151,9 @@ pub(crate) fn tell(to: &impl Print, form: Form, reel: &[u8]) {
     match read {
         ReelRead::Read { blocks, records } => {
             say::refusal(to, 0, 0, 0);
-            say::labelled(to, b" ", blocks);
-            say::labelled(to, b" ", records);
-            say::words(to, b" ");
+            say(to, format_args!(" {blocks} {records} "));
             if records == 0 {
-                say::words(to, b"-");
+                say(to, "-");
             }
             lengths(to, form, reel, blocks);
         }

@@ -1,61 +1,37 @@
 // What is written, which programs take for standard output.
+use std::fmt::Display;
 use std::io::Print;
 
-pub(crate) fn words(to: &impl Print, s: &[u8]) {
+pub(crate) fn say(to: &impl Print, what: impl Display + Drop) {
+    let _ = to.print(what);
+}
+
+// Bytes as they are, of which none need be text.
+pub(crate) fn raw(to: &impl Print, s: &[u8]) {
     let _ = to.write_all(s);
 }
 
-pub(crate) fn number(to: &impl Print, n: usize) {
-    let _ = to.print(n);
-}
-
-// A word of the line, and a number behind it.
-pub(crate) fn labelled(to: &impl Print, label: &[u8], n: usize) {
-    words(to, label);
-    number(to, n);
-}
-
-pub(crate) fn refusal(to: &impl Print, number_of: usize, place: usize, column: usize) {
-    number(to, number_of);
-    labelled(to, b" ", place);
-    labelled(to, b" ", column);
-}
-
-// A hex digit.
-fn digit(half: u8) -> u8 {
-    let value = half % 16;
-    if value < 10 {
-        return b'0' + value;
-    }
-    b'A' - 10 + value
-}
-
-fn byte(to: &impl Print, b: u8) {
-    let pair = [digit(b / 16), digit(b)];
-    words(to, &pair);
+pub(crate) fn refusal(to: &impl Print, refusal: usize, place: usize, column: usize) {
+    say(to, format_args!("{refusal} {place} {column}"));
 }
 
 // Bytes in hex; `-` for none.
 pub(crate) fn bytes(to: &impl Print, s: &[u8]) {
-    if s.len() == 0 {
-        words(to, b"-");
+    if s.is_empty() {
+        say(to, "-");
     }
-    let mut i = 0;
-    while i < s.len() {
-        byte(to, s[i]);
-        i += 1;
+    for byte in s {
+        say(to, format_args!("{byte:02X}"));
     }
 }
 
 // What a call wrote, in hex where it is short; `-` where it was refused.
 pub(crate) fn written(to: &impl Print, refusal: usize, s: &[u8]) {
     if refusal != 0 {
-        words(to, b"-");
-        return;
+        say(to, "-");
+    } else if s.len() > 64 {
+        say(to, "..");
+    } else {
+        bytes(to, s);
     }
-    if s.len() > 64 {
-        words(to, b"..");
-        return;
-    }
-    bytes(to, s);
 }

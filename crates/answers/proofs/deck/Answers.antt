@@ -35,7 +35,7 @@ slice_bounds-row-end g c =
     let r = c.read_deck-read in
     (front_in _ r.result r.new.row r.ensures c.if-read-eq0.true).0
 
-pub slice_bounds-tell-end-then-read-eq0 : goal.slice_bounds-tell-end-then-read-eq0
-slice_bounds-tell-end-then-read-eq0 g c =
+pub slice_bounds-tell-end : goal.slice_bounds-tell-end
+slice_bounds-tell-end g c =
     let r = c.read_deck-read in
     sym (length-take-le _ _ (front_in _ r.result r.new.row r.ensures c.if-read-eq0.true).0)

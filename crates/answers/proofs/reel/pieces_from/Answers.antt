@@ -1,6 +1,5 @@
 -- `reel::pieces_from` is safe and ends: each piece takes a byte or more, so that fewer bytes are left at each turn.
 use mathlib.Core.Path.{sym, subst, ◌∙◌}
-use Prim.Native.Nat.{◌-◌}
 use native.Mathlib.Omega.{arith}
 use lib.ListN.{length}
 use Rattle.terms.specs.Meaning.{format_of}
