@@ -1,13 +1,13 @@
 // What is answered where twins are asked for, and what is left of an output of which a part was lent, as words of a line.
 ghost use Rattle.std.specs.Prelude.{◌≤◌, length};
 
-use crate::say::{self, say};
-use crate::{digest, text};
+use crate::{digest, shown, text};
 use std::io::Print;
 use twins::Twins;
+use words::say;
 
 fn tell_answer(to: &impl Print, answer: Twins) {
-    say::refusal(to, answer.refusal, answer.place, answer.column);
+    shown::refusal(to, answer.refusal, answer.place, answer.column);
     say(to, format_args!(" {} {}", answer.reason, answer.length));
 }
 
@@ -18,5 +18,5 @@ pub(crate) fn tell(to: &impl Print, deck: &[u8], out: &mut [u8], lent: usize)
     let answer = bhexodana::bhx_twins(deck, &mut out[..lent]);
     tell_answer(to, answer);
     say(to, format_args!(" {} ", digest::of_bytes(out).number));
-    say::written(to, answer.refusal, text::first(out, answer.length));
+    shown::written(to, answer.refusal, text::first(out, answer.length));
 }

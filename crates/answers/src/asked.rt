@@ -1,7 +1,7 @@
 // What the cards of a deck ask for, as words of a line.
-use crate::say::say;
 use std::io::Print;
 use terms::{Asked, Field, Format, Kind, Mode, Size};
+use words::say;
 
 fn tell_mode(to: &impl Print, mode: Mode) {
     match mode {

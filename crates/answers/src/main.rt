@@ -21,15 +21,15 @@ mod judge;
 mod plan;
 mod reel;
 mod run;
-mod say;
+mod shown;
 mod text;
 
 ghost use Rattle.std.specs.Prelude.{◌≡◌, length};
 
-use crate::say::say;
 use inputs::Source;
 use std::fs::File;
 use std::io::{Error, ErrorKind, Print, Result};
+use words::{because, say, say_bytes};
 
 // Room for a whole file of cases.
 fn file_room() -> [u8; 262144]
@@ -56,7 +56,7 @@ fn half_into(step: &[u8], src: &[u8], dst: &mut [u8]) {
 // What all of dst holds once src was packed or unpacked into it.
 fn say_half(to: &impl Print, step: &[u8], src: &[u8], dst: &mut [u8]) {
     half_into(step, src, dst);
-    say::bytes(to, dst);
+    shown::bytes(to, dst);
 }
 
 fn half(to: &impl Print, words: &[u8]) {
@@ -73,7 +73,7 @@ fn deck(to: &impl Print, words: &[u8]) {
     let deck = text::decode(words, &mut room);
     let mut row = [0u16; 320];
     let read = cards::read_deck(deck, &mut row);
-    say::refusal(to, read.refusal, read.place, read.column);
+    shown::refusal(to, read.refusal, read.place, read.column);
     if read.refusal == 0 {
         let asked = read.asked;
         let end = 5 * asked.count;
@@ -87,7 +87,7 @@ fn deck_and_reel(to: &impl Print, words: &[u8]) {
     let mut row = [0u16; 320];
     let read = cards::read_deck(text::decode(deck, &mut bytes), &mut row);
     if read.refusal != 0 {
-        say::refusal(to, read.refusal, read.place, read.column);
+        shown::refusal(to, read.refusal, read.place, read.column);
         return;
     }
     reel::tell(
@@ -145,7 +145,7 @@ fn deck_and_two_reels(to: &impl Print, words: &[u8]) {
 fn case(to: &impl Print, line: &[u8]) {
     let (name, rest) = text::cut(line, b' ');
     let (subject, words) = text::cut(rest, b' ');
-    say::raw(to, name);
+    say_bytes(to, name);
     say(to, " ");
     match subject {
         b"half" => half(to, words),
@@ -175,10 +175,8 @@ fn lines(to: &impl Print, all: &[u8]) {
 
 // The file, open to read. A name that is no text names none.
 fn open(rt: &HostRuntime, path: &[u8]) -> Result<File> {
-    match std::str::from_utf8(path) {
-        Ok(text) => File::open(rt, text),
-        Err(_) => Err(Error::from(ErrorKind::InvalidInput)),
-    }
+    let text = str::from_utf8(path).map_err(|_| Error::from(ErrorKind::InvalidInput))?;
+    File::open(rt, text)
 }
 
 // The cases of a file, as many as its room takes.
@@ -197,8 +195,8 @@ fn file(rt: &HostRuntime, argument: usize) {
     match open(rt, &path[..length]) {
         Ok(file) => cases(rt, file),
         Err(why) => {
-            words::say_bytes(&rt.stderr(), &path[..length]);
-            words::because(&rt.stderr(), why);
+            say_bytes(&rt.stderr(), &path[..length]);
+            because(&rt.stderr(), why);
         }
     }
 }

@@ -3,11 +3,12 @@ ghost use Rattle.std.specs.Prelude.{◌≡◌, ◌≤◌, ◌<◌, take, drop};
 ghost use Rattle.bhexodana.specs.Promise.{PlannedInto};
 
 use crate::digest::Digest;
-use crate::say::{self, say};
+use crate::shown;
 use plans::Planned;
 use std::array;
 use std::io::Print;
 use terms::Entry;
+use words::say;
 
 // What a plan answers, and the whole table after it.
 #[derive(Clone, Copy)]
@@ -52,7 +53,7 @@ fn with_entry(digest: Digest, entry: Entry) -> Digest {
 }
 
 fn tell_answer(to: &impl Print, answer: Planned) {
-    say::refusal(to, answer.refusal, answer.place, answer.column);
+    shown::refusal(to, answer.refusal, answer.place, answer.column);
     say(
         to,
         format_args!(" {} {} {}", answer.keeping, answer.lost, answer.fields),

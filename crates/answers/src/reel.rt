@@ -1,9 +1,10 @@
 // What a reel is read as, as words of a line.
-use crate::say::{self, say};
+use crate::shown;
 use pieces::{Cursor, Form, PieceRead, StartRead};
 use reels::ReelRead;
 use std::io::Print;
 use terms::{Asked, Format};
+use words::say;
 
 // What the cards ask of blocks.
 pub(crate) fn form_of(asked: Asked) -> Form {
@@ -150,14 +151,14 @@ pub(crate) fn tell(to: &impl Print, form: Form, reel: &[u8]) {
     let read = read(form, reel);
     match read {
         ReelRead::Read { blocks, records } => {
-            say::refusal(to, 0, 0, 0);
+            shown::refusal(to, 0, 0, 0);
             say(to, format_args!(" {blocks} {records} "));
             if records == 0 {
                 say(to, "-");
             }
             lengths(to, form, reel, blocks);
         }
-        ReelRead::NotReel => say::refusal(to, 11, 0, 0),
-        ReelRead::BadBlock { block } => say::refusal(to, 12, block, 0),
+        ReelRead::NotReel => shown::refusal(to, 11, 0, 0),
+        ReelRead::BadBlock { block } => shown::refusal(to, 12, block, 0),
     }
 }

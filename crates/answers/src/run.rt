@@ -1,10 +1,10 @@
 // What a run answers, and what it leaves of an output of which a part was lent, as words of a line.
 ghost use Rattle.std.specs.Prelude.{◌≤◌, length};
 
-use crate::say::{self, say};
-use crate::{digest, text};
+use crate::{digest, shown, text};
 use outcomes::Ran;
 use std::io::Print;
+use words::say;
 
 // Fills all of an output with a pattern, against which it is seen which bytes a run changes.
 pub(crate) fn mark(out: &mut [u8]) {
@@ -14,7 +14,7 @@ pub(crate) fn mark(out: &mut [u8]) {
 }
 
 fn tell_answer(to: &impl Print, answer: Ran) {
-    say::refusal(to, answer.refusal, answer.place, answer.column);
+    shown::refusal(to, answer.refusal, answer.place, answer.column);
     say(
         to,
         format_args!(" {} {} {}", answer.length, answer.records, answer.blocks),
@@ -28,5 +28,5 @@ pub(crate) fn tell(to: &impl Print, deck: &[u8], reel: &[u8], out: &mut [u8], le
     let answer = bhexodana::bhx_run(deck, reel, &mut out[..lent]);
     tell_answer(to, answer);
     say(to, format_args!(" {} ", digest::of_bytes(out).number));
-    say::written(to, answer.refusal, text::first(out, answer.length));
+    shown::written(to, answer.refusal, text::first(out, answer.length));
 }

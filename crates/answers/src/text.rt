@@ -11,7 +11,7 @@ pub(crate) fn cut(s: &[u8], byte: u8) -> (&[u8], &[u8]) {
 
 // The number that decimal digits say; of another word 0.
 pub(crate) fn number(word: &[u8]) -> usize {
-    match std::str::from_utf8(word) {
+    match str::from_utf8(word) {
         Ok(digits) => digits.parse().unwrap_or(0),
         Err(_) => 0,
     }

@@ -1,36 +1,44 @@
 // Refusals 12 and 18: in what a block breaks its rule. Document 01, "Blocks and records".
 use crate::{segment, word};
 use pieces::{Cursor, Form, PieceRead};
+use std::fmt;
 use std::io::Print;
 use terms::Format;
 use words::{many, say};
 
-// What A, or B for a reel from elsewhere, asks of blocks: their form, how long the key is, or 0, and whether a single number stands there, g and not n and m.
+// Whose numbers are asked of blocks: A's of the input, or B's of a reel from elsewhere.
 #[derive(Clone, Copy)]
-pub struct Asks {
-    pub form: Form,
-    pub key: usize,
-    pub is_single: bool,
-    pub is_theirs: bool,
+pub enum Whose {
+    A,
+    B,
 }
 
-// Says whose numbers are asked: A's or B's.
-fn say_whose(to: &impl Print, asks: Asks) {
-    if asks.is_theirs {
-        say(to, "B's ");
-    } else {
-        say(to, "A's ");
+// What A or B asks of blocks: their form, whether they have a key, and whether a single number stands there, g and not n and m.
+#[derive(Clone, Copy)]
+pub struct Asks {
+    pub whose: Whose,
+    pub form: Form,
+    pub is_keyed: bool,
+    pub is_single: bool,
+}
+
+// As its letter on the U card.
+impl fmt::Display for Whose {
+    fn fmt<W: fmt::Write>(&self, f: &mut fmt::Formatter<W>) -> fmt::Result {
+        match self {
+            Whose::A => f.write_str("A"),
+            Whose::B => f.write_str("B"),
+        }
     }
 }
 
 // What is said where nothing else was found.
 fn say_wrong(to: &impl Print, asks: Asks) {
-    say(to, "this block is not one that the U card's F and ");
-    if asks.is_theirs {
-        say(to, "B allow");
-    } else {
-        say(to, "A allow");
-    }
+    let whose = asks.whose;
+    say(
+        to,
+        format_args!("this block is not one that the U card's F and {whose} allow"),
+    );
 }
 
 fn say_size(to: &impl Print, b: &[u8]) {
@@ -40,45 +48,34 @@ fn say_size(to: &impl Print, b: &[u8]) {
 
 // Whether a block is longer than m, or g, which is then said.
 fn said_too_long(to: &impl Print, asks: Asks, b: &[u8]) -> bool {
-    let form = asks.form;
-    if b.len() <= form.m {
-        return false;
+    let m = asks.form.m;
+    let is_longer = b.len() > m;
+    if is_longer {
+        let letter = if asks.is_single { 'g' } else { 'm' };
+        say_size(to, b);
+        say(to, format_args!(", more than {}'s {letter}, {m}", asks.whose));
     }
-    say_size(to, b);
-    say(to, ", more than ");
-    say_whose(to, asks);
-    if asks.is_single {
-        say(to, "g, ");
-    } else {
-        say(to, "m, ");
-    }
-    say(to, form.m);
-    true
+    is_longer
 }
 
 // In FF: a block that is not too long has no whole records. With keys it is one record.
 fn fixed(to: &impl Print, asks: Asks, b: &[u8]) {
-    let form = asks.form;
-    if asks.key > 0 {
+    let n = asks.form.n;
+    if asks.is_keyed {
         say_size(to, b);
-        say(to, ", and key and data have ");
-        say(to, form.n);
-        return;
+        say(to, format_args!(", and key and data have {n}"));
+    } else if !said_too_long(to, asks, b) {
+        say_size(to, b);
+        say(
+            to,
+            format_args!(", which is no multiple of the record length, {n}"),
+        );
     }
-    if said_too_long(to, asks, b) {
-        return;
-    }
-    say_size(to, b);
-    say(to, ", which is no multiple of the record length, ");
-    say(to, form.n);
 }
 
 // The least data of a record.
 fn least_data(form: Form) -> usize {
-    if form.selects {
-        return form.n;
-    }
-    1
+    if form.selects { form.n } else { 1 }
 }
 
 // The place of the first record in a block of FV that is wrong, or where the block ends.
@@ -109,29 +106,27 @@ fn first_wrong(form: Form, b: &[u8]) -> usize {
 
 // Says that a record whose word is right has too few data.
 fn say_few(to: &impl Print, asks: Asks, b: &[u8], at: usize) {
-    let form = asks.form;
     let length = word::length(b, at);
-    if length < 4 {
-        return;
+    if length >= 4 {
+        say(to, "it has ");
+        many(to, length - 4, "byte");
+        say(
+            to,
+            format_args!(" of data, fewer than {}'s n, {}", asks.whose, asks.form.n),
+        );
     }
-    say(to, "it has ");
-    many(to, length - 4, "byte");
-    say(to, " of data, fewer than ");
-    say_whose(to, asks);
-    say(to, "n, ");
-    say(to, form.n);
 }
 
 // In FV, of the records of a block whose own word is right.
 fn records(to: &impl Print, asks: Asks, b: &[u8]) {
     let at = first_wrong(asks.form, b);
-    if b.len() <= at {
+    if at < b.len() {
+        word::say_piece(to, "record", at);
+        if !word::said_piece(to, "record", b, at, 0) {
+            say_few(to, asks, b, at);
+        }
+    } else {
         say_wrong(to, asks);
-        return;
-    }
-    word::say_piece(to, "record", at);
-    if !word::said_piece(to, "record", b, at, 0) {
-        say_few(to, asks, b, at);
     }
 }
 
@@ -142,9 +137,10 @@ fn said_wrong(to: &impl Print, asks: Asks, name: &str, b: &[u8]) -> bool {
     }
     if b.len() < 5 {
         say_size(to, b);
-        say(to, ", and a block has at least 9: its word, that of a ");
-        say(to, name);
-        say(to, ", and a byte");
+        say(
+            to,
+            format_args!(", and a block has at least 9: its word, that of a {name}, and a byte"),
+        );
         return true;
     }
     word::said_wrong(to, b)
@@ -165,33 +161,27 @@ fn undefined(to: &impl Print, asks: Asks, b: &[u8]) {
 
 // In FS. Blocks count from 0.
 fn spanned(to: &impl Print, asks: Asks, reel: &[u8], i: usize) {
-    let b = reels::block(reel, i);
-    if said_wrong(to, asks, "segment", b) {
-        return;
+    if !said_wrong(to, asks, "segment", reels::block(reel, i)) {
+        segment::explain(to, reel, i);
     }
-    segment::explain(to, reel, i);
 }
 
 // Says the first thing by which the block of a place, from 1, breaks its rule.
 pub fn wrong_block(to: &impl Print, asks: Asks, reel: &[u8], place: usize) {
-    say(to, ", at block ");
-    say(to, place);
-    if asks.is_theirs {
-        say(to, " of theirs: ");
-    } else {
-        say(to, " of the input: ");
+    match asks.whose {
+        Whose::A => say(to, format_args!(", at block {place} of the input: ")),
+        Whose::B => say(to, format_args!(", at block {place} of theirs: ")),
     }
     if place == 0 {
         say_wrong(to, asks);
         return;
     }
     let i = place - 1;
-    let form = asks.form;
-    let format = form.format;
-    match format {
-        Format::FF => fixed(to, asks, reels::block(reel, i)),
-        Format::FV => variable(to, asks, reels::block(reel, i)),
-        Format::FU => undefined(to, asks, reels::block(reel, i)),
+    let b = reels::block(reel, i);
+    match asks.form.format {
+        Format::FF => fixed(to, asks, b),
+        Format::FV => variable(to, asks, b),
+        Format::FU => undefined(to, asks, b),
         Format::FS => spanned(to, asks, reel, i),
     }
 }

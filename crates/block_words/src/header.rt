@@ -1,118 +1,103 @@
 // Refusals 11 and 17: in what a file is no reel. Document 01, "The reel".
-ghost use Rattle.std.specs.Prelude.{◌<◌};
+ghost use Rattle.std.specs.Prelude.{◌+◌, ◌*◌, ◌≤◌, ◌<◌, length, IfSome};
 
 use std::io::Print;
 use words::{many, say};
 
-// The number at a place of a file, or 0 where the file has ended.
-fn word(reel: &[u8], at: usize) -> usize
-    ensures { result < 0x100000000 }
+// An offset of a reel, from 0: behind those of its blocks stands its end.
+fn offset(reel: &[u8], i: usize) -> usize
+    requires { 4 * i + 8 ≤ length reel.now }
 {
-    let end = reel.len();
-    if end < 4 {
-        return 0;
-    }
-    if end - 4 < at {
-        return 0;
-    }
-    pieces::word(reel, at)
+    pieces::word(reel, 4 * i + 4)
 }
 
-// An offset of a reel, from 0: behind those of its blocks stands its end. No reel has more than 16,384.
-fn offset(reel: &[u8], i: usize) -> usize {
-    if i > 16384 {
-        return 0;
-    }
-    word(reel, 4 * i + 4)
-}
-
-// The first offset that is not greater than the one before it, or 0.
-fn first_fallen(reel: &[u8], count: usize) -> usize {
-    let mut i = 0;
-    while i < count {
-        if offset(reel, i + 1) <= offset(reel, i) {
-            return i + 1;
+// The first offset, behind that of the first block, that is not greater than the one before it.
+fn first_fallen(reel: &[u8], count: usize) -> Option<usize>
+    requires { 4 * count + 8 ≤ length reel.now }
+    ensures { IfSome result (λ i. (0 < i) × (i ≤ count)) }
+{
+    for i in 1..count + 1 {
+        if offset(reel, i) <= offset(reel, i - 1) {
+            return Some(i);
         }
-        i += 1;
     }
-    0
+    None
 }
 
 // Says an offset by its block, or as the last one.
-fn say_offset(to: &impl Print, reel: &[u8], count: usize, i: usize) {
+fn say_offset(to: &impl Print, reel: &[u8], count: usize, i: usize)
+    requires { 4 * i + 8 ≤ length reel.now }
+{
+    let offset = offset(reel, i);
     if i >= count {
-        say(to, "the last offset, the reel's end, is ");
+        say(to, format_args!("the last offset, the reel's end, is {offset}"));
     } else {
-        say(to, "the offset of block ");
-        say(to, i + 1);
-        say(to, " is ");
+        say(to, format_args!("the offset of block {} is {offset}", i + 1));
     }
-    say(to, offset(reel, i));
 }
 
 // Says an offset that is not greater than the one before it, which is that of a block.
-fn say_fallen(to: &impl Print, reel: &[u8], count: usize, i: usize) {
+fn say_fallen(to: &impl Print, reel: &[u8], count: usize, i: usize)
+    requires low { 0 < i }
+    requires held { 4 * i + 8 ≤ length reel.now }
+{
     say_offset(to, reel, count, i);
-    say(to, ", not greater than that of block ");
-    say(to, i);
-    if i > 0 {
-        say(to, ", ");
-        say(to, offset(reel, i - 1));
-    }
+    let before = offset(reel, i - 1);
+    say(
+        to,
+        format_args!(", not greater than that of block {i}, {before}"),
+    );
 }
 
 // Says what is wrong with the offsets of so many blocks, which are all there.
-fn offsets(to: &impl Print, reel: &[u8], count: usize) {
+fn offsets(to: &impl Print, reel: &[u8], count: usize)
+    requires { 4 * count + 8 ≤ length reel.now }
+{
     let first = offset(reel, 0);
-    if count < 16384 && first != 4 * count + 8 {
-        say(to, "the first offset is ");
-        say(to, first);
-        say(to, ", and with ");
+    let behind = 4 * count + 8;
+    if first != behind {
+        say(to, format_args!("the first offset is {first}, and with "));
         many(to, count, "block");
-        say(to, " it has to be ");
-        say(to, 4 * count + 8);
-        return;
-    }
-    let fallen = first_fallen(reel, count);
-    if fallen > 0 {
+        say(to, format_args!(" it has to be {behind}"));
+    } else if let Some(fallen) = first_fallen(reel, count) {
         say_fallen(to, reel, count, fallen);
-        return;
+    } else {
+        say_offset(to, reel, count, count);
+        say(to, ", and the file has ");
+        many(to, reel.len(), "byte");
     }
-    say_offset(to, reel, count, count);
-    say(to, ", and the file has ");
-    many(to, reel.len(), "byte");
 }
 
 // Says what is wrong with a file of 8 bytes or more. The count may be any 32-bit number: it is compared before it is multiplied.
-fn counted(to: &impl Print, reel: &[u8], left: usize) {
-    let count = word(reel, 0);
-    if count <= left / 4 {
+fn counted(to: &impl Print, reel: &[u8])
+    requires { 8 ≤ length reel.now }
+{
+    let count = pieces::word(reel, 0);
+    let end = reel.len();
+    if count <= (end - 8) / 4 {
         offsets(to, reel, count);
         return;
     }
+    let needed = 4 * count + 8;
     say(to, "its block count says ");
     many(to, count, "block");
-    say(to, ", for whose offsets ");
-    say(to, 4 * count + 8);
-    say(to, " bytes are needed, and it has ");
-    say(to, reel.len());
+    say(
+        to,
+        format_args!(", for whose offsets {needed} bytes are needed, and it has {end}"),
+    );
 }
 
 // Says the first thing by which a file of this name is no reel.
 pub fn no_reel(to: &impl Print, name: &str, reel: &[u8]) {
-    say(to, ": ");
-    say(to, name);
-    say(to, " is no reel: ");
+    say(to, format_args!(": {name} is no reel: "));
     let end = reel.len();
     if end > 65536 {
         say(to, "it has more than 65,536 bytes");
-        return;
-    }
-    if end < 8 {
+    } else if end < 8 {
         say(to, "it has ");
         many(to, end, "byte");
         say(to, ", and a reel has at least 8");
-        return;
+    } else {
+        counted(to, reel);
     }
-    counted(to, reel, end - 8);
 }

@@ -7,5 +7,5 @@ mod header;
 mod segment;
 mod word;
 
-pub use block::{Asks, wrong_block};
+pub use block::{Asks, Whose, wrong_block};
 pub use header::no_reel;

@@ -7,11 +7,11 @@ use words::say;
 // The highest length of a record.
 const LONGEST: usize = 32752;
 
-// A place in a block, and how many bytes the record that is open there has, or 0 where none is open.
+// A place in a block, and how many bytes the record has that is open there.
 #[derive(Clone, Copy)]
 struct Open {
     at: usize,
-    held: usize,
+    held: Option<usize>,
 }
 
 // Codes 0 and 1 begin a record.
@@ -19,31 +19,26 @@ fn begins(code: usize) -> bool {
     code < 2
 }
 
+// How many bytes the open record has with a segment of this size.
+fn joined(held: Option<usize>, size: usize) -> usize {
+    held.unwrap_or(0).saturating_add(size)
+}
+
 // Whether a segment is in turn behind so many bytes of an open record.
-fn in_turn(held: usize, code: usize, size: usize) -> bool {
-    let closed = held == 0;
-    if begins(code) != closed {
-        return false;
-    }
-    held <= LONGEST && size <= LONGEST - held
+fn in_turn(held: Option<usize>, code: usize, size: usize) -> bool {
+    begins(code) == held.is_none() && joined(held, size) <= LONGEST
 }
 
 // How many bytes the open record has behind a segment that is in turn: codes 0 and 2 end it.
-fn held_behind(held: usize, code: usize, size: usize) -> usize {
-    if code % 2 == 0 {
-        return 0;
+fn held_behind(held: Option<usize>, code: usize, size: usize) -> Option<usize> {
+    match code {
+        0 | 2 => None,
+        _ => Some(joined(held, size)),
     }
-    if held > 65536 {
-        return held;
-    }
-    if size > 65536 {
-        return size;
-    }
-    held + size
 }
 
 // The place of the first segment in a block that is wrong, or where the block ends, behind so many bytes of an open record.
-fn first_wrong(b: &[u8], before: usize) -> Open {
+fn first_wrong(b: &[u8], before: Option<usize>) -> Open {
     let mut at = 4;
     let mut held = before;
     while at < b.len() {
@@ -70,15 +65,8 @@ fn first_wrong(b: &[u8], before: usize) -> Open {
 }
 
 // How many bytes the record has that is open before a block, from 0.
-fn held_before(reel: &[u8], block: usize) -> usize {
-    let mut held = 0;
-    let mut i = 0;
-    while i < block {
-        let open = first_wrong(reels::block(reel, i), held);
-        held = open.held;
-        i += 1;
-    }
-    held
+fn held_before(reel: &[u8], block: usize) -> Option<usize> {
+    (0..block).fold(None, |held, i| first_wrong(reels::block(reel, i), held).held)
 }
 
 fn say_code(to: &impl Print, code: u8) {
@@ -92,29 +80,30 @@ fn say_code(to: &impl Print, code: u8) {
 }
 
 // Says how long a record is with a segment whose word says this length, behind so many bytes.
-fn say_long(to: &impl Print, held: usize, length: usize) {
-    if length < 4 {
-        return;
+fn say_long(to: &impl Print, held: Option<usize>, length: usize) {
+    if length >= 4 {
+        let all = joined(held, length - 4);
+        say(
+            to,
+            format_args!("with it its record has {all} bytes, and a record has at most 32,752"),
+        );
     }
-    say(to, "with it its record has ");
-    say(to, held_behind(held, 1, length - 4));
-    say(to, " bytes, and a record has at most 32,752");
 }
 
 // Says why a segment is not in turn whose word is right.
 fn say_turn(to: &impl Print, b: &[u8], open: Open) {
     let code = word::third(b, open.at);
-    if begins(terms::wide(code)) && open.held > 0 {
-        say_code(to, code);
-        say(to, ", and the record before it is not finished");
-        return;
+    match (begins(terms::wide(code)), open.held) {
+        (true, Some(_)) => {
+            say_code(to, code);
+            say(to, ", and the record before it is not finished");
+        }
+        (false, None) => {
+            say_code(to, code);
+            say(to, ", and no record is begun");
+        }
+        (_, held) => say_long(to, held, word::length(b, open.at)),
     }
-    if !begins(terms::wide(code)) && open.held == 0 {
-        say_code(to, code);
-        say(to, ", and no record is begun");
-        return;
-    }
-    say_long(to, open.held, word::length(b, open.at));
 }
 
 // Says the first thing that is wrong with the segments of a block, from 0. Where there is none, the reel ends with this block.

@@ -1,79 +1,67 @@
 // The word before a block, a record or a segment: a length in 2 bytes, a byte that is 0 or the code of a segment, and a zero byte; and in what it is wrong.
 // Document 01, "Blocks and records"; document 02, order 6.
-ghost use Rattle.std.specs.Prelude.{◌<◌};
+ghost use Rattle.std.specs.Prelude.{◌+◌, ◌^◌, ◌<◌, ◌≤◌, length};
 
 use std::io::Print;
 use words::{many, say, say_bytes};
 
-// A byte of a block, from 0, or 0 where the block has ended.
-fn byte(b: &[u8], at: usize) -> u8 {
-    if b.len() <= at {
-        return 0;
-    }
-    b[at]
-}
-
-// The third byte of the word at a place: of a segment its code.
+// The third byte of the word at a place: of a segment its code; 0 where the block has ended.
 pub(crate) fn third(b: &[u8], at: usize) -> u8 {
-    let end = b.len();
-    if end < 3 {
-        return 0;
+    match b.get(at..) {
+        Some([_, _, third, ..]) => *third,
+        _ => 0,
     }
-    if end - 3 < at {
-        return 0;
-    }
-    b[at + 2]
 }
 
-// The length that the word at a place says.
+// The length that the word at a place says; 0 where the block has ended.
 pub(crate) fn length(b: &[u8], at: usize) -> usize
     ensures { result < 65536 }
 {
-    let end = b.len();
-    if end < 2 {
-        return 0;
+    match b.get(at..) {
+        Some([high, low, ..]) => usize::from(u16::from_be_bytes([*high, *low])),
+        _ => 0,
     }
-    if end - 2 < at {
-        return 0;
-    }
-    256 * terms::wide(b[at]) + terms::wide(b[at + 1])
 }
 
 // Says which byte of a block, from 0, is in its word or in that of a piece, and what it is.
-fn say_byte(to: &impl Print, b: &[u8], at: usize) {
-    if at < b.len() {
-        say(to, "byte ");
-        say(to, at + 1);
-        say(to, " of the block, in its word, is hex ");
-        say_bytes(to, &hexadecimal::hex(b[at]));
-    }
+fn say_byte(to: &impl Print, at: usize, byte: u8)
+    requires { at + 1 < 2 ^ 64 }
+{
+    say(
+        to,
+        format_args!("byte {} of the block, in its word, is hex ", at + 1),
+    );
+    say_bytes(to, &hexadecimal::hex(byte));
 }
 
-// Whether the third byte of a word, which is at most top, or the fourth is wrong, which is then said.
-fn said_flags(to: &impl Print, b: &[u8], third: usize, top: u8) -> bool {
-    if byte(b, third) > top {
-        say_byte(to, b, third);
-        if top == 0 {
-            say(to, ", and has to be 00");
-        } else {
-            say(to, ", and a code is 00 to 03");
+// Whether the third byte of the word at a place, which is at most top, or the fourth is wrong, which is then said.
+fn said_flags(to: &impl Print, b: &[u8], at: usize, top: u8) -> bool
+    requires { at ≤ length b.now }
+{
+    match &b[at..] {
+        [_, _, third, ..] if *third > top => {
+            say_byte(to, at + 2, *third);
+            if top == 0 {
+                say(to, ", and has to be 00");
+            } else {
+                say(to, ", and a code is 00 to 03");
+            }
+            true
         }
-        return true;
+        [_, _, _, last, ..] if *last != 0 => {
+            say_byte(to, at + 3, *last);
+            say(to, ", and has to be 00");
+            true
+        }
+        _ => false,
     }
-    if third < b.len() && byte(b, third + 1) != 0 {
-        say_byte(to, b, third + 1);
-        say(to, ", and has to be 00");
-        return true;
-    }
-    false
 }
 
 // Says that the word of a block says another length than it has.
 fn say_length(to: &impl Print, b: &[u8], said: usize) {
     say(to, "its word says ");
     many(to, said, "byte");
-    say(to, ", and it has ");
-    say(to, b.len());
+    say(to, format_args!(", and it has {}", b.len()));
 }
 
 // Whether the word of a block is wrong, which is then said, in the order in which `pieces` looks at it.
@@ -83,25 +71,24 @@ pub(crate) fn said_wrong(to: &impl Print, b: &[u8]) -> bool {
         say_length(to, b, said);
         return true;
     }
-    if said_flags(to, b, 2, 0) {
+    if said_flags(to, b, 0, 0) {
         return true;
     }
-    if said != b.len() {
+    let differs = said != b.len();
+    if differs {
         say_length(to, b, said);
-        return true;
     }
-    false
+    differs
 }
 
 // Says which piece, a record or a segment, stands at a place of a block.
-pub(crate) fn say_piece(to: &impl Print, name: &str, at: usize) {
-    say(to, "the ");
-    say(to, name);
-    say(to, " at byte ");
-    if at < 65536 {
-        say(to, at + 1);
-    }
-    say(to, " of the block: ");
+pub(crate) fn say_piece(to: &impl Print, name: &str, at: usize)
+    requires { at + 1 < 2 ^ 64 }
+{
+    say(
+        to,
+        format_args!("the {name} at byte {} of the block: ", at + 1),
+    );
 }
 
 // Whether the length in the word of a piece is wrong, where so many bytes of the block are left; that is then said.
@@ -118,28 +105,19 @@ fn said_length(to: &impl Print, name: &str, said: usize, left: usize) -> bool {
     say(to, "its word says ");
     many(to, said, "byte");
     if said > left {
-        say(to, ", and the block has ");
-        say(to, left);
-        say(to, " left");
+        say(to, format_args!(", and the block has {left} left"));
     } else {
-        say(to, ", and a ");
-        say(to, name);
-        say(to, " has at least 5 with its word");
+        say(
+            to,
+            format_args!(", and a {name} has at least 5 with its word"),
+        );
     }
     true
 }
 
 // Whether the word of the piece at a place is wrong, which is then said. Its third byte is at most top: 0 for a record, 3 for a segment.
-pub(crate) fn said_piece(to: &impl Print, name: &str, b: &[u8], at: usize, top: u8) -> bool {
-    if b.len() <= at {
-        return false;
-    }
-    let left = b.len() - at;
-    if said_length(to, name, length(b, at), left) {
-        return true;
-    }
-    if left < 4 {
-        return false;
-    }
-    said_flags(to, b, at + 2, top)
+pub(crate) fn said_piece(to: &impl Print, name: &str, b: &[u8], at: usize, top: u8) -> bool
+    requires { at < length b.now }
+{
+    said_length(to, name, length(b, at), b.len() - at) || said_flags(to, b, at, top)
 }

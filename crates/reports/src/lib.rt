@@ -6,7 +6,7 @@
 mod half;
 mod length;
 
-use block_words::Asks;
+use block_words::{Asks, Whose};
 use plans::DeckPlan;
 use std::io::Print;
 use terms::Asked;
@@ -21,23 +21,21 @@ fn plan_of(deck: &[u8]) -> DeckPlan {
 
 // What A asks of the blocks of the input.
 fn by_a(asked: Asked) -> Asks {
-    let input = asked.input;
     Asks {
+        whose: Whose::A,
         form: tasks::form_of(tasks::task_of(asked)),
-        key: asked.key,
-        is_single: terms::record_length(input) == 0,
-        is_theirs: false,
+        is_keyed: asked.key > 0,
+        is_single: terms::record_length(asked.input) == 0,
     }
 }
 
 // What B asks of the blocks of a reel from elsewhere, which have no keys.
 fn by_b(asked: Asked) -> Asks {
-    let output = asked.output;
     Asks {
+        whose: Whose::B,
         form: tasks::form_under(tasks::task_of(asked)),
-        key: 0,
-        is_single: terms::record_length(output) == 0,
-        is_theirs: true,
+        is_keyed: false,
+        is_single: terms::record_length(asked.output) == 0,
     }
 }
 

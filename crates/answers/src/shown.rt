@@ -1,15 +1,6 @@
-// What is written, which programs take for standard output.
-use std::fmt::Display;
+// What every answer shows alike.
 use std::io::Print;
-
-pub(crate) fn say(to: &impl Print, what: impl Display + Drop) {
-    let _ = to.print(what);
-}
-
-// Bytes as they are, of which none need be text.
-pub(crate) fn raw(to: &impl Print, s: &[u8]) {
-    let _ = to.write_all(s);
-}
+use words::say;
 
 pub(crate) fn refusal(to: &impl Print, refusal: usize, place: usize, column: usize) {
     say(to, format_args!("{refusal} {place} {column}"));
