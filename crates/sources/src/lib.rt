@@ -11,6 +11,15 @@ use terms::{Field, Kind};
 
 // A source is the number of an input half, counted from 1, or 0 for a fill, a zone or a blank, which are taken from none.
 
+// The source of half j of what a copy writes: its places are counted as wide as they are stored, which lets the compiler store many at a time.
+fn copy_source(f: Field, j: usize) -> u16
+    requires field_inside { FieldInside 4096 4096 f }
+    requires j_bound { (j < 2 * f.output) × (f.kind ≡ Kind.Copy) }
+    ensures { SourceIs f j result }
+{
+    (2 * f.r - 1) as u16 + j as u16
+}
+
 // The source of half j of what a pack writes: the last byte's halves change places, the other low halves follow leftwards, then comes fill.
 fn pack_source(f: Field, j: usize) -> u16
     requires field_inside { FieldInside 4096 4096 f }
@@ -55,51 +64,17 @@ fn unpack_source(f: Field, j: usize) -> u16
     0
 }
 
-// The sources of what a copy writes, in their places. Each kind has a walk of its own, so that nothing is asked at each half; here the source is
-// counted as wide as it is stored, which lets the compiler store many at a time.
-fn copy_sources(f: Field, out: &mut [u16; 8192])
+// The sources of what a field writes, in their places: half j has the one that is asked for it. Each kind has a walk of its own, so that no kind is asked at each half.
+fn put_sources<F: Fn(usize) -> u16>(f: Field, source: F, out: &mut [u16; 8192])
     requires field_inside { FieldInside 4096 4096 f }
-    requires out_len { (length out.old ≡ 8192) × (f.kind ≡ Kind.Copy) }
+    requires out_len { length out.old ≡ 8192 }
+    requires askable { (j : ℕ) → j < 2 * f.output → F.pre source j }
+    requires answers { (j s : ℕ) → j < 2 * f.output → F.post source j s → SourceIs f j s }
     ensures { SourcesAfter f out.old out.new }
 {
     let to = 2 * f.t - 2;
-    let many = 2 * f.output;
-    let mut from = (2 * f.r - 1) as u16;
-    let mut j = 0;
-    while j < many {
-        out[to + j] = from;
-        from += 1;
-        j += 1;
-    }
-}
-
-// The sources of what a pack writes, in their places.
-fn pack_sources(f: Field, out: &mut [u16; 8192])
-    requires field_inside { FieldInside 4096 4096 f }
-    requires out_len { (length out.old ≡ 8192) × (f.kind ≡ Kind.Pack) }
-    ensures { SourcesAfter f out.old out.new }
-{
-    let to = 2 * f.t - 2;
-    let many = 2 * f.output;
-    let mut j = 0;
-    while j < many {
-        out[to + j] = pack_source(f, j);
-        j += 1;
-    }
-}
-
-// The sources of what an unpack writes, in their places.
-fn unpack_sources(f: Field, out: &mut [u16; 8192])
-    requires field_inside { FieldInside 4096 4096 f }
-    requires out_len { (length out.old ≡ 8192) × (f.kind ≡ Kind.Unpack) }
-    ensures { SourcesAfter f out.old out.new }
-{
-    let to = 2 * f.t - 2;
-    let many = 2 * f.output;
-    let mut j = 0;
-    while j < many {
-        out[to + j] = unpack_source(f, j);
-        j += 1;
+    for j in 0..2 * f.output {
+        out[to + j] = source(j);
     }
 }
 
@@ -109,11 +84,10 @@ fn field_sources(f: Field, out: &mut [u16; 8192])
     requires out_len { length out.old ≡ 8192 }
     ensures { SourcesAfter f out.old out.new }
 {
-    let kind = f.kind;
-    match kind {
-        Kind::Copy => copy_sources(f, out),
-        Kind::Pack => pack_sources(f, out),
-        Kind::Unpack => unpack_sources(f, out),
+    match f.kind {
+        Kind::Copy => put_sources(f, |j| copy_source(f, j), out),
+        Kind::Pack => put_sources(f, |j| pack_source(f, j), out),
+        Kind::Unpack => put_sources(f, |j| unpack_source(f, j), out),
     }
 }
 
@@ -123,11 +97,7 @@ pub fn sources(fields: &[u16], out: &mut [u16; 8192])
     requires all_zero { AllZero out.old }
     ensures { (length out.new ≡ 8192) × ((n m : ℕ) → RowInside fields.now n m → Stand out.new (sourcesBy zone_f m (fields_in fields.now) (2 * n))) }
 {
-    let count = fields.len() / 5;
-    let mut i = 0;
-    while i < count {
-        let f = rows::field_at(fields, i);
-        field_sources(f, out);
-        i += 1;
+    for i in 0..fields.len() / 5 {
+        field_sources(rows::field_at(fields, i), out);
     }
 }

@@ -1,4 +1,4 @@
--- `sources::pack_source` meets its contract: by how many halves stand to the right of the half, each answer is a place of the packed field.
+-- By how many halves stand to the right of the half, each answer is a place of the packed field.
 use mathlib.Core.Path.{refl}
 use native.Mathlib.Omega.{arith}
 use Rattle.sources.proofs.FieldSources.{pack_low_gives, pack_high_gives, pack_digit_gives, pack_fill_gives}

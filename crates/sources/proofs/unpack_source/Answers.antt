@@ -1,4 +1,4 @@
--- `sources::unpack_source` meets its contract: by how many halves stand to the right of the half, each answer is a place of the unpacked field.
+-- By how many halves stand to the right of the half, each answer is a place of the unpacked field.
 use mathlib.Core.Path.{refl}
 use native.Mathlib.Omega.{arith}
 use Rattle.sources.proofs.FieldSources.{unpack_low_gives, unpack_high_gives, unpack_zone_gives, unpack_digit_gives, unpack_fill_gives}
@@ -12,12 +12,6 @@ returns-then-right-eq1 c = unpack_high_gives _ _ _ c.requires.field_inside _ _ _
 
 pub returns-then-right-eq1-2 : goal.returns-then-right-eq1-2
 returns-then-right-eq1-2 c = unpack_zone_gives _ _ _ c.requires.field_inside _ _ 0 (omega arith) c.requires.j_bound.1 (omega arith) c.if-right-eq1-2.true
-
-pub overflow_sub-result-then-right-f-2 : goal.overflow_sub-result-then-right-f-2
-overflow_sub-result-then-right-f-2 c = omega (arith, c.if-right-f.true, c.requires.field_inside.r_low)
-
-pub overflow_cast-result-then-right-f : goal.overflow_cast-result-then-right-f
-overflow_cast-result-then-right-f c = omega (arith, c.requires.field_inside.r_high)
 
 pub returns-then-right-f : goal.returns-then-right-f
 returns-then-right-f c = unpack_digit_gives _ _ _ c.requires.field_inside _ _ _ (omega arith) c.requires.j_bound.1 (omega arith) c.if-right-eq1-2.false c.if-right-f.true refl
