@@ -1,9 +1,8 @@
--- What the functions on a plan's numbers answer is what the rules say of its records, and one answer only: each way out of a function is what its
--- definition says there, by the tests that led there.
+-- What the functions on a plan's numbers answer is what the rules say of its records, and one answer only: by what each number is of the plan.
 use mathlib.Core.Path.{◌≡◌, refl, ap, ap₂, sym, ◌∙◌, subst}
 use mathlib.Core.Bool.{Bool, true, false, cond}
 use mathlib.Core.List.{List}
-use Prim.Native.Nat.{ℕ, ◌+◌, ◌-◌, ◌≤◌, ◌<◌}
+use Prim.Native.Nat.{ℕ, ◌+◌, ◌-◌, ◌≤◌}
 use native.Mathlib.Omega.{arith}
 use lib.ListN.{length}
 use Rattle.rules.specs.Plan.{Plan, selects, record_length}
@@ -23,18 +22,6 @@ use Rattle.tasks.specs.Promise.{form_of, form_under, tail_length_of, output_leng
 
 module _ (task : Task) where
   -- the tail
-  pub tail_short : (n : ℕ) → n < task.n → 0 ≡ tail_length_of task n
-  unfolding tail_length_of
-  tail_short n l = go task.carries
-    where
-      go : (t : Bool) → 0 ≡ cond t (n - task.n) 0
-      go true = omega arith
-      go false = refl
-
-  pub tail_carried : (n : ℕ) → task.carries ≡ true → n - task.n ≡ tail_length_of task n
-  unfolding tail_length_of
-  tail_carried n e = rw e
-
   pub tail_dropped : (n : ℕ) → task.carries ≡ false → 0 ≡ tail_length_of task n
   unfolding tail_length_of
   tail_dropped n e = rw e

@@ -5,13 +5,17 @@ use Rattle.terms.specs.Meaning.{mode_of}
 use Rattle.terms.specs.declared.Task.{Task}
 use Rattle.pieces.specs.declared.Form.{Form}
 
+-- what is asked of blocks that have these two numbers
+abbrev pub form_with : Task → ℕ → ℕ → Form
+form_with task n m = record { format = task.format; n = n; m = m; selects = selects (mode_of task.mode) }
+
 -- what the plan asks of input blocks
 abbrev pub form_of : Task → Form
-form_of task = record { format = task.format; n = task.n; m = task.m; selects = selects (mode_of task.mode) }
+form_of task = form_with task task.n task.m
 
 -- what B asks of the blocks of a reel from elsewhere
 abbrev pub form_under : Task → Form
-form_under task = record { format = task.format; n = task.width; m = task.limit; selects = selects (mode_of task.mode) }
+form_under task = form_with task task.width task.limit
 
 -- with CV the data past A's n
 unfoldable pub tail_length_of : Task → ℕ → ℕ
