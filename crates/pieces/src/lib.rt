@@ -17,11 +17,7 @@ pub fn word(s: &[u8], at: usize) -> usize
     requires { at + 4 ≤ length s.now }
     ensures { (result ≡ word_at s.now at) × (result < 0x100000000) }
 {
-    let a = terms::wide(s[at]);
-    let b = terms::wide(s[at + 1]);
-    let c = terms::wide(s[at + 2]);
-    let d = terms::wide(s[at + 3]);
-    a * 0x1000000 + b * 0x10000 + c * 0x100 + d
+    u32::from_be_bytes([s[at], s[at + 1], s[at + 2], s[at + 3]]) as usize
 }
 
 // What a plan asks of blocks: the format, A's n, A's m or g, and whether fields are selected, by TF or TRF: then a record has A's n of data or more, else a byte
@@ -63,7 +59,7 @@ fn length_word(b: &[u8], at: usize, low: usize, top: u8) -> Option<usize>
     if left < 4 {
         return None;
     }
-    let length = 256 * terms::wide(b[at]) + terms::wide(b[at + 1]);
+    let length = usize::from(u16::from_be_bytes([b[at], b[at + 1]]));
     if length < low {
         return None;
     }
@@ -146,7 +142,7 @@ fn variable_piece(b: &[u8], at: usize, top: u8) -> Result<FoundPiece, NoPiece>
     Ok(FoundPiece {
         place: at + 4,
         length: length - 4,
-        third: terms::wide(b[at + 2]),
+        third: usize::from(b[at + 2]),
         next: Cursor { at: at + length },
     })
 }
@@ -163,14 +159,11 @@ pub fn segment(b: &[u8], c: Cursor) -> Result<Option<FoundPiece>, NoPiece>
 }
 
 // Four bytes from a place on.
-fn put_four(out: &mut [u8], at: usize, a: u8, b: u8, c: u8, d: u8)
+fn put_four(out: &mut [u8], at: usize, four: [u8; 4])
     requires { at + 4 ≤ length out.old }
-    ensures { out.new ≡ over at (a ∷ b ∷ c ∷ d ∷ []) out.old }
+    ensures { out.new ≡ over at four out.old }
 {
-    out[at] = a;
-    out[at + 1] = b;
-    out[at + 2] = c;
-    out[at + 3] = d;
+    out[at..at + 4].copy_from_slice(&four);
 }
 
 // A big-endian 32-bit number from a place on.
@@ -178,11 +171,7 @@ pub fn put_word(out: &mut [u8], at: usize, value: usize)
     requires { at + 4 ≤ length out.old }
     ensures { out.new ≡ over at (word value) out.old }
 {
-    let a = (value / 0x1000000 % 256) as u8;
-    let b = (value / 0x10000 % 256) as u8;
-    let c = (value / 0x100 % 256) as u8;
-    let d = (value % 256) as u8;
-    put_four(out, at, a, b, c, d);
+    put_four(out, at, ((value % 0x100000000) as u32).to_be_bytes());
 }
 
 // The word of a segment: its length in 2 bytes, its code, and a zero byte.
@@ -191,9 +180,8 @@ pub fn put_coded_word(out: &mut [u8], at: usize, code: u8, size: usize)
     requires size_bound { size < 65536 }
     ensures { out.new ≡ over at (coded_word code size) out.old }
 {
-    let a = (size / 256) as u8;
-    let b = (size % 256) as u8;
-    put_four(out, at, a, b, code, 0);
+    let [high, low] = (size as u16).to_be_bytes();
+    put_four(out, at, [high, low, code, 0]);
 }
 
 // A length of a record or block in FV, and of a block in FS: a word of code 0.

@@ -1,17 +1,16 @@
--- Four stores, and the four bytes are inside.
+-- The four bytes take the place of those that stood there.
+use mathlib.Core.Path.{ap, ◌∙◌}
 use native.Mathlib.Omega.{arith}
-use lib.ListN.{length-set}
-use Rattle.pieces.proofs.WordsLaws.{four_over}
+use Prim.Native.Nat.{◌+◌, ◌-◌}
+use lib.ListN.{drop, length-take, length-drop}
+use Rattle.rules.specs.Halves.{over}
+use Rattle.rules.proofs.Base.LentParts.{part_over}
 use Rattle.pieces.proofs.put_four.Goals as goal
 
-pub bounds-out-at-2 : goal.bounds-out-at-2
-bounds-out-at-2 c = simp length-set (omega arith)
-
-pub bounds-out-at-3 : goal.bounds-out-at-3
-bounds-out-at-3 c = simp length-set (omega arith)
-
-pub bounds-out-at-4 : goal.bounds-out-at-4
-bounds-out-at-4 c = simp length-set (omega arith)
-
 pub returns : goal.returns
-returns c = four_over _ _ _ _ _ _ (omega arith)
+returns c =
+    let a = c.args in
+    let e = c.copy_from_slice.ensures in
+    let f = length-drop a.at a.out.now in
+    part_over a.at 4 a.out.now _ (omega (arith, e.len, c.requires, length-take (a.at + 4 - a.at) (drop a.at a.out.now)))
+    ∙ ap (λ four. over a.at four a.out.now) e.after

@@ -34,4 +34,4 @@ overflow_add-result-2 c =
 pub returns : goal.returns
 returns c =
     let a = c.args in
-    variable_piece a.top a.b.now a.at _ _ c.requires (sym c.length_word.ensures ∙ or_taken _ _ _ c.in_ok-length.ensures.value) c.wide.ensures.0
+    variable_piece a.top a.b.now a.at _ _ c.requires (sym c.length_word.ensures ∙ or_taken _ _ _ c.in_ok-length.ensures.value) c.from.ensures
