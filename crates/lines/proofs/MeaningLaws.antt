@@ -2,28 +2,31 @@
 -- card's fourth and fifth byte tell of it holds by cases on the card's text.
 use mathlib.Core.Path.{◌≡◌, refl, ap, sym, ◌∙◌, subst}
 use mathlib.Core.Logic.{inl, inr}
-use mathlib.Core.Bool.{Bool, true, false}
-use mathlib.Core.List.{List, [], ◌∷◌}
-use Rattle.std.specs.Prelude.{None, Some, is_none}
+use mathlib.Core.Bool.{Bool, true, false, not, cond, ◌&&◌}
+use mathlib.Core.List.{List, [], ◌∷◌, ◌++◌}
+use Rattle.std.specs.Prelude.{None, Some, is_none, unwrap_or, ◌==◌}
 use mathlib.Core.Option.{Option, none, some}
-use Prim.Native.Nat.{ℕ, ◌+◌, ◌≤◌, ◌<◌}
+use Prim.Native.Nat.{ℕ, zero-le, suc, min, ◌+◌, ◌-◌, ◌≤◌, ◌<◌}
 use Prim.Native.String.{String}
 use native.Mathlib.Omega.{arith}
-use lib.Dec.{eqb}
-use lib.ListN.{length, get_or, take, drop, drop_of_length-le}
-use lib.Seq.{slice, take-length, drop-cons}
-use borrow.Author.Tests.{eqb-false}
+use lib.Dec.{ltb, leb, eqb}
+use lib.Pointwise.{pointwise}
+use Rattle.std.specs.List.{position, position_or_len, starts_with}
+use Rattle.std.proofs.lemmas.List.{take_at, drop_at}
+use lib.ListN.{length, get_or, take, drop, drop_of_length-le, length-append, length-drop}
+use lib.Seq.{slice, take-length, take_all, drop-cons, drop-drop, get_or-drop}
+use borrow.Author.Tests.{eqb-true, eqb-false, ltb-false, leb-true, leb-false}
 use Rattle.rules.specs.Base.{ascii, every}
 use Rattle.rules.specs.Places.{All, no_more, also}
-use Rattle.rules.specs.Reader.{read, after, text}
+use Rattle.rules.specs.Reader.{read, text}
 use Rattle.rules.specs.Deck.{tidy, Card, u_card, fs_card, end_card, operand, card_of}
 use Rattle.rules.specs.Texts.{ShapeText}
 use Rattle.rules.specs.TextParts.{stops, Inner}
-use Rattle.rules.proofs.Base.Lists.{slice_slice}
+use Rattle.rules.proofs.Base.Lists.{slice_from, slice_slice}
 use Rattle.rules.proofs.Base.AllLaws.{all_append}
 use Rattle.rules.proofs.Deck.CardLaws.{operand_of, card_exactly}
 use Rattle.rules.proofs.Deck.LineLaws.{next_line, last_line, no_line}
-use Rattle.rules.proofs.Deck.CardPlaces.{after_other, after_short, after_end, operand_slice, operand_blank, operand_end, card_untidy, card_u, card_utt, card_fs, card_end, card_end_blank, card_end_other, card_none}
+use Rattle.rules.proofs.Deck.CardPlaces.{card_untidy, card_u, card_utt, card_fs, card_end, card_end_blank, card_end_other, card_none}
 use Rattle.lines.specs.Meaning.{BeginsSays, OperandEnds, CardSays, IsCard, inner, PassedSays, LineSays}
 use Rattle.lines.specs.Ordering.{card_kind_of}
 use Rattle.lines.specs.declared.CardRead.TheVariants.{UCard, FsCard, EndCard}
@@ -34,27 +37,85 @@ not_both e = let z : ◌≡◌ {A = ℕ} 0 1 = cc in omega arith
 
 -- ---- whether a line begins with a text
 
-module _ (p s : List ℕ) (i : ℕ) where
-  pub begins_short : i < length p → length s ≤ i → after p s ≡ after (drop i p) (drop i s) → BeginsSays p s false
-  begins_short l h e = rw (e ∙ after_short p s i l h) (stops [])
+-- of a text and a line by their first bytes
+next_says : (x y : ℕ) (p s : List ℕ) (same begins : Bool) → eqb x y ≡ same → BeginsSays p s begins → BeginsSays (x ∷ p) (y ∷ s) (same && begins)
+next_says x y p s true true e (h, q) = (omega arith, rw e q)
+next_says x y p s true false e h = rw e h
+next_says x y p s false begins e h = rw e (stops (y ∷ s))
 
-  pub begins_other : i < length p → i < length s → (get_or s i 0 ≡ get_or p i 0 → ⊥) → after p s ≡ after (drop i p) (drop i s) → BeginsSays p s false
-  begins_other l m h e = rw (e ∙ after_other p s i l m h) (stops (drop i s))
+starts_says : (p s : List ℕ) → BeginsSays p s (pointwise eqb p (take (length p) s))
+starts_says [] s = (zero-le, refl)
+starts_says (x ∷ p) [] = stops []
+starts_says (x ∷ p) (y ∷ s) = next_says x y p s (eqb x y) (pointwise eqb p (take (length p) s)) refl (starts_says p s)
 
-  pub begins_end : i ≤ length p → i ≤ length s → length p ≤ i → after p s ≡ after (drop i p) (drop i s) → BeginsSays p s true
-  begins_end a b h e =
-      let z : i ≡ length p = omega arith in
-      (omega arith, e ∙ after_end p s i h ∙ ap (λ (n : ℕ). read tt (drop n s)) z)
+-- as `starts_with` finds it
+pub begins_says : {b : Bool} (p s : List ℕ) → b ≡ starts_with eqb s p → BeginsSays p s b
+begins_says p s e = subst (BeginsSays p s) (sym e) (starts_says p s)
+
+-- ---- the first of a byte
+
+module _ (byte : ℕ) where
+  -- how many bytes stand before it
+  abbrev pub before : List ℕ → ℕ
+  before l = position_or_len (λ b. b == byte) l
+
+  abbrev Other : ℕ → Type 0
+  Other b = b ≡ byte → ⊥
+
+  pub before_inside : (l : List ℕ) → before l ≤ length l
+  before_inside [] = zero-le
+  before_inside (x ∷ l) = go (before_inside l) (eqb x byte)
+    where
+      go : before l ≤ length l → (t : Bool) → cond (not t) (1 + before l) 0 ≤ suc (length l)
+      go h true = zero-le
+      go h false = omega arith
+
+  -- as `position` finds it
+  pub before_found : (l : List ℕ) → unwrap_or (position (λ b. b == byte) l) (length l) ≡ before l
+  before_found l = go (ltb (before l) (length l)) refl
+    where
+      go : (t : Bool) → ltb (before l) (length l) ≡ t → unwrap_or (cond t (Some (before l)) None) (length l) ≡ before l
+      go true e = refl
+      go false e = omega (arith, before_inside l, ltb-false (before l) (length l) e)
+
+  pub before_others : (l : List ℕ) → All Other (take (before l) l)
+  before_others [] = no_more
+  before_others (x ∷ l) = go (before_others l) (eqb x byte) refl
+    where
+      go : All Other (take (before l) l) → (t : Bool) → eqb x byte ≡ t → All Other (take (cond (not t) (1 + before l) 0) (x ∷ l))
+      go h true e = no_more
+      go h false e = let z : 1 + before l ≡ suc (before l) = omega arith in rw z (also (eqb-false x byte e) h)
+
+  pub before_is : (l : List ℕ) → before l < length l → get_or l (before l) 0 ≡ byte
+  before_is [] h = absurd (omega arith)
+  before_is (x ∷ l) h = go (before_is l) (eqb x byte) refl h
+    where
+      go : (before l < length l → get_or l (before l) 0 ≡ byte) → (t : Bool) → eqb x byte ≡ t → cond (not t) (1 + before l) 0 < suc (length l)
+          → get_or (x ∷ l) (cond (not t) (1 + before l) 0) 0 ≡ byte
+      go f true e k = eqb-true x byte e
+      go f false e k = let z : 1 + before l ≡ suc (before l) = omega arith in rw z (f (omega arith))
 
 -- ---- where an operand ends
 
-module _ (l : List ℕ) (f t : ℕ) where
-  pub operand_ends_blank : f ≤ t → t < length l → All (λ b. b ≡ 0x20 → ⊥) (slice f t l) → get_or l t 0 ≡ 0x20 → OperandEnds l f t
-  operand_ends_blank h k a e =
-      record { from = h; upto = omega arith; is = operand_slice l f t h (omega arith) a (operand_blank l t k e) }
+operand_before : (l : List ℕ) → operand l ≡ take (before 0x20 l) l
+operand_before [] = refl
+operand_before (x ∷ l) = go (operand_before l) (eqb x 0x20)
+  where
+    go : operand l ≡ take (before 0x20 l) l → (t : Bool) → cond t [] (x ∷ operand l) ≡ take (cond (not t) (1 + before 0x20 l) 0) (x ∷ l)
+    go h true = refl
+    go h false = let z : 1 + before 0x20 l ≡ suc (before 0x20 l) = omega arith in rw z (ap (λ (o : List ℕ). x ∷ o) h)
 
-  pub operand_ends_line : f ≤ t → t ≤ length l → length l ≤ t → All (λ b. b ≡ 0x20 → ⊥) (slice f t l) → OperandEnds l f t
-  operand_ends_line h k e a = record { from = h; upto = k; is = operand_slice l f t h k a (operand_end l t e) }
+-- the bytes from a place on, as code lends them
+pub lent_rest : (l : List ℕ) (start : ℕ) → take (length l - start) (drop start l) ≡ drop start l
+lent_rest l start = take_all (length l - start) (drop start l) (omega (arith, length-drop start l))
+
+pub operand_ends : (l : List ℕ) (start : ℕ) → start ≤ length l → OperandEnds l start (start + before 0x20 (drop start l))
+operand_ends l start h =
+    record {
+      from = omega arith;
+      upto = omega (arith, before_inside 0x20 (drop start l), length-drop start l);
+      is = operand_before (drop start l) ∙ sym (slice_from start (before 0x20 (drop start l)) l);
+    }
 
 -- ---- which card a line is
 
@@ -197,30 +258,60 @@ inner_all (b ∷ l) e = go (λ h. inner_all l h) (eqb b 0x0A) refl
     go ih true t = absurd (not_both (sym (rw t at e)))
     go ih false t = also (eqb-false b 0x0A t) (ih (rw t at e))
 
--- a block further
-pub passed_block : (deck : List ℕ) (at end n : ℕ) → PassedSays deck at end → end + n ≤ length deck → every inner (slice end (end + n) deck) ≡ true
-    → PassedSays deck at (end + n)
-passed_block deck at end n p h e = (
-  omega arith,
-  h,
-  subst (All Inner) (slice_slice at end (end + n) deck p.0 (omega arith) h) (all_append p.2 (inner_all (slice end (end + n) deck) e)),
-)
+-- a block further, where the bytes that are left are the block and others
+pub passed_block : (deck : List ℕ) (at end : ℕ) (block rest : List ℕ) → PassedSays deck at end → drop end deck ≡ block ++ rest → length block ≡ 8
+    → every inner block ≡ true → (rest ≡ drop (end + 8) deck) × PassedSays deck at (end + 8)
+passed_block deck at end block rest p left n e =
+    let inside : end + 8 ≤ length deck = omega (arith, p.1, length-drop end deck, ap length left, length-append block rest) in
+    let is : slice end (end + 8) deck ≡ block = slice_from end 8 deck ∙ ap (take 8) left ∙ take_at block rest 8 n in (
+      sym (sym (drop-drop 8 end deck) ∙ ap (drop 8) left ∙ drop_at block rest 8 n),
+      (
+        omega (arith, p.0),
+        inside,
+        subst (All Inner) (slice_slice at end (end + 8) deck p.0 (omega arith) inside) (all_append p.2 (subst (All Inner) (sym is) (inner_all block e))),
+      ),
+    )
 
 module _ (deck : List ℕ) (at : ℕ) where
   pub line_says_none : length deck ≤ at → LineSays deck at None
   line_says_none h = (h, no_line deck at h)
 
-  pub line_says_next : (t : ℕ) → at ≤ t → t < length deck → All Inner (slice at t deck) → get_or deck t 0 ≡ 0x0A → LineSays deck at (Some (record { end = t; next = t + 1 }))
-  line_says_next t h k a e = (omega arith, h, omega arith, omega arith, next_line deck at t h k a e)
+  -- the line ends at t, where its end stands or the deck's
+  module _ (t next : ℕ) (less : at < length deck) (p : PassedSays deck at t) (n : next ≡ min (t + 1) (length deck)) where
+    ends : (t < length deck → get_or deck t 0 ≡ 0x0A) → LineSays deck at (Some (record { end = t; next = next }))
+    ends e = go (leb (length deck) t) refl
+      where
+        go : (b : Bool) → leb (length deck) t ≡ b → LineSays deck at (Some (record { end = t; next = next }))
+        go true b =
+            let k : length deck ≤ t = leb-true (length deck) t b in
+            let z : t ≡ length deck = omega (arith, p.1) in
+            let s : slice at t deck ≡ drop at deck = ap (λ (n : ℕ). slice at n deck) z ∙ ap (drop at) (take-length deck) in (
+              less,
+              p.0,
+              p.1,
+              omega arith,
+              last_line deck at less (subst (λ (n : ℕ). All Inner (slice at n deck)) z p.2)
+                  ∙ rw (s, no_line deck next (omega arith)),
+            )
+        go false b =
+            let k : t < length deck = leb-false (length deck) t b in
+            let z : next ≡ t + 1 = omega arith in (
+              less,
+              p.0,
+              p.1,
+              omega arith,
+              rw z (next_line deck at t p.0 k p.2 (e k)),
+            )
 
-  pub line_says_last : (t : ℕ) → at < length deck → t ≤ length deck → length deck ≤ t → All Inner (slice at t deck) → LineSays deck at (Some (record { end = t; next = t }))
-  line_says_last t h k e a =
-      let z : t ≡ length deck = omega arith in
-      let s : slice at t deck ≡ drop at deck = ap (λ (n : ℕ). slice at n deck) z ∙ ap (drop at) (take-length deck) in (
-        h,
-        omega arith,
-        k,
-        omega arith,
-        last_line deck at h (subst (λ (n : ℕ). All Inner (slice at n deck)) z a)
-            ∙ rw (s, no_line deck t e),
-      )
+  -- behind what is passed the first line feed ends the line
+  pub line_says : (from size next : ℕ) → at < length deck → PassedSays deck at from → size ≡ before 0x0A (drop from deck) → next ≡ min (length deck) (from + size + 1)
+      → LineSays deck at (Some (record { end = from + size; next = next }))
+  line_says from size next less p e n =
+      let rest : List ℕ = drop from deck in
+      let inside : from + size ≤ length deck = omega (arith, p.1, e, before_inside 0x0A rest, length-drop from deck) in
+      let others : All Inner (slice from (from + size) deck)
+      = subst (All Inner) (sym (slice_from from size deck)) (subst (λ (k : ℕ). All Inner (take k rest)) (sym e) (before_others 0x0A rest)) in
+      ends (from + size) next less
+      (omega (arith, p.0), inside, subst (All Inner) (slice_slice at from (from + size) deck p.0 (omega arith) inside) (all_append p.2 others))
+      (omega arith)
+      (λ k. sym (get_or-drop from deck size 0) ∙ ap (λ (k : ℕ). get_or rest k 0) e ∙ before_is 0x0A rest (omega (arith, e, length-drop from deck)))

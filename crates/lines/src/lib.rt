@@ -1,7 +1,8 @@
 // The lines of a deck, what card a line is, and the order of the cards (document 01, "The deck"): refusals 1 and 2.
 #![tactic(auto)]
 
-ghost use Rattle.std.specs.Prelude.{◌≡◌, true, ◌≤◌, length, Some, Err};
+ghost use Rattle.std.specs.Prelude.{◌≡◌, ℕ, Bool, true, ◌≤◌, ◌==◌, length, Some, Err};
+ghost use Rattle.std.specs.List.{position_or_len};
 ghost use Rattle.rules.specs.Base.{ascii, within, every};
 ghost use Rattle.rules.specs.Answer.{refusal_of, place_of};
 ghost use Rattle.rules.specs.Deck.{tidy, card_of};
@@ -22,26 +23,38 @@ pub const LINE_END: u8 = 0x0A;
 // How many bytes are looked at at once where a line's end is looked for.
 const BLOCK: usize = 8;
 
-// Whether a card may have this byte.
-fn allowed(byte: u8) -> bool
-    ensures { result ≡ within 0x20 0x7E byte }
+// Whether each byte passes a test. A loop with one way out is compiled to look at many bytes at once, which `all`, with two, is not.
+fn each<F: Fn(u8) -> bool>(bytes: &[u8], passes: F) -> bool
+    ghost test: { ℕ → Bool }
+    requires callable { F.IsAlwaysCallable passes }
+    requires tells { (b : ℕ) (r : Bool) → F.post passes b r → r ≡ test b }
+    ensures { result ≡ every test bytes.now }
 {
-    0x20 <= byte && byte <= 0x7E
+    let mut good = true;
+    for byte in bytes {
+        if !passes(*byte) {
+            good = false;
+        }
+    }
+    good
 }
 
-// Whether a card may have each byte of the line. A loop with one way out is compiled to look at many bytes at once.
+// How many bytes stand before the first of this one, or all where there is none.
+fn bytes_before(bytes: &[u8], byte: u8) -> usize
+    ensures inside { result ≤ length bytes.now }
+    ensures value { result ≡ position_or_len (λ b. b == byte) bytes.now }
+{
+    bytes
+        .iter()
+        .position(|other| *other == byte)
+        .unwrap_or(bytes.len())
+}
+
+// Whether a card may have each byte of the line.
 fn plain(line: &[u8]) -> bool
     ensures { result ≡ every (within 0x20 0x7E) line.now }
 {
-    let mut good = true;
-    let mut i = 0;
-    while i < line.len() {
-        if !allowed(line[i]) {
-            good = false;
-        }
-        i += 1;
-    }
-    good
+    each(line, |byte| 0x20 <= byte && byte <= 0x7E)
 }
 
 // Whether a line has the length and the bytes of a card. A longer line's bytes are not looked at.
@@ -58,36 +71,12 @@ fn is_tidy(line: &[u8]) -> bool
     plain(line)
 }
 
-// Whether the line begins with the text.
-fn begins(line: &[u8], text: &[u8]) -> bool
-    ensures { BeginsSays text.now line.now result }
-{
-    let mut i = 0;
-    while i < text.len() {
-        if line.len() <= i {
-            return false;
-        }
-        if line[i] != text[i] {
-            return false;
-        }
-        i += 1;
-    }
-    true
-}
-
 // Where the operand that starts at `start` ends: at the first blank, or the line's end.
 fn operand_end(line: &[u8], start: usize) -> usize
     requires { start ≤ length line.now }
     ensures { OperandEnds line.now start result }
 {
-    let mut i = start;
-    while i < line.len() {
-        if line[i] == BLANK {
-            return i;
-        }
-        i += 1;
-    }
-    i
+    start + bytes_before(&line[start..], BLANK)
 }
 
 // A card: a U or UTT card or an FS card, with where its operand starts and ends, or an END card.
@@ -126,16 +115,16 @@ fn tidy_kind(line: &[u8]) -> Option<CardKind>
     requires { tidy line.now ≡ true }
     ensures { result ≡ card_kind_of (card_of line.now) }
 {
-    if begins(line, b"// U ") {
+    if line.starts_with(b"// U ") {
         return Some(CardKind::Utility);
     }
-    if begins(line, b"// UTT ") {
+    if line.starts_with(b"// UTT ") {
         return Some(CardKind::Utility);
     }
-    if begins(line, b"// FS ") {
+    if line.starts_with(b"// FS ") {
         return Some(CardKind::Select);
     }
-    if begins(line, b"// END") {
+    if line.starts_with(b"// END") {
         return end_kind(line);
     }
     None
@@ -190,29 +179,14 @@ pub struct LineRead {
     pub next: usize,
 }
 
-// Whether no line ends in a part.
-fn is_inner(part: &[u8]) -> bool
-    ensures { result ≡ every inner part.now }
-{
-    let mut good = true;
-    let mut i = 0;
-    while i < part.len() {
-        if part[i] == LINE_END {
-            good = false;
-        }
-        i += 1;
-    }
-    good
-}
-
 // A place before which no line ends, from `at` on: block by block, which is faster than byte by byte.
 fn passed(deck: &[u8], at: usize) -> usize
     requires { at ≤ length deck.now }
     ensures { PassedSays deck.now at result }
 {
     let mut end = at;
-    while BLOCK <= deck.len() - end {
-        if !is_inner(&deck[end..end + BLOCK]) {
+    for block in deck[at..].chunks_exact(BLOCK) {
+        if !each(block, |byte| byte != LINE_END) {
             return end;
         }
         end += BLOCK;
@@ -227,15 +201,10 @@ pub fn line(deck: &[u8], at: usize) -> Option<LineRead>
     if deck.len() <= at {
         return None;
     }
-    let mut end = passed(deck, at);
-    while end < deck.len() {
-        if deck[end] == LINE_END {
-            let next = end + 1;
-            return Some(LineRead { end, next });
-        }
-        end += 1;
-    }
-    Some(LineRead { end, next: end })
+    let from = passed(deck, at);
+    let end = from + bytes_before(&deck[from..], LINE_END);
+    let next = deck.len().min(end + 1);
+    Some(LineRead { end, next })
 }
 
 // What the lines that have ended come to.

@@ -1,30 +1,26 @@
--- `lines::passed` meets its contract. The loop's invariant is what it ensures: no line ends from `at` to before `end`. The measure is what is left of
--- the deck.
+-- `lines::passed` meets its contract: a block in which no line ends is passed, and the bytes behind it are left.
 use mathlib.Core.Path.{sym, ap, ◌∙◌}
-use Prim.Native.Nat.{◌+◌}
 use native.Mathlib.Omega.{arith}
-use Rattle.rules.specs.Base.{every}
+use Rattle.std.specs.Slice.Iter.{chunks_exact_rest, chunks_exact_size}
 use Rattle.rules.proofs.Deck.LineLaws.{all_slice_none}
-use Rattle.rules.proofs.Base.Lists.{slice_part}
-use Rattle.lines.specs.Meaning.{inner}
-use Rattle.lines.proofs.MeaningLaws.{passed_block}
+use Rattle.lines.proofs.MeaningLaws.{lent_rest, passed_block}
 use Rattle.lines.proofs.passed.Goals as goal
 
-pub loop-end-init : goal.loop-end-init
-loop-end-init c = let a = c.args in (omega arith, omega (arith, c.requires), all_slice_none a.deck.now a.at)
+pub loop-block-init : goal.loop-block-init
+loop-block-init c =
+    let d = c.args.deck.now in
+    let made = c.chunks_exact-block-items.ensures in
+    let same = c.into_iter-block-iterator.ensures.into_iter_gives in (
+      ap chunks_exact_size same ∙ made.size,
+      ap chunks_exact_rest same ∙ made.rest ∙ lent_rest d c.args.at,
+      (omega arith, c.requires, all_slice_none d c.args.at),
+    )
 
-pub overflow_sub-deck : goal.overflow_sub-deck
-overflow_sub-deck c = c.loop-end.invariant.1
-
-pub returns-then-not-is_inner : goal.returns-then-not-is_inner
-returns-then-not-is_inner c = c.loop-end.invariant
-
-pub loop-end-preserved : goal.loop-end-preserved
-loop-end-preserved c =
+pub loop-block-preserved : goal.loop-block-preserved
+loop-block-preserved c =
+    let l = c.loop-block in
     let a = c.args in
-    let e = c.loop-end.end in
-    passed_block a.deck.now a.at e 8 c.loop-end.invariant (omega arith)
-    (ap (every inner) (slice_part e (e + 8) a.deck.now (omega arith)) ∙ sym c.is_inner.ensures ∙ c.if-not-is_inner.false)
-
-pub returns : goal.returns
-returns c = c.loop-end.invariant
+    let s = c.in-Some.ensures.steps in
+    let on = passed_block a.deck.now a.at l.end c.in-Some.block.now (chunks_exact_rest c.next.new.self) l.invariant.2 (sym l.invariant.1 ∙ s.1.0) (s.1.1 ∙ l.invariant.0)
+    (sym c.each.ensures ∙ c.if-not-each.false) in
+    (s.0 ∙ l.invariant.0, on.0, on.1)

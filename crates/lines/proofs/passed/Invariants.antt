@@ -1,12 +1,13 @@
--- `lines::passed` meets its contract. The loop's invariant is what it ensures: no line ends from `at` to before `end`. The measure is what is left of
--- the deck.
-use Prim.Native.Nat.{◌-◌}
-use lib.ListN.{length}
-use Rattle.lines.specs.Meaning.{PassedSays}
+-- `lines::passed` meets its contract. The loop's invariant: no line ends from `at` to before `end`, and the bytes from `end` on are left.
+use mathlib.Core.Path.{◌≡◌}
+use lib.ListN.{drop}
+use Rattle.std.specs.Slice.Iter.{chunks_exact_rest, chunks_exact_size}
+use Rattle.lines.specs.Meaning.{inner, PassedSays}
 use Rattle.lines.proofs.passed.Given as goal
 
-abbrev pub invariant-loop-end : goal.invariant-loop-end
-invariant-loop-end l = PassedSays l.deck l.at l.end
+abbrev pub ghost-each : goal.ghost-each
+ghost-each a = inner
 
-abbrev pub decreases-loop-end : goal.decreases-loop-end
-decreases-loop-end l = length l.deck - l.end
+abbrev pub invariant-loop-block : goal.invariant-loop-block
+invariant-loop-block l =
+    (chunks_exact_size l.block-iterator ≡ 8) × (chunks_exact_rest l.block-iterator ≡ drop l.end l.deck) × PassedSays l.deck l.at l.end
