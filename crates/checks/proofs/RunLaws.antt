@@ -3,8 +3,7 @@ use mathlib.Core.Path.{◌≡◌, refl, ap, sym, ◌∙◌, subst}
 use mathlib.Core.Bool.{true, false}
 use mathlib.Core.List.{List}
 use mathlib.Core.Logic.{inl}
-use Prim.Native.Nat.{ℕ, zero, suc, ◌-◌, ◌≤◌, ◌<◌}
-use native.Mathlib.Omega.{arith}
+use Prim.Native.Nat.{ℕ, ◌-◌}
 use lib.ListN.{length}
 use Rattle.rules.specs.Base.{joined}
 use Rattle.rules.specs.Answer.{Answer, fine, refuse, refused, ◌>>=◌, ◌>>◌, unless, each}
@@ -33,7 +32,8 @@ use Rattle.rows.proofs.ReadLaws.{fair_of}
 use Rattle.values.proofs.PromiseLaws.{asks_nothing, permits_of}
 use Rattle.walks.specs.Promise.{Good}
 use Rattle.measures.specs.declared.Measured.{Measured}
-use Rattle.measures.specs.declared.Measured.TheVariants.{Fits}
+use Rattle.measures.specs.declared.TooLong.{TooLong}
+use Rattle.std.specs.Prelude.{Option, Some, None, Result, Ok}
 use Rattle.measures.specs.Promise.{Selecting, Selected, FirstUnpermitted, Measurable, Measures, fit_answer, answer_of, measured_of}
 use Rattle.measures.proofs.PromiseLaws.{measured_says, measured_fits}
 use Rattle.reels.specs.Records.{ReelRead, ReadAs}
@@ -92,7 +92,7 @@ measured_run_lem room p s recs g permitted = go (fit_answer p recs) refl ∙ ap 
 
 module _ {task : Task} {fields s : List ℕ} where
   -- TC and TR
-  pub nothing_asked : selects (mode_of task.mode) ≡ false → PermittedRun task fields s 0
+  pub nothing_asked : selects (mode_of task.mode) ≡ false → PermittedRun task fields s None
   nothing_asked e = record { is = λ p recs x g. fine_each 13 (permits p) p.first (all_of (permits_other p (ap selects (sym x.is.mode) ∙ e)) _) }
 
   pub selected : selects (mode_of task.mode) ≡ true → ReadBy task fields s → Selected task fields s
@@ -101,13 +101,13 @@ module _ {task : Task} {fields s : List ℕ} where
       selecting_by : selects (mode_of task.mode) ≡ true → (p : Plan) (recs : List (List (List ℕ))) → PlanGiven task fields p → Good p s recs → Selecting task fields s p recs
       selecting_by e p recs x g = record { fair = record { is = x.is; good = g }; flat = x.flat; zone = x.zone; selecting = ap selects (sym x.is.mode) ∙ e }
 
-  pub first_asked : selects (mode_of task.mode) ≡ true → (r : ℕ) → FirstUnpermitted task fields s r → PermittedRun task fields s r
+  pub first_asked : selects (mode_of task.mode) ≡ true → (r : Option ℕ) → FirstUnpermitted task fields s r → PermittedRun task fields s r
   unfolding FirstUnpermitted
   first_asked e r h =
       record { is = λ p recs x g. h p recs (record { fair = record { is = x.is; good = g }; flat = x.flat; zone = x.zone; selecting = ap selects (sym x.is.mode) ∙ e }) }
 
 -- where no field asks anything of a half, no record taken has one that is not permitted
-pub none_asked : (task : Task) (fields s : List ℕ) → All Byte s → FieldsAsk fields false → FirstUnpermitted task fields s 0
+pub none_asked : (task : Task) (fields s : List ℕ) → All Byte s → FieldsAsk fields false → FirstUnpermitted task fields s None
 unfolding FirstUnpermitted taken_from
 none_asked task fields s a h p recs x =
     let ok = x.fair.good.accepted in
@@ -125,12 +125,12 @@ module _ {task : Task} {fields s : List ℕ} where
 
 module _ {task : Task} {fields s : List ℕ} {blocks records : ℕ} where
   -- TC's output is its input
-  pub copy_measured : mode_of task.mode ≡ tc → All Byte s → MeasuredRun task fields s blocks records (Fits blocks records (length s))
+  pub copy_measured : mode_of task.mode ≡ tc → All Byte s → MeasuredRun task fields s blocks records (Ok (record { blocks = blocks; records = records; length = length s }))
   unfolding fit_answer taken_from
   copy_measured e a = record { is = λ p recs x g b k. fits p recs x g b k }
     where
       fits : (p : Plan) (recs : List (List (List ℕ))) → PlanGiven task fields p → Good p s recs → blocks ≡ length recs → records ≡ length (joined recs)
-          → answer_of (Fits blocks records (length s)) ≡ measured_of p recs
+          → answer_of (Ok (record { blocks = blocks; records = records; length = length s })) ≡ measured_of p recs
       fits p recs x g b k =
           let q : p.mode ≡ tc = sym x.is.mode ∙ e in
           let h = reads_give p x.accepted s a g.reel recs g.records in
@@ -141,23 +141,19 @@ module _ {task : Task} {fields s : List ℕ} {blocks records : ℕ} where
           (k ∙ ap (λ (bs : List (List (List ℕ))). length (joined bs)) (sym same))
           (ap length (sym (copy_reel p x.accepted q s recs h)))
 
-  pub measures : is_tc (mode_of task.mode) ≡ false → (r : Measured) → Measures task s r → MeasuredRun task fields s blocks records r
+  pub measures : is_tc (mode_of task.mode) ≡ false → (r : Result Measured TooLong) → Measures task s r → MeasuredRun task fields s blocks records r
   measures e r h = record { is = λ p recs x g b k. measured_says task s r h (record { fair = record { is = x.is; good = g }; other = ap is_tc (sym x.is.mode) ∙ e }) }
 
 -- ---- 13, 14 and 15 in their order
 
 module _ {task : Task} {fields s : List ℕ} {blocks records room : ℕ} {r : Ran} where
-  pub stops_unpermitted : (number : ℕ) → 0 < number → PermittedRun task fields s number → r ≡ refused_run 13 number 0 → CheckedRun task fields s blocks records room r
-  stops_unpermitted zero l u e = absurd (omega arith)
-  stops_unpermitted (suc i) l u e = record { is = λ p recs x g b k. e ∙ ap (λ (z : Answer RunOutput). ran_struct (run_answer z)) (sym (no_permit room p s recs g (suc i) (u.is p recs x g))) }
+  pub stops_unpermitted : (number : ℕ) → PermittedRun task fields s (Some number) → r ≡ refused_run 13 number 0 → CheckedRun task fields s blocks records room r
+  stops_unpermitted i u e = record { is = λ p recs x g b k. e ∙ ap (λ (z : Answer RunOutput). ran_struct (run_answer z)) (sym (no_permit room p s recs g i (u.is p recs x g))) }
 
-  pub ends_measured : (number : ℕ) → number ≤ 0 → PermittedRun task fields s number → (m : Measured) → MeasuredRun task fields s blocks records m → (x : Measured) → m ≡ x
-      → r ≡ measured_run room (answer_of x) → CheckedRun task fields s blocks records room r
-  ends_measured (suc n) l u m h x t e = absurd (omega arith)
-  ends_measured zero l u m h x t e = record {
-    is = λ p recs y g b k.
-        e ∙ ap (λ (z : Measured). measured_run room (answer_of z)) (sym t) ∙ ap (measured_run room) (h.is p recs y g b k)
-        ∙ measured_run_lem room p s recs g (u.is p recs y g);
+  pub ends_measured : PermittedRun task fields s None → (m : Result Measured TooLong) → MeasuredRun task fields s blocks records m
+      → r ≡ measured_run room (answer_of m) → CheckedRun task fields s blocks records room r
+  ends_measured u m h e = record {
+    is = λ p recs y g b k. e ∙ ap (measured_run room) (h.is p recs y g b k) ∙ measured_run_lem room p s recs g (u.is p recs y g);
   }
 
 -- ---- all of them

@@ -1,5 +1,5 @@
 -- What is promised of a run before anything is written, for every plan that the numbers may be.
-use Rattle.std.specs.Prelude.{◌≡◌, false, List, ℕ, length}
+use Rattle.std.specs.Prelude.{◌≡◌, false, Option, Result, List, ℕ, length}
 use Rattle.rules.specs.Base.{joined}
 use Rattle.rules.specs.Answer.{each}
 use Rattle.rules.specs.Plan.{Plan, is_fs}
@@ -13,6 +13,7 @@ use Rattle.terms.specs.Meaning.{TaskIs}
 use Rattle.rows.specs.Flat.{flat_of}
 use Rattle.walks.specs.Promise.{Good}
 use Rattle.measures.specs.declared.Measured.{Measured}
+use Rattle.measures.specs.declared.TooLong.{TooLong}
 use Rattle.measures.specs.Promise.{answer_at, answer_of, measured_of}
 use Rattle.outcomes.specs.declared.Ran.{Ran}
 use Rattle.outcomes.specs.Promise.{ran_struct}
@@ -42,14 +43,14 @@ pub record ReadBy (task : Task) (fields s : List ℕ) : Type 0 where
 
 -- ---- the steps
 
--- 13: 0, or the first record taken with a half that is not permitted
-pub record PermittedRun (task : Task) (fields s : List ℕ) (r : ℕ) : Type 0 where
+-- 13: none, or the first record taken with a half that is not permitted
+pub record PermittedRun (task : Task) (fields s : List ℕ) (r : Option ℕ) : Type 0 where
   pub is :
       (p : Plan) (recs : List (List (List ℕ))) → PlanGiven task fields p → Good p s recs
       → each 13 (permits p) p.first (joined (taken_from p.first recs)) ≡ answer_at 13 r
 
 -- 14 and the measure, where the input has so many blocks and records
-pub record MeasuredRun (task : Task) (fields s : List ℕ) (blocks records : ℕ) (r : Measured) : Type 0 where
+pub record MeasuredRun (task : Task) (fields s : List ℕ) (blocks records : ℕ) (r : Result Measured TooLong) : Type 0 where
   pub is :
       (p : Plan) (recs : List (List (List ℕ))) → PlanGiven task fields p → Good p s recs → blocks ≡ length recs → records ≡ length (joined recs)
       → answer_of r ≡ measured_of p recs

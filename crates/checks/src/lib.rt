@@ -5,51 +5,51 @@ ghost use Rattle.std.specs.Prelude.{◌≡◌};
 ghost use Rattle.measures.specs.Promise.{Selected, FirstUnpermitted};
 ghost use Rattle.checks.specs.Promise.{SomePlanGiven, ReadBy, PermittedRun, MeasuredRun, CheckedRun, Checked};
 
-use measures::Measured;
+use measures::{Measured, TooLong};
 use outcomes::Ran;
 use reels::ReelError;
 use terms::{Mode, Task};
 
 // Refusal 13 of a plan that selects fields: where all of them are copies, no record need be looked at.
-fn unpermitted_selected(task: Task, fields: &[u16], reel: &[u8]) -> usize
+fn unpermitted_selected(task: Task, fields: &[u16], reel: &[u8]) -> Option<usize>
     requires { Selected task fields.now reel.now }
     ensures { FirstUnpermitted task fields.now reel.now result }
 {
     if !values::asks(fields) {
-        return 0;
+        return None;
     }
     measures::first_unpermitted(task, fields, reel)
 }
 
-// Refusal 13: the first record taken with a half that is not permitted, or 0. TC and TR ask nothing of halves.
-fn unpermitted(task: Task, fields: &[u16], reel: &[u8]) -> usize
+// Refusal 13: the first record taken with a half that is not permitted. TC and TR ask nothing of halves.
+fn unpermitted(task: Task, fields: &[u16], reel: &[u8]) -> Option<usize>
     requires { ReadBy task fields.now reel.now }
     ensures { PermittedRun task fields.now reel.now result }
 {
-    let mode = task.mode;
-    match mode {
-        Mode::TC => 0,
-        Mode::TF => unpermitted_selected(task, fields, reel),
-        Mode::TR => 0,
-        Mode::TRF => unpermitted_selected(task, fields, reel),
+    match task.mode {
+        Mode::TC | Mode::TR => None,
+        Mode::TF | Mode::TRF => unpermitted_selected(task, fields, reel),
     }
 }
 
 // Refusal 14 and the measure. The output of TC is its input.
-fn measured(task: Task, fields: &[u16], reel: &[u8], blocks: usize, records: usize) -> Measured
+fn measured(
+    task: Task,
+    fields: &[u16],
+    reel: &[u8],
+    blocks: usize,
+    records: usize,
+) -> Result<Measured, TooLong>
     requires { ReadBy task fields.now reel.now }
     ensures { MeasuredRun task fields.now reel.now blocks records result }
 {
-    let mode = task.mode;
-    match mode {
-        Mode::TC => Measured::Fits {
+    match task.mode {
+        Mode::TC => Ok(Measured {
             blocks,
             records,
             length: reel.len(),
-        },
-        Mode::TF => measures::measure(task, reel),
-        Mode::TR => measures::measure(task, reel),
-        Mode::TRF => measures::measure(task, reel),
+        }),
+        Mode::TF | Mode::TR | Mode::TRF => measures::measure(task, reel),
     }
 }
 
@@ -65,18 +65,12 @@ fn checked(
     requires { ReadBy task fields.now reel.now }
     ensures { CheckedRun task fields.now reel.now blocks records room result }
 {
-    let number = unpermitted(task, fields, reel);
-    if number > 0 {
+    if let Some(number) = unpermitted(task, fields, reel) {
         return outcomes::refused(13, number, 0);
     }
-    let output = measured(task, fields, reel, blocks, records);
-    match output {
-        Measured::TooLong { record } => outcomes::refused(14, record, 0),
-        Measured::Fits {
-            blocks,
-            records,
-            length,
-        } => outcomes::housed(room, length, records, blocks),
+    match measured(task, fields, reel, blocks, records) {
+        Ok(m) => outcomes::housed(room, m.length, m.records, m.blocks),
+        Err(long) => outcomes::refused(14, long.number, 0),
     }
 }
 

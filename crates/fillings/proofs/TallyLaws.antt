@@ -28,15 +28,7 @@ module _ (limit c : ℕ) (t : Tally) (n : ℕ) where
   unfolding overfills_of
   over_later e = sym (ap (λ (b : Bool). b || ltb limit (t.size + (c + n))) (ne_eqb t.blocks 0 e))
 
-  -- the same of a sum that is made otherwise
-  pub over_sum : (t.blocks ≡ 0 → ⊥) → (k : ℕ) → k ≡ t.size + (c + n) → ltb limit k ≡ overfills_of limit c t n
-  over_sum e k q = ap (ltb limit) q ∙ over_later e
-
 module _ (task : Task) (t : Tally) (begins : Bool) (n : ℕ) where
-  pub opens_as : (m : Mode) → mode_of task.mode ≡ m → opens_in m task.limit task.cost t begins n ≡ opens_of task t begins n
-  unfolding opens_of
-  opens_as m e = ap (λ (k : Mode). opens_in k task.limit task.cost t begins n) (sym e)
-
   pub tally_opens : opens_of task t begins n ≡ true
       → record { blocks = t.blocks + 1; size = task.cost + (task.cost + n); bytes = t.bytes + (task.cost + (task.cost + n)) } ≡ tally_of task t begins n
   unfolding opens_of tally_of
@@ -54,6 +46,11 @@ measure_of t = record { blocks = t.blocks; size = t.size; bytes = t.bytes }
 
 abbrev pub empty : Tally
 empty = record { blocks = 0; size = 0; bytes = 0 }
+
+pub empty_is : {t : Tally} → (t.blocks ≡ 0) × ((t.size ≡ 0) × (t.bytes ≡ 0)) → empty ≡ t
+empty_is {t} z =
+    sym (ap (λ (b : ℕ). record { blocks = b; size = t.size; bytes = t.bytes }) z.0
+    ∙ ap₂ (λ (i j : ℕ). record { blocks = 0; size = i; bytes = j }) z.1.0 z.1.1)
 
 module _ (limit c : ℕ) (t : Tally) (begins : Bool) (n : ℕ) where
   same_step : (b : Bool)

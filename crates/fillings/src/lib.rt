@@ -9,7 +9,7 @@ ghost use Rattle.fillings.specs.Offsets.{offset_put, OffsetFits};
 use terms::{Mode, Task};
 
 // What is tallied of the output along the way: so many blocks, the size of the last, and the bytes of all.
-#[derive(Clone, Copy)]
+#[derive(Clone, Copy, Default)]
 pub struct Tally {
     pub blocks: usize,
     pub size: usize,
@@ -17,59 +17,50 @@ pub struct Tally {
 }
 
 // Whether no block is open, or a record does not fit behind the others.
+#[tactic(auto, unfolding(crate::specs::Tallying::overfills_of))]
 fn overfills(task: Task, tally: Tally, length: usize) -> bool
     requires { Small task tally length }
     ensures { result ≡ overfills_of task.limit task.cost tally length }
 {
-    let blocks = tally.blocks;
-    let size = tally.size + (task.cost + length);
-    if blocks == 0 {
-        return true;
-    }
-    size > task.limit
+    tally.blocks == 0 || tally.size + (task.cost + length) > task.limit
 }
 
 // Whether a record opens a block: in TF where its input block begins, in TR and TRF where it does not fit behind the others.
+#[tactic(auto, unfolding(crate::specs::Tallying::opens_of))]
 fn opens(task: Task, tally: Tally, begins: bool, length: usize) -> bool
     requires { Small task tally length }
     ensures { result ≡ opens_of task tally begins length }
 {
-    let mode = task.mode;
-    match mode {
-        Mode::TC => overfills(task, tally, length),
+    match task.mode {
         Mode::TF => begins,
-        Mode::TR => overfills(task, tally, length),
-        Mode::TRF => overfills(task, tally, length),
+        Mode::TC | Mode::TR | Mode::TRF => overfills(task, tally, length),
     }
 }
 
 // One record more, whose output has this length.
+#[tactic(auto, unfolding(crate::specs::Tallying::opens_of, crate::specs::Tallying::tally_of))]
 pub fn tallied(task: Task, tally: Tally, begins: bool, length: usize) -> Tally
     requires { Small task tally length }
     ensures { result ≡ tally_of task tally begins length }
 {
-    let cost = task.cost;
-    let more = cost + length;
+    let more = task.cost + length;
     if opens(task, tally, begins, length) {
-        let blocks = tally.blocks + 1;
-        let opened = cost + more;
-        let bytes = tally.bytes + opened;
+        let size = task.cost + more;
         return Tally {
-            blocks,
-            size: opened,
-            bytes,
+            blocks: tally.blocks + 1,
+            size,
+            bytes: tally.bytes + size,
         };
     }
-    let size = tally.size + more;
-    let all = tally.bytes + more;
     Tally {
         blocks: tally.blocks,
-        size,
-        bytes: all,
+        size: tally.size + more,
+        bytes: tally.bytes + more,
     }
 }
 
 // Where a record or a segment opens a block, the block's offset goes into the header.
+#[tactic(auto, unfolding(crate::specs::Offsets::offset_put))]
 pub fn put_offset(base: usize, tally: Tally, more: Tally, out: &mut [u8])
     requires { OffsetFits base tally more (length out.old) }
     ensures { out.new ≡ offset_put base tally more out.old }

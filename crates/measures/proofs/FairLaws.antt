@@ -1,11 +1,10 @@
 -- What is known of the numbers and the reel by the plan that is given, and one turn of a walk over its records: the records that are taken, all of them before the
 -- first turn, then one less at each.
-use mathlib.Core.Path.{◌≡◌, refl, subst}
+use mathlib.Core.Path.{◌≡◌, subst}
 use mathlib.Core.List.{List}
-use Prim.Native.Nat.{ℕ, zero, suc, ◌≤◌}
+use Prim.Native.Nat.{ℕ, ◌≤◌}
 use native.Mathlib.Omega.{arith}
 use lib.ListN.{length}
-use Rattle.rules.specs.Answer.{refused}
 use Rattle.rules.specs.Plan.{Plan}
 use Rattle.rules.specs.Blocks.{taken_from}
 use Rattle.rules.proofs.Reel.Bounds.{reel_most}
@@ -17,11 +16,7 @@ use Rattle.walks.specs.Marks.{marked_all}
 use Rattle.walks.specs.Promise.{Good, Walks, Sound, bytes_left, WalkTaken}
 use Rattle.tasks.specs.Promise.{form_of}
 use Rattle.tasks.proofs.LengthLaws.{form_given}
-use Rattle.measures.specs.Promise.{GoodTask, answer_at}
-
-pub answer_at_lem : (number i : ℕ) → 1 ≤ i → refused number i ≡ answer_at number i
-answer_at_lem number zero l = absurd (omega arith)
-answer_at_lem number (suc i) l = refl
+use Rattle.measures.specs.Promise.{GoodTask}
 
 pub left_few : (s : List ℕ) (w : Walk) → bytes_left s w ≤ length s
 unfolding bytes_left

@@ -26,7 +26,7 @@ use Rattle.walks.specs.Walking.{fixed_start}
 use Rattle.tasks.specs.Promise.{form_of}
 use Rattle.fillings.proofs.TallyLaws.{bounded}
 use Rattle.fillings.proofs.FixedLaws.{is_fixed, width_least, width_fits, from_is, records_are, records_all, count_of, count_most}
-use Rattle.measures.specs.declared.Measured.TheVariants.{Fits}
+use Rattle.std.specs.Prelude.{Ok}
 use Rattle.measures.specs.Promise.{Measurable, Measures, FixedFrom, FixedBlocks}
 use Rattle.measures.proofs.PromiseLaws.{fit_answer_lem, measured_fits}
 
@@ -76,7 +76,7 @@ module _ {task : Task} {s : List ℕ} (y : Measurable task s) (f : task.format �
   fixed_from k e =
       record { some = y; fixed = f; start = b; all = records_all y.given.fair.is y.given.fair.good f refl b ∙ ap (λ (j : ℕ). j / task.n * task.n) (sym e) }
 
-  pub fixed_measures : (blocks k : ℕ) → k ≡ length (drop from s) → FixedBlocks task s blocks → Measures task s (Fits blocks (k / task.n) (4 * blocks + 8 + k / task.n * task.width))
+  pub fixed_measures : (blocks k : ℕ) → k ≡ length (drop from s) → FixedBlocks task s blocks → Measures task s (Ok (record { blocks = blocks; records = k / task.n; length = 4 * blocks + 8 + k / task.n * task.width }))
   unfolding Measures
   fixed_measures blocks k e h = λ p recs z.
       let x = z.fair in

@@ -7,6 +7,7 @@ use native.Mathlib.Nat.{suc-mul}
 use native.Mathlib.Omega.{arith}
 use lib.ListN.{length, take, drop, length-drop}
 use lib.Seq.{drop-drop, length-take-le}
+use Rattle.std.specs.Prelude.{Some, None}
 use Rattle.rules.specs.Base.{joined}
 use Rattle.rules.specs.Answer.{each}
 use Rattle.rules.specs.Plan.{Plan, record_length}
@@ -26,7 +27,7 @@ use Rattle.walks.specs.Walking.{fixed_start}
 use Rattle.fillings.proofs.FixedLaws.{record_some, data_even}
 use Rattle.tasks.specs.Promise.{form_of}
 use Rattle.measures.specs.Promise.{GoodTask, Selected, answer_at, FirstUnpermitted}
-use Rattle.measures.proofs.FairLaws.{answer_at_lem, asks, first_high, s_short}
+use Rattle.measures.proofs.FairLaws.{asks, first_high, s_short}
 use Rattle.measures.proofs.SeekLaws.{Lent, lent_of, readable, permits_is}
 
 -- ---- the search
@@ -73,10 +74,10 @@ module _ {n first : ℕ} {fields block : List ℕ} {at number : ℕ} (some : 1 �
     turn : (b : Bool) → Permits fields one b → (each 13 (permits p) first rs ≡ each 13 (permits p) number (take n (drop at block) ∷ next.more)) × (permits p (take n (drop at block)) ≡ b)
     turn b a = (left_now.same ∙ ap (each 13 (permits p) number) next.is, ap (permits p) (sym one_is) ∙ permits_is ok x one b a one_long)
 
-    pub left_stop : (b : Bool) → Permits fields one b → b ≡ false → each 13 (permits p) first rs ≡ answer_at 13 number
+    pub left_stop : (b : Bool) → Permits fields one b → b ≡ false → each 13 (permits p) first rs ≡ answer_at 13 (Some number)
     left_stop b a h =
         let u = turn b a in
-        u.0 ∙ each_stop 13 (permits p) number (take n (drop at block)) next.more (u.1 ∙ h) ∙ answer_at_lem 13 number k.low
+        u.0 ∙ each_stop 13 (permits p) number (take n (drop at block)) next.more (u.1 ∙ h)
 
     left_more : (b : Bool) → Permits fields one b → b ≡ true → Left p n first block rs (at + n) (number + 1)
     left_more b a h =
@@ -91,7 +92,7 @@ module _ {n first : ℕ} {fields block : List ℕ} {at number : ℕ} (some : 1 �
   ask_more l b a h = record { low = omega arith; few = omega (arith, k.few); left = λ p x ok e rs v. left_more l x ok e rs v b a h }
 
   left_end : length block ≤ at → {p : Plan} → Lent fields p → Accepted p → record_length p.input ≡ n → (rs : List (List ℕ)) → Even n block rs
-      → each 13 (permits p) first rs ≡ answer_at 13 0
+      → each 13 (permits p) first rs ≡ answer_at 13 None
   unfolding each
   left_end l {p} x ok e rs v =
       let q = k.left p x ok e rs v in
@@ -124,13 +125,13 @@ module _ (task : Task) (fields s : List ℕ) {form : Form} {from : ℕ} {block :
     pub seek_readable : Selected task fields s → at < length block → Readable fields (length (take (at + task.n - at) (drop at block)))
     seek_readable y l = ask_readable (seek_some y) k l (lent_of y.given) (fair y).good.accepted (sym (fair y).is.n) _ (all_even (fair y))
 
-    pub seek_stop : at < length block → (t : Bool) → Permits fields (take (at + task.n - at) (drop at block)) t → t ≡ false → FirstUnpermitted task fields s number
+    pub seek_stop : at < length block → (t : Bool) → Permits fields (take (at + task.n - at) (drop at block)) t → t ≡ false → FirstUnpermitted task fields s (Some number)
     unfolding FirstUnpermitted
     seek_stop l t a h = λ p recs y.
         ap (λ (i : ℕ). each 13 (permits p) i (joined (taken_from p.first recs))) (sym y.fair.is.first)
         ∙ left_stop (record_some y.fair.is y.fair.good f) k l (lent_of y) y.fair.good.accepted (sym y.fair.is.n) _ (all_even y.fair) t a h
 
-    pub seek_end : length block ≤ at → FirstUnpermitted task fields s 0
+    pub seek_end : length block ≤ at → FirstUnpermitted task fields s None
     unfolding FirstUnpermitted
     seek_end l = λ p recs y.
         ap (λ (i : ℕ). each 13 (permits p) i (joined (taken_from p.first recs))) (sym y.fair.is.first)

@@ -21,11 +21,10 @@ use Rattle.terms.specs.declared.Task.{Task}
 use Rattle.pieces.specs.declared.Form.{Form}
 use Rattle.walks.specs.declared.Walk.{Walk}
 use Rattle.walks.specs.declared.RecordRead.{RecordRead}
-use Rattle.walks.specs.declared.RecordRead.TheVariants.{Record, End}
 use Rattle.walks.specs.Promise.{Walks, Sound, Standing, Passed, bytes_left, RecordTold, WalkTaken}
-use Rattle.walks.proofs.PromiseLaws.{inside, lent_length, passed, ended}
+use Rattle.walks.proofs.PromiseLaws.{lent_length, passed, ended}
 use Rattle.fillings.specs.declared.Tally.{Tally}
-use Rattle.measures.specs.declared.Measured.TheVariants.{TooLong, Fits}
+use Rattle.std.specs.Prelude.{Some, None, Ok, Err}
 use Rattle.tasks.specs.Promise.{form_of, output_length_of}
 use Rattle.tasks.proofs.LengthLaws.{length_most, out_length}
 use Rattle.fillings.specs.Tallying.{tally_of, Small}
@@ -108,7 +107,7 @@ module _ (task : Task) {s : List ℕ} {form : Form} (f : form ≡ form_of task) 
         };
       }
 
-  module _ {number : ℕ} {t : Tally} {r : RecordRead} (k : Going task s w number t) (h : RecordTold form s w r) where
+  module _ {number : ℕ} {t : Tally} (k : Going task s w number t) where
     pub go_few : Measurable task s → number ≤ 131072
     go_few y = let x = asks f y.given.fair in omega (arith, k.few, first_high x, s_short x)
 
@@ -116,13 +115,13 @@ module _ (task : Task) {s : List ℕ} {form : Form} (f : form ≡ form_of task) 
     pub go_bytes : Measurable task s → (t.blocks ≤ 131072) × (t.bytes ≤ 0x1000000000)
     go_bytes y = (omega (arith, k.blocks, go_few y), omega (arith, k.bytes, go_few y))
 
-    module _ {start size : ℕ} {begins : Bool} {next : Walk} (e : r ≡ Record start size begins next) where
-      pub go_short : Measurable task s → (task.width ≤ 65536) × (size ≤ 65536)
+    module _ {read : RecordRead} (h : RecordTold form s w (Some read)) where
+      pub go_short : Measurable task s → (task.width ≤ 65536) × (read.length ≤ 65536)
       go_short y =
           let b = bounded y.given.fair.is y.given.fair.good.accepted in
-          (omega (arith, b.width), omega (arith, (inside h e).ends, s_short (asks f y.given.fair)))
+          (omega (arith, b.width), omega (arith, h.lies.ends, s_short (asks f y.given.fair)))
 
-      pub go_small : Measurable task s → (n : ℕ) → n ≡ output_length_of task size → Small task t n
+      pub go_small : Measurable task s → (n : ℕ) → n ≡ output_length_of task read.length → Small task t n
       go_small y n q =
           let g = go_short y in
           let b = bounded y.given.fair.is y.given.fair.good.accepted in
@@ -132,46 +131,46 @@ module _ (task : Task) {s : List ℕ} {form : Form} (f : form ≡ form_of task) 
             blocks = omega (arith, z.0);
             size = omega (arith, z.1, k.size);
             bytes = omega (arith, z.1);
-            long = omega (arith, g.0, g.1, q, length_most task size);
+            long = omega (arith, g.0, g.1, q, length_most task read.length);
           }
 
       module _ {p : Plan} {recs : List (List (List ℕ))} (x : Measuring task s p recs) where
         goes_in : Goes task p s recs w number t
         goes_in = k.goes p recs x
 
-        passes : Passed p s goes_in.rest start size begins next
-        passes = passed h e (asks f x.fair).form_is goes_in.walks
+        passes : Passed p s goes_in.rest read
+        passes = passed h (asks f x.fair).form_is goes_in.walks
 
-        out_long : length (out_record p (slice start (start + size) s)) ≡ output_length_of task size
+        out_long : length (out_record p (slice read.start (read.start + read.length) s)) ≡ output_length_of task read.length
         out_long =
-            out_length x.fair.is x.fair.good.accepted (slice start (start + size) s)
-            (let z : least_data p ≤ length (slice start (start + size) s) = omega (arith, passes.long, lent_length h e) in z)
-            ∙ ap (output_length_of task) (lent_length h e)
+            out_length x.fair.is x.fair.good.accepted (slice read.start (read.start + read.length) s)
+            (let z : least_data p ≤ length (slice read.start (read.start + read.length) s) = omega (arith, passes.long, lent_length h) in z)
+            ∙ ap (output_length_of task) (lent_length h)
 
-        left_is : lengths p goes_in.rest ≡ (begins, output_length_of task size) ∷ lengths p passes.more
+        left_is : lengths p goes_in.rest ≡ (read.begins, output_length_of task read.length) ∷ lengths p passes.more
         left_is =
             ap (lengths p) passes.is
-            ∙ ap (λ (n : ℕ). (begins, n) ∷ lengths p passes.more) out_long
+            ∙ ap (λ (n : ℕ). (read.begins, n) ∷ lengths p passes.more) out_long
 
         -- the blocks so far, with this record
         filled_next : (next : List (List (List ℕ))) × (last : List (List ℕ))
-            × Filled p.format task (output_blocks p recs) next last (tally_of task t begins (output_length_of task size)) (outs p passes.more)
+            × Filled p.format task (output_blocks p recs) next last (tally_of task t read.begins (output_length_of task read.length)) (outs p passes.more)
         filled_next =
             let w = subst (λ (l : List (Bool × List ℕ)). Filled p.format task (output_blocks p recs) goes_in.closed goes_in.now t (outs p l)) passes.is goes_in.filled in
-            let m = filled_more p.format task x.fair.is.costs (output_blocks p recs) goes_in.closed t begins (out_record p (slice start (start + size) s)) (outs p passes.more) goes_in.now w in
-            (m.0, m.1, subst (λ (n : ℕ). Filled p.format task (output_blocks p recs) m.0 m.1 (tally_of task t begins n) (outs p passes.more)) out_long m.2)
+            let m = filled_more p.format task x.fair.is.costs (output_blocks p recs) goes_in.closed t read.begins (out_record p (slice read.start (read.start + read.length) s)) (outs p passes.more) goes_in.now w in
+            (m.0, m.1, subst (λ (n : ℕ). Filled p.format task (output_blocks p recs) m.0 m.1 (tally_of task t read.begins n) (outs p passes.more)) out_long m.2)
 
-        step_is : plan_step p (measure_of t) (begins, output_length_of task size) ≡ measure_of (tally_of task t begins (output_length_of task size))
-        step_is = sym (tally_is x.fair.is t begins (output_length_of task size))
+        step_is : plan_step p (measure_of t) (read.begins, output_length_of task read.length) ≡ measure_of (tally_of task t read.begins (output_length_of task read.length))
+        step_is = sym (tally_is x.fair.is t read.begins (output_length_of task read.length))
 
-        goes_stop : task.limit < (tally_of task t begins (output_length_of task size)).size → answer_of (TooLong number) ≡ measured_of p recs
+        goes_stop : task.limit < (tally_of task t read.begins (output_length_of task read.length)).size → answer_of (Err (record { number = number })) ≡ measured_of p recs
         goes_stop l =
             measured_long p recs number (goes_in.tests
-            ∙ turn_stop (plan_step p) (block_length p.output) number (measure_of t) _ (begins, output_length_of task size) _ (lengths p passes.more) left_is step_is
-            (let z : block_length p.output < (tally_of task t begins (output_length_of task size)).size = omega (arith, x.fair.is.limit) in z))
+            ∙ turn_stop (plan_step p) (block_length p.output) number (measure_of t) _ (read.begins, output_length_of task read.length) _ (lengths p passes.more) left_is step_is
+            (let z : block_length p.output < (tally_of task t read.begins (output_length_of task read.length)).size = omega (arith, x.fair.is.limit) in z))
 
-        goes_more : (tally_of task t begins (output_length_of task size)).size ≤ task.limit
-            → Goes task p s recs next (number + 1) (tally_of task t begins (output_length_of task size))
+        goes_more : (tally_of task t read.begins (output_length_of task read.length)).size ≤ task.limit
+            → Goes task p s recs read.next (number + 1) (tally_of task t read.begins (output_length_of task read.length))
         goes_more l =
             let m = filled_next in
             record {
@@ -179,43 +178,43 @@ module _ (task : Task) {s : List ℕ} {form : Form} (f : form ≡ form_of task) 
               walks = passes.walks;
               tests =
                   goes_in.tests
-                  ∙ turn_pass (plan_step p) (block_length p.output) number (measure_of t) _ (begins, output_length_of task size) _ (lengths p passes.more) left_is step_is
-                  (let z : (tally_of task t begins (output_length_of task size)).size ≤ block_length p.output = omega (arith, x.fair.is.limit) in z);
+                  ∙ turn_pass (plan_step p) (block_length p.output) number (measure_of t) _ (read.begins, output_length_of task read.length) _ (lengths p passes.more) left_is step_is
+                  (let z : (tally_of task t read.begins (output_length_of task read.length)).size ≤ block_length p.output = omega (arith, x.fair.is.limit) in z);
               closed = m.0;
               now = m.1;
               filled = m.2;
               counts = omega (arith, goes_in.counts, ap length passes.is);
             }
 
-      module _ (y : Measurable task s) (n : ℕ) (q : n ≡ output_length_of task size) (u : Tally) (v : u ≡ tally_of task t begins n) where
-        u_is : tally_of task t begins (output_length_of task size) ≡ u
-        u_is = ap (tally_of task t begins) (sym q) ∙ sym v
+      module _ (y : Measurable task s) (n : ℕ) (q : n ≡ output_length_of task read.length) (u : Tally) (v : u ≡ tally_of task t read.begins n) where
+        u_is : tally_of task t read.begins (output_length_of task read.length) ≡ u
+        u_is = ap (tally_of task t read.begins) (sym q) ∙ sym v
 
-        pub go_stop : task.limit < u.size → Measures task s (TooLong number)
+        pub go_stop : task.limit < u.size → Measures task s (Err (record { number = number }))
         unfolding Measures
         go_stop l = λ p recs x. goes_stop x (subst (λ (z : Tally). task.limit < z.size) (sym u_is) l)
 
-        pub go_more : u.size ≤ task.limit → Going task s next (number + 1) u
+        pub go_more : u.size ≤ task.limit → Going task s read.next (number + 1) u
         go_more l =
-            let g = subst (Grown task.cost n t) (sym v) (tally_grown task t begins n) in
+            let g = subst (Grown task.cost n t) (sym v) (tally_grown task t read.begins n) in
             let a = go_short y in
             let b = bounded y.given.fair.is y.given.fair.good.accepted in
             record {
-              few = omega (arith, k.few, (inside h e).less);
+              few = omega (arith, k.few, h.lies.less);
               blocks = omega (arith, k.blocks, g.blocks);
               size = g.size k.size;
-              bytes = omega (arith, k.bytes, g.bytes, b.cost, a.0, a.1, q, length_most task size);
+              bytes = omega (arith, k.bytes, g.bytes, b.cost, a.0, a.1, q, length_most task read.length);
               goes = λ p recs x.
-                  subst (Goes task p s recs next (number + 1)) u_is
+                  subst (Goes task p s recs read.next (number + 1)) u_is
                   (goes_more x (subst (λ (z : Tally). z.size ≤ task.limit) (sym u_is) l));
             }
 
-    module _ (e : r ≡ End) {p : Plan} {recs : List (List (List ℕ))} (x : Measuring task s p recs) where
+    module _ (h : RecordTold form s w None) {p : Plan} {recs : List (List (List ℕ))} (x : Measuring task s p recs) where
       goes_last : Goes task p s recs w number t
       goes_last = k.goes p recs x
 
       nothing : goes_last.rest ≡ []
-      nothing = ended h e (asks f x.fair).form_is goes_last.walks
+      nothing = ended h (asks f x.fair).form_is goes_last.walks
 
       all_filled : (t.blocks ≡ length (output_blocks p recs)) × (t.bytes ≡ length (joined (map (block_of p.format) (output_blocks p recs))))
       all_filled =
@@ -228,12 +227,12 @@ module _ (task : Task) {s : List ℕ} {form : Form} (f : form ≡ form_of task) 
           goes_last.tests
           ∙ ap (λ (l : List (Bool × List ℕ)). each 14 (λ holds. holds) number (tests_from (plan_step p) (block_length p.output) (measure_of t) (lengths p l))) nothing
 
-      goes_end : answer_of (Fits t.blocks (number - task.first) (4 * t.blocks + 8 + t.bytes)) ≡ measured_of p recs
+      goes_end : answer_of (Ok (record { blocks = t.blocks; records = number - task.first; length = 4 * t.blocks + 8 + t.bytes })) ≡ measured_of p recs
       goes_end =
           let bs = map (block_of p.format) (output_blocks p recs) in
           measured_fits p recs all_fit all_filled.0 (omega (arith, goes_last.counts, ap length nothing, all_count p recs, x.fair.is.first))
           (omega (arith, length_reel bs, length-map (output_blocks p recs) (block_of p.format), all_filled.0, all_filled.1))
 
-    pub go_end : r ≡ End → Measures task s (Fits t.blocks (number - task.first) (4 * t.blocks + 8 + t.bytes))
+    pub go_end : RecordTold form s w None → Measures task s (Ok (record { blocks = t.blocks; records = number - task.first; length = 4 * t.blocks + 8 + t.bytes }))
     unfolding Measures
-    go_end e = λ p recs x. goes_end e x
+    go_end h = λ p recs x. goes_end h x

@@ -23,14 +23,14 @@ use Rattle.rows.specs.Flat.{flat_of, FlatFair, Readable}
 use Rattle.values.specs.Promise.{Permits}
 use Rattle.walks.specs.declared.Walk.{Walk}
 use Rattle.walks.specs.declared.RecordRead.{RecordRead}
-use Rattle.walks.specs.declared.RecordRead.TheVariants.{Record, End}
+use Rattle.std.specs.Prelude.{Some, None}
 use Rattle.walks.specs.Marks.{marked_all, bytes_of}
 use Rattle.walks.specs.Promise.{Walks, Sound, Standing, Passed, bytes_left, RecordTold, WalkTaken}
 use Rattle.walks.proofs.MarksLaws.{all_records}
-use Rattle.walks.proofs.PromiseLaws.{inside, lent, lent_length, passed, ended}
+use Rattle.walks.proofs.PromiseLaws.{lent, lent_length, passed, ended}
 use Rattle.tasks.specs.Promise.{form_of}
 use Rattle.measures.specs.Promise.{Selecting, Selected, FirstUnpermitted}
-use Rattle.measures.proofs.FairLaws.{answer_at_lem, left_few, Asks, asks, first_low, first_high, s_short, sound, walks_first}
+use Rattle.measures.proofs.FairLaws.{left_few, Asks, asks, first_low, first_high, s_short, sound, walks_first}
 
 -- ---- what is asked of a record
 
@@ -89,64 +89,63 @@ seek_start {task} {fields} {s} {form} {w} f y t =
         → each 13 (permits p) p.first (joined (taken_from p.first recs)) ≡ each 13 (permits p) task.first (map bytes_of (marked_all (taken_from p.first recs)))
     start p recs e = ap₂ (each 13 (permits p)) (sym e) (sym (all_records (taken_from p.first recs)))
 
-module _ {form : Form} {first : ℕ} {fields s : List ℕ} {w : Walk} {number : ℕ} {r : RecordRead} (k : Seeking form first fields s w number) (t : RecordTold form s w r) where
-  module _ {start size : ℕ} {begins : Bool} {next : Walk} (e : r ≡ Record start size begins next) where
+module _ {form : Form} {first : ℕ} {fields s : List ℕ} {w : Walk} {number : ℕ} (k : Seeking form first fields s w number) where
+  module _ {read : RecordRead} (t : RecordTold form s w (Some read)) where
     abbrev one : List ℕ
-    one = take (start + size - start) (drop start s)
+    one = take (read.start + read.length - read.start) (drop read.start s)
 
-    is_long : {p : Plan} {rest : List (Bool × List ℕ)} → Passed p s rest start size begins next → least_data p ≤ length one
-    is_long g = omega (arith, g.long, ap length (lent t e), lent_length t e)
+    is_long : {p : Plan} {rest : List (Bool × List ℕ)} → Passed p s rest read → least_data p ≤ length one
+    is_long g = omega (arith, g.long, ap length (lent t), lent_length t)
 
     turn : {p : Plan} {recs : List (List (List ℕ))} → Asks form first s p recs → Lent fields p → (b : Bool) → Permits fields one b → (q : Seeks p s recs w number)
-        → (g : Passed p s q.rest start size begins next)
-        → (each 13 (permits p) p.first (joined (taken_from p.first recs)) ≡ each 13 (permits p) number (slice start (start + size) s ∷ map bytes_of g.more))
-        × (permits p (slice start (start + size) s) ≡ b)
+        → (g : Passed p s q.rest read)
+        → (each 13 (permits p) p.first (joined (taken_from p.first recs)) ≡ each 13 (permits p) number (slice read.start (read.start + read.length) s ∷ map bytes_of g.more))
+        × (permits p (slice read.start (read.start + read.length) s) ≡ b)
     turn {p} {recs} x y b a q g = (
       q.same ∙ ap (λ (l : List (Bool × List ℕ)). each 13 (permits p) number (map bytes_of l)) g.is,
-      ap (permits p) (sym (lent t e)) ∙ permits_is x.good.accepted y one b a (is_long g),
+      ap (permits p) (sym (lent t)) ∙ permits_is x.good.accepted y one b a (is_long g),
     )
 
-    pub seek_more : (b : Bool) → Permits fields (take (start + size - start) (drop start s)) b → b ≡ true → Seeking form first fields s next (number + 1)
+    pub seek_more : (b : Bool) → Permits fields (take (read.start + read.length - read.start) (drop read.start s)) b → b ≡ true → Seeking form first fields s read.next (number + 1)
     seek_more b a h =
         record {
           low = omega arith;
-          few = omega (arith, k.few, (inside t e).less);
+          few = omega (arith, k.few, t.lies.less);
           seeks = λ p recs x y.
               let q = k.seeks p recs x y in
-              let g = passed t e x.form_is q.walks in
+              let g = passed t x.form_is q.walks in
               let u = turn x y b a q g in
               record {
                 rest = g.more;
                 walks = g.walks;
-                same = u.0 ∙ each_pass 13 (permits p) number (slice start (start + size) s) (map bytes_of g.more) (u.1 ∙ h);
+                same = u.0 ∙ each_pass 13 (permits p) number (slice read.start (read.start + read.length) s) (map bytes_of g.more) (u.1 ∙ h);
               };
         }
 
 -- by the numbers of the plan
-module _ (task : Task) {fields s : List ℕ} {form : Form} (f : form ≡ form_of task) {w : Walk} {number : ℕ} {r : RecordRead}
-    (k : Seeking form task.first fields s w number) (t : RecordTold form s w r) where
-  module _ {start size : ℕ} {begins : Bool} {next : Walk} (e : r ≡ Record start size begins next) where
-    pub seek_readable : Selected task fields s → Readable fields (length (take (start + size - start) (drop start s)))
+module _ (task : Task) {fields s : List ℕ} {form : Form} (f : form ≡ form_of task) {w : Walk} {number : ℕ} (k : Seeking form task.first fields s w number) where
+  module _ {read : RecordRead} (t : RecordTold form s w (Some read)) where
+    pub seek_readable : Selected task fields s → Readable fields (length (take (read.start + read.length - read.start) (drop read.start s)))
     seek_readable y =
         let x = asks f y.given.fair in
         let q = k.seeks y.p y.recs x (lent_of y.given) in
-        readable x.good.accepted (lent_of y.given) (take (start + size - start) (drop start s)) (is_long k t e (passed t e x.form_is q.walks))
+        readable x.good.accepted (lent_of y.given) (take (read.start + read.length - read.start) (drop read.start s)) (is_long k t (passed t x.form_is q.walks))
 
-    pub seek_stop : (b : Bool) → Permits fields (take (start + size - start) (drop start s)) b → b ≡ false → FirstUnpermitted task fields s number
+    pub seek_stop : (b : Bool) → Permits fields (take (read.start + read.length - read.start) (drop read.start s)) b → b ≡ false → FirstUnpermitted task fields s (Some number)
     unfolding FirstUnpermitted
     seek_stop b a h = λ p recs y.
         let x = asks f y.fair in
         let q = k.seeks p recs x (lent_of y) in
-        let g = passed t e x.form_is q.walks in
-        let u = turn k t e x (lent_of y) b a q g in
-        u.0 ∙ each_stop 13 (permits p) number (slice start (start + size) s) (map bytes_of g.more) (u.1 ∙ h) ∙ answer_at_lem 13 number k.low
+        let g = passed t x.form_is q.walks in
+        let u = turn k t x (lent_of y) b a q g in
+        u.0 ∙ each_stop 13 (permits p) number (slice read.start (read.start + read.length) s) (map bytes_of g.more) (u.1 ∙ h)
 
-  pub seek_end : r ≡ End → FirstUnpermitted task fields s 0
+  pub seek_end : RecordTold form s w None → FirstUnpermitted task fields s None
   unfolding FirstUnpermitted each
-  seek_end e = λ p recs y.
+  seek_end t = λ p recs y.
       let x = asks f y.fair in
       let q = k.seeks p recs x (lent_of y) in
-      q.same ∙ ap (λ (l : List (Bool × List ℕ)). each 13 (permits p) number (map bytes_of l)) (ended t e x.form_is q.walks)
+      q.same ∙ ap (λ (l : List (Bool × List ℕ)). each 13 (permits p) number (map bytes_of l)) (ended t x.form_is q.walks)
 
   pub seek_few : Selected task fields s → number ≤ 131072
   seek_few y = let x = asks f y.given.fair in omega (arith, k.few, first_high x, s_short x)

@@ -1,5 +1,5 @@
 -- What the passes promise, for every plan that the numbers may be, and every reel that is good by it.
-use Rattle.std.specs.Prelude.{◌≡◌, true, false, List, map, ℕ, zero, suc, ◌*◌, ◌≤◌, length, drop}
+use Rattle.std.specs.Prelude.{◌≡◌, true, false, Option, Some, None, Result, Ok, Err, List, map, ℕ, ◌*◌, ◌≤◌, length, drop}
 use Rattle.rules.specs.Base.{joined}
 use Rattle.rules.specs.Answer.{Answer, fine, refused, ◌>>◌, each}
 use Rattle.rules.specs.Plan.{Plan, selects, is_tc}
@@ -16,7 +16,7 @@ use Rattle.walks.specs.Promise.{Good}
 use Rattle.walks.specs.Walking.{fixed_start}
 use Rattle.tasks.specs.Promise.{form_of}
 use Rattle.measures.specs.declared.Measured.{Measured}
-use Rattle.measures.specs.declared.Measured.TheVariants.{TooLong, Fits}
+use Rattle.measures.specs.declared.TooLong.{TooLong}
 
 -- the numbers are those of a plan, and the reel is good by it, with these records
 pub record GoodTask (task : Task) (s : List ℕ) (p : Plan) (recs : List (List (List ℕ))) : Type 0 where
@@ -38,13 +38,13 @@ pub record Selected (task : Task) (fields s : List ℕ) : Type 0 where
   pub recs : List (List (List ℕ))
   pub given : Selecting task fields s p recs
 
--- fine for 0, or refused at this record
-abbrev pub answer_at : ℕ → ℕ → Answer Unit
-answer_at number zero = fine tt
-answer_at number (suc i) = refused number (suc i)
+-- fine, or refused at this record
+abbrev pub answer_at : ℕ → Option ℕ → Answer Unit
+answer_at number None = fine tt
+answer_at number (Some i) = refused number i
 
 -- the halves of each record taken are permitted, or this is the first that has one that is not
-unfoldable pub FirstUnpermitted : Task → List ℕ → List ℕ → ℕ → Type 0
+unfoldable pub FirstUnpermitted : Task → List ℕ → List ℕ → Option ℕ → Type 0
 FirstUnpermitted task fields s r =
     (p : Plan) (recs : List (List (List ℕ))) → Selecting task fields s p recs
     → each 13 (permits p) p.first (joined (taken_from p.first recs)) ≡ answer_at 13 r
@@ -67,9 +67,9 @@ unfoldable pub fit_answer : Plan → List (List (List ℕ)) → Answer Unit
 fit_answer p recs = each 14 (λ holds. holds) p.first (fitting p.mode p (outputs p recs))
 
 -- refusal 14 at the record, or the blocks, records and bytes of the output reel
-abbrev pub answer_of : Measured → Answer (ℕ × ℕ × ℕ)
-answer_of (TooLong i) = refused 14 i
-answer_of (Fits blocks records size) = fine (blocks, records, size)
+abbrev pub answer_of : Result Measured TooLong → Answer (ℕ × ℕ × ℕ)
+answer_of (Err long) = refused 14 long.number
+answer_of (Ok m) = fine (m.blocks, m.records, m.length)
 
 -- what the rules answer of these records, and measure of their output
 unfoldable pub measured_of : Plan → List (List (List ℕ)) → Answer (ℕ × ℕ × ℕ)
@@ -78,7 +78,7 @@ measured_of p recs =
     fit_answer p recs >> fine (length bs, length (joined bs), length (reel_of (map (block_of p.format) bs)))
 
 -- the answer is that of the rules
-unfoldable pub Measures : Task → List ℕ → Measured → Type 0
+unfoldable pub Measures : Task → List ℕ → Result Measured TooLong → Type 0
 Measures task s r = (p : Plan) (recs : List (List (List ℕ))) → Measuring task s p recs → answer_of r ≡ measured_of p recs
 
 -- ---- FF

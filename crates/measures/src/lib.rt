@@ -9,102 +9,68 @@ ghost use Rattle.measures.specs.Promise.{Selected, FirstUnpermitted, Measurable,
 
 use fillings::Tally;
 use terms::{Format, Mode, Task};
-use walks::RecordRead;
 
-// The number of the first record whose output does not fit; or, where each fits, how many blocks, records and bytes the output reel has.
+// The first record whose output does not fit, by its number.
 #[derive(Clone, Copy)]
-pub enum Measured {
-    TooLong {
-        record: usize,
-    },
-    Fits {
-        blocks: usize,
-        records: usize,
-        length: usize,
-    },
+pub struct TooLong {
+    pub number: usize,
 }
 
-// The number of the first record taken of which a half is not permitted, or 0: along the walk.
-fn first_walked(task: Task, fields: &[u16], reel: &[u8]) -> usize
+// Where each output fits: how many blocks, records and bytes the output reel has.
+#[derive(Clone, Copy)]
+pub struct Measured {
+    pub blocks: usize,
+    pub records: usize,
+    pub length: usize,
+}
+
+// The number of the first record taken of which a half is not permitted: along the walk.
+fn first_walked(task: Task, fields: &[u16], reel: &[u8]) -> Option<usize>
     requires { Selected task fields.now reel.now }
     ensures { FirstUnpermitted task fields.now reel.now result }
 {
     let form = tasks::form_of(task);
-    let first = task.first;
-    let mut w = walks::taken(form, reel, first);
-    let mut number = first;
-    loop {
-        let read = walks::record(form, reel, w);
-        match read {
-            RecordRead::Record {
-                start,
-                length,
-                begins: _,
-                next,
-            } => {
-                let end = start + length;
-                if !values::permitted(fields, &reel[start..end]) {
-                    return number;
-                }
-                w = next;
-                number += 1;
-            }
-            RecordRead::End => {
-                return 0;
-            }
+    let mut w = walks::taken(form, reel, task.first);
+    let mut number = task.first;
+    while let Some(read) = walks::record(form, reel, w) {
+        let end = read.start + read.length;
+        if !values::permitted(fields, &reel[read.start..end]) {
+            return Some(number);
         }
+        w = read.next;
+        number += 1;
     }
+    None
 }
 
 // Whether the output of each record taken fits, and what the output reel measures: along the walk, in a pass that holds three numbers and builds nothing.
-// `over` is the least size that a block of B may not have.
-fn measure_walked(task: Task, reel: &[u8]) -> Measured
+fn measure_walked(task: Task, reel: &[u8]) -> Result<Measured, TooLong>
     requires { Measurable task reel.now }
     ensures { Measures task reel.now result }
 {
     let form = tasks::form_of(task);
-    let first = task.first;
-    let over = task.limit + 1;
-    let mut walk = walks::taken(form, reel, first);
-    let mut number = first;
-    let mut tally = Tally {
-        blocks: 0,
-        size: 0,
-        bytes: 0,
-    };
-    loop {
-        let read = walks::record(form, reel, walk);
-        match read {
-            RecordRead::Record {
-                start: _,
-                length,
-                begins,
-                next,
-            } => {
-                let n = tasks::output_length(task, length);
-                let more = fillings::tallied(task, tally, begins, n);
-                if more.size >= over {
-                    return Measured::TooLong { record: number };
-                }
-                tally = more;
-                walk = next;
-                number += 1;
-            }
-            RecordRead::End => {
-                let records = number - first;
-                let length = 4 * tally.blocks + 8 + tally.bytes;
-                return Measured::Fits {
-                    blocks: tally.blocks,
-                    records,
-                    length,
-                };
-            }
+    let mut walk = walks::taken(form, reel, task.first);
+    let mut number = task.first;
+    let mut tally = Tally::default();
+    while let Some(read) = walks::record(form, reel, walk) {
+        let n = tasks::output_length(task, read.length);
+        let more = fillings::tallied(task, tally, read.begins, n);
+        if more.size > task.limit {
+            return Err(TooLong { number });
         }
+        tally = more;
+        walk = read.next;
+        number += 1;
     }
+    Ok(Measured {
+        blocks: tally.blocks,
+        records: number - task.first,
+        length: 4 * tally.blocks + 8 + tally.bytes,
+    })
 }
 
 // In FF the records taken stand one behind the other, through all blocks.
-fn first_fixed(task: Task, fields: &[u16], reel: &[u8]) -> usize
+fn first_fixed(task: Task, fields: &[u16], reel: &[u8]) -> Option<usize>
     requires selected { Selected task fields.now reel.now }
     requires format_value { task.format ≡ Format.FF }
     ensures { FirstUnpermitted task fields.now reel.now result }
@@ -118,25 +84,22 @@ fn first_fixed(task: Task, fields: &[u16], reel: &[u8]) -> usize
     while at < data.len() {
         let end = at + n;
         if !values::permitted(fields, &data[at..end]) {
-            return number;
+            return Some(number);
         }
         at = end;
         number += 1;
     }
-    0
+    None
 }
 
-// The number of the first record taken of which a half is not permitted, or 0.
-pub fn first_unpermitted(task: Task, fields: &[u16], reel: &[u8]) -> usize
+// The number of the first record taken of which a half is not permitted.
+pub fn first_unpermitted(task: Task, fields: &[u16], reel: &[u8]) -> Option<usize>
     requires { Selected task fields.now reel.now }
     ensures { FirstUnpermitted task fields.now reel.now result }
 {
-    let format = task.format;
-    match format {
+    match task.format {
         Format::FF => first_fixed(task, fields, reel),
-        Format::FV => first_walked(task, fields, reel),
-        Format::FU => first_walked(task, fields, reel),
-        Format::FS => first_walked(task, fields, reel),
+        Format::FV | Format::FU | Format::FS => first_walked(task, fields, reel),
     }
 }
 
@@ -147,12 +110,10 @@ fn blocks_behind(reel: &[u8], from: usize) -> usize
 {
     let count = pieces::word(reel, 0);
     let mut blocks = 0;
-    let mut i = 0;
-    while i < count {
+    for i in 0..count {
         if from < pieces::word(reel, 4 * i + 8) {
             blocks += 1;
         }
-        i += 1;
     }
     blocks
 }
@@ -171,12 +132,9 @@ fn fixed_blocks(task: Task, reel: &[u8], from: usize, records: usize) -> usize
     requires { FixedFrom task reel.now from records }
     ensures { FixedBlocks task reel.now result }
 {
-    let mode = task.mode;
-    match mode {
-        Mode::TC => blocks_filled(task, records),
+    match task.mode {
         Mode::TF => blocks_behind(reel, from),
-        Mode::TR => blocks_filled(task, records),
-        Mode::TRF => blocks_filled(task, records),
+        Mode::TC | Mode::TR | Mode::TRF => blocks_filled(task, records),
     }
 }
 
@@ -184,29 +142,25 @@ fn fixed_blocks(task: Task, reel: &[u8], from: usize, records: usize) -> usize
 fn measure_fixed(task: Task, reel: &[u8]) -> Measured
     requires measurable { Measurable task reel.now }
     requires format_value { task.format ≡ Format.FF }
-    ensures { Measures task reel.now result }
+    ensures { Measures task reel.now (Ok result) }
 {
     let from = walks::fixed_start(tasks::form_of(task), reel, task.first);
     let records = walks::rest(reel, from).len() / task.n;
     let blocks = fixed_blocks(task, reel, from, records);
-    let length = 4 * blocks + 8 + records * task.width;
-    Measured::Fits {
+    Measured {
         blocks,
         records,
-        length,
+        length: 4 * blocks + 8 + records * task.width,
     }
 }
 
 // Whether the output of each record taken fits, and what the output reel measures.
-pub fn measure(task: Task, reel: &[u8]) -> Measured
+pub fn measure(task: Task, reel: &[u8]) -> Result<Measured, TooLong>
     requires { Measurable task reel.now }
     ensures { Measures task reel.now result }
 {
-    let format = task.format;
-    match format {
-        Format::FF => measure_fixed(task, reel),
-        Format::FV => measure_walked(task, reel),
-        Format::FU => measure_walked(task, reel),
-        Format::FS => measure_walked(task, reel),
+    match task.format {
+        Format::FF => Ok(measure_fixed(task, reel)),
+        Format::FV | Format::FU | Format::FS => measure_walked(task, reel),
     }
 }

@@ -21,7 +21,6 @@ use Rattle.rules.proofs.Halves.PermittedLaws.{same_test}
 use Rattle.rules.proofs.Halves.RecordLaws.{Shape, fixed, variable, shape_of, fits_wider}
 use Rattle.rules.proofs.Judge.AgreeBytes.{tail_out, agrees_selected, agrees_carried}
 use Rattle.terms.specs.Meaning.{mode_of}
-use Rattle.terms.specs.declared.Mode.{Mode}
 use Rattle.terms.specs.declared.Task.{Task}
 use Rattle.rows.specs.Flat.{flat_of, Fielded}
 use Rattle.rows.proofs.ReadLaws.{fair_of}
@@ -182,15 +181,15 @@ module _ {task : Task} {fields r : List ℕ} {room : ℕ} (s : SelectingPair tas
 -- ---- by the mode
 
 module _ {task : Task} {fields r : List ℕ} where
-  pub selecting_by : {room : ℕ} → Comparable task fields r room → {m : Mode} → task.mode ≡ m → selects (mode_of m) ≡ true → SelectingPair task fields r room
-  selecting_by c e s = record { comparable = c; selecting = ap selects (sym c.given.is.mode) ∙ ap (λ (m : Mode). selects (mode_of m)) e ∙ s }
+  pub selecting_by : {room : ℕ} → Comparable task fields r room → selects (mode_of task.mode) ≡ true → SelectingPair task fields r room
+  selecting_by c s = record { comparable = c; selecting = ap selects (sym c.given.is.mode) ∙ s }
 
   -- TC and TR carry records unchanged
-  pub carried_told : {m : Mode} → task.mode ≡ m → selects (mode_of m) ≡ false → (theirs : List ℕ) (x : Bool) → Tells x r theirs → AgreesAs task fields r theirs x
-  carried_told e s theirs x t =
+  pub carried_told : selects (mode_of task.mode) ≡ false → (theirs : List ℕ) (x : Bool) → Tells x r theirs → AgreesAs task fields r theirs x
+  carried_told s theirs x t =
       record {
         is =
             λ p g l.
-            let carried = agrees_carried p (ap selects (sym g.is.mode) ∙ ap (λ (m : Mode). selects (mode_of m)) e ∙ s) r theirs in
+            let carried = agrees_carried p (ap selects (sym g.is.mode) ∙ s) r theirs in
             same_test x (agrees p (out_record p r) theirs) (λ h. carried.1 (t.0 h)) (λ h. t.1 (carried.0 h));
       }

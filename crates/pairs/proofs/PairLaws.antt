@@ -19,11 +19,11 @@ use Rattle.terms.specs.declared.Task.{Task}
 use Rattle.pieces.specs.declared.Form.{Form}
 use Rattle.walks.specs.declared.Walk.{Walk}
 use Rattle.walks.specs.declared.RecordRead.{RecordRead}
-use Rattle.walks.specs.declared.RecordRead.TheVariants.{Record, End}
+use Rattle.std.specs.Prelude.{Some, None}
 use Rattle.walks.specs.Marks.{marked_all, bytes_of}
 use Rattle.walks.specs.Promise.{Good, Walks, Sound, Standing, Passed, bytes_left, RecordTold, WalkTaken}
 use Rattle.walks.proofs.MarksLaws.{all_records}
-use Rattle.walks.proofs.PromiseLaws.{inside, lent, lent_length, passed, ended}
+use Rattle.walks.proofs.PromiseLaws.{lent, lent_length, passed, ended}
 use Rattle.tasks.specs.Promise.{form_of, form_under}
 use Rattle.tasks.proofs.LengthLaws.{form_given, form_judged}
 use Rattle.checks.specs.Promise.{PlanGiven}
@@ -90,68 +90,68 @@ module _ {task : Task} {fields ours theirs : List ℕ} {form under : Form} (f : 
 
     -- ---- ours has a further record
 
-    module _ {r : RecordRead} (t : RecordTold form ours w r) {start size : ℕ} {begins : Bool} {next : Walk} (e : r ≡ Record start size begins next) where
+    module _ {mine : RecordRead} (t : RecordTold form ours w (Some mine)) where
       abbrev one : List ℕ
-      one = take (start + size - start) (drop start ours)
+      one = take (mine.start + mine.length - mine.start) (drop mine.start ours)
 
-      is_long : {p : Plan} {rest : List (Bool × List ℕ)} → Passed p ours rest start size begins next → selects p.mode ≡ true → record_length p.input ≤ length one
-      is_long {p} q s = omega (arith, q.long, least_selects p s, ap length (lent t e), lent_length t e)
+      is_long : {p : Plan} {rest : List (Bool × List ℕ)} → Passed p ours rest mine → selects p.mode ≡ true → record_length p.input ≤ length one
+      is_long {p} q s = omega (arith, q.long, least_selects p s, ap length (lent t), lent_length t)
 
       pub pair_comparable : (n : ℕ) → 4096 ≡ n → Comparable task fields one n
       pair_comparable n q =
           record {
             p = y.p;
             given = y.given;
-            long = is_long (passed t e (form_given y.given.is f) now.walks);
-            short = omega (arith, ap length (lent t e), lent_length t e, (inside t e).ends, ours_short);
+            long = is_long (passed t (form_given y.given.is f) now.walks);
+            short = omega (arith, ap length (lent t), lent_length t, t.lies.ends, ours_short);
             roomy = omega arith;
           }
 
       -- theirs has none
-      pub pair_lacks : {r' : RecordRead} → RecordTold under theirs v r' → r' ≡ End → ApartAt task fields ours theirs number
-      pair_lacks t' e' =
+      pub pair_lacks : RecordTold under theirs v None → ApartAt task fields ours theirs number
+      pair_lacks t' =
           record {
             is = λ p recs others x g h.
                 let q = k.pairs p recs others x g h in
-                let a = passed t e (form_given x.is f) q.walks in
+                let a = passed t (form_given x.is f) q.walks in
                 sym (q.same
-                ∙ ap₂ (λ (xs ys : List (Bool × List ℕ)). first_apart (agrees p) number (map (out_record p) (map bytes_of xs)) (map bytes_of ys)) a.is (ended t' e' (form_judged x.is u) q.walks'));
+                ∙ ap₂ (λ (xs ys : List (Bool × List ℕ)). first_apart (agrees p) number (map (out_record p) (map bytes_of xs)) (map bytes_of ys)) a.is (ended t' (form_judged x.is u) q.walks'));
           }
 
       -- theirs has one too
-      module _ {r' : RecordRead} (t' : RecordTold under theirs v r') {from size' : ℕ} {begins' : Bool} {behind : Walk} (e' : r' ≡ Record from size' begins' behind) where
-        abbrev other : List ℕ
-        other = take (from + size' - from) (drop from theirs)
+      module _ {other : RecordRead} (t' : RecordTold under theirs v (Some other)) where
+        abbrev like : List ℕ
+        like = take (other.start + other.length - other.start) (drop other.start theirs)
 
-        turn : (b : Bool) → AgreesAs task fields one other b → (p : Plan) (recs others : List (List (List ℕ))) (x : PlanGiven task fields p) (q : Pairs p ours theirs recs others w v number)
-            (g : Passed p ours q.rest start size begins next) (h : Passed (under_b p) theirs q.rest' from size' begins' behind)
+        turn : (b : Bool) → AgreesAs task fields one like b → (p : Plan) (recs others : List (List (List ℕ))) (x : PlanGiven task fields p) (q : Pairs p ours theirs recs others w v number)
+            (g : Passed p ours q.rest mine) (h : Passed (under_b p) theirs q.rest' other)
             → first_apart (agrees p) 1 (map (out_record p) (joined (taken_from p.first recs))) (joined others)
             ≡ cond b (first_apart (agrees p) (suc number) (map (out_record p) (map bytes_of g.more)) (map bytes_of h.more)) number
         turn b d p recs others x q g h =
-            let z : b ≡ agrees p (out_record p (slice start (start + size) ours)) (slice from (from + size') theirs)
-            = d.is p x (is_long g) ∙ ap₂ (λ (r s : List ℕ). agrees p (out_record p r) s) (lent t e) (lent t' e') in
+            let z : b ≡ agrees p (out_record p (slice mine.start (mine.start + mine.length) ours)) (slice other.start (other.start + other.length) theirs)
+            = d.is p x (is_long g) ∙ ap₂ (λ (r s : List ℕ). agrees p (out_record p r) s) (lent t) (lent t') in
             q.same
             ∙ ap₂ (λ (xs ys : List (Bool × List ℕ)). first_apart (agrees p) number (map (out_record p) (map bytes_of xs)) (map bytes_of ys)) g.is h.is
             ∙ ap (λ (c : Bool). cond c (first_apart (agrees p) (suc number) (map (out_record p) (map bytes_of g.more)) (map bytes_of h.more)) number) (sym z)
 
-        pub pair_stop : (b : Bool) → AgreesAs task fields one other b → b ≡ false → ApartAt task fields ours theirs number
+        pub pair_stop : (b : Bool) → AgreesAs task fields one like b → b ≡ false → ApartAt task fields ours theirs number
         pair_stop b d n =
             record {
               is = λ p recs others x g h.
                   let q = k.pairs p recs others x g h in
-                  let a = passed t e (form_given x.is f) q.walks in
-                  let c = passed t' e' (form_judged x.is u) q.walks' in
+                  let a = passed t (form_given x.is f) q.walks in
+                  let c = passed t' (form_judged x.is u) q.walks' in
                   sym (turn b d p recs others x q a c ∙ ap (λ (z : Bool). cond z (first_apart (agrees p) (suc number) (map (out_record p) (map bytes_of a.more)) (map bytes_of c.more)) number) n);
             }
 
-        pub pair_more : (b : Bool) → AgreesAs task fields one other b → b ≡ true → Pairing task fields ours theirs next behind (number + 1)
+        pub pair_more : (b : Bool) → AgreesAs task fields one like b → b ≡ true → Pairing task fields ours theirs mine.next other.next (number + 1)
         pair_more b d n =
             record {
-              few = omega (arith, k.few, (inside t e).less);
+              few = omega (arith, k.few, t.lies.less);
               pairs = λ p recs others x g h.
                   let q = k.pairs p recs others x g h in
-                  let a = passed t e (form_given x.is f) q.walks in
-                  let c = passed t' e' (form_judged x.is u) q.walks' in
+                  let a = passed t (form_given x.is f) q.walks in
+                  let c = passed t' (form_judged x.is u) q.walks' in
                   let later : ℕ → ℕ = λ i. first_apart (agrees p) i (map (out_record p) (map bytes_of a.more)) (map bytes_of c.more) in
                   record {
                     rest = a.more;
@@ -164,14 +164,14 @@ module _ {task : Task} {fields ours theirs : List ℕ} {form under : Form} (f : 
 
     -- ---- ours has none
 
-    pub pair_end : {r : RecordRead} → RecordTold form ours w r → r ≡ End → (n : ℕ) → Lacks under theirs v number n → ApartAt task fields ours theirs n
-    pair_end t e n l =
+    pub pair_end : RecordTold form ours w None → (n : ℕ) → Lacks under theirs v number n → ApartAt task fields ours theirs n
+    pair_end t n l =
         record {
           is = λ p recs others x g h.
               let q = k.pairs p recs others x g h in
               l.is (under_b p) q.rest' (form_judged x.is u) q.walks'
               ∙ empty (agrees p) q.rest'
-              ∙ sym (q.same ∙ ap (λ (xs : List (Bool × List ℕ)). first_apart (agrees p) number (map (out_record p) (map bytes_of xs)) (map bytes_of q.rest')) (ended t e (form_given x.is f) q.walks));
+              ∙ sym (q.same ∙ ap (λ (xs : List (Bool × List ℕ)). first_apart (agrees p) number (map (out_record p) (map bytes_of xs)) (map bytes_of q.rest')) (ended t (form_given x.is f) q.walks));
         }
       where
         empty : (a : List ℕ → List ℕ → Bool) (rest : List (Bool × List ℕ)) → cond (is_empty rest) 0 number ≡ first_apart a number [] (map bytes_of rest)
@@ -180,12 +180,12 @@ module _ {task : Task} {fields ours theirs : List ℕ} {form under : Form} (f : 
 
 -- ---- behind our last record
 
-module _ {form : Form} {theirs : List ℕ} {v : Walk} {number : ℕ} {r : RecordRead} (t : RecordTold form theirs v r) where
-  pub lacks_one : {start size : ℕ} {begins : Bool} {next : Walk} → r ≡ Record start size begins next → Lacks form theirs v number number
-  lacks_one e = record { is = λ q rest f w. sym (ap (λ (xs : List (Bool × List ℕ)). cond (is_empty xs) 0 number) (passed t e f w).is) }
+module _ {form : Form} {theirs : List ℕ} {v : Walk} {number : ℕ} where
+  pub lacks_one : {read : RecordRead} → RecordTold form theirs v (Some read) → Lacks form theirs v number number
+  lacks_one t = record { is = λ q rest f w. sym (ap (λ (xs : List (Bool × List ℕ)). cond (is_empty xs) 0 number) (passed t f w).is) }
 
-  pub lacks_none : r ≡ End → Lacks form theirs v number 0
-  lacks_none e = record { is = λ q rest f w. sym (ap (λ (xs : List (Bool × List ℕ)). cond (is_empty xs) 0 number) (ended t e f w)) }
+  pub lacks_none : RecordTold form theirs v None → Lacks form theirs v number 0
+  lacks_none t = record { is = λ q rest f w. sym (ap (λ (xs : List (Bool × List ℕ)). cond (is_empty xs) 0 number) (ended t f w)) }
 
 -- ---- one outcome only
 

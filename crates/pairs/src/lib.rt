@@ -8,8 +8,8 @@ ghost use Rattle.walks.specs.Promise.{Standing};
 ghost use Rattle.pairs.specs.Promise.{WrittenOver, SelectingPair, Comparable, AgreesAs, Lacks, BothRead, ApartAt};
 
 use pieces::Form;
-use terms::{Mode, Task};
-use walks::{RecordRead, Walk};
+use terms::Task;
+use walks::Walk;
 
 // Whether the fields, written over a copy of their bytes, change nothing: then theirs has the byte of ours at every position that a field writes.
 fn written_over(fields: &[u16], record: &[u8], theirs: &[u8], room: &mut [u8]) -> bool
@@ -47,12 +47,10 @@ fn agree(task: Task, fields: &[u16], record: &[u8], theirs: &[u8], room: &mut [u
     requires { Comparable task fields.now «record».now (length room.old) }
     ensures { AgreesAs task fields.now «record».now theirs.now result }
 {
-    let mode = task.mode;
-    match mode {
-        Mode::TC => check::same(record, theirs),
-        Mode::TF => agree_selected(task, fields, record, theirs, room),
-        Mode::TR => check::same(record, theirs),
-        Mode::TRF => agree_selected(task, fields, record, theirs, room),
+    if terms::selects(task.mode) {
+        agree_selected(task, fields, record, theirs, room)
+    } else {
+        check::same(record, theirs)
     }
 }
 
@@ -61,15 +59,9 @@ fn lacking(form: Form, theirs: &[u8], v: Walk, number: usize) -> usize
     requires { Standing form theirs.now v }
     ensures { Lacks form theirs.now v number result }
 {
-    let read = walks::record(form, theirs, v);
-    match read {
-        RecordRead::Record {
-            start: _,
-            length: _,
-            begins: _,
-            next: _,
-        } => number,
-        RecordRead::End => 0,
+    match walks::record(form, theirs, v) {
+        Some(_) => number,
+        None => 0,
     }
 }
 
@@ -84,36 +76,18 @@ pub fn first_apart(task: Task, fields: &[u16], ours: &[u8], theirs: &[u8]) -> us
     let mut w = walks::taken(form, ours, task.first);
     let mut v = walks::taken(under, theirs, 1);
     let mut number = 1;
-    loop {
-        let read = walks::record(form, ours, w);
-        match read {
-            RecordRead::Record {
-                start: at,
-                length,
-                begins: _,
-                next,
-            } => {
-                let other = walks::record(under, theirs, v);
-                match other {
-                    RecordRead::Record {
-                        start: from,
-                        length: size,
-                        begins: _,
-                        next: behind,
-                    } => {
-                        let end = at + length;
-                        let to = from + size;
-                        if !agree(task, fields, &ours[at..end], &theirs[from..to], &mut room) {
-                            return number;
-                        }
-                        w = next;
-                        v = behind;
-                        number += 1;
-                    }
-                    RecordRead::End => return number,
-                }
-            }
-            RecordRead::End => return lacking(under, theirs, v, number),
+    while let Some(mine) = walks::record(form, ours, w) {
+        let Some(other) = walks::record(under, theirs, v) else {
+            return number;
+        };
+        let record = &ours[mine.start..mine.start + mine.length];
+        let like = &theirs[other.start..other.start + other.length];
+        if !agree(task, fields, record, like, &mut room) {
+            return number;
         }
+        w = mine.next;
+        v = other.next;
+        number += 1;
     }
+    lacking(under, theirs, v, number)
 }

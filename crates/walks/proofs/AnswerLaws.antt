@@ -1,12 +1,11 @@
 -- What the code answers, for each outcome of its tests, is what the definitions say, and so what is promised. On the way to record R what is left of the
 -- way leads to the same place from each turn on.
-use mathlib.Core.Path.{◌≡◌, sym, ◌∙◌, subst}
-use mathlib.Core.Bool.{Bool, true, false}
+use mathlib.Core.Path.{◌≡◌, sym, ◌∙◌}
 use mathlib.Core.List.{List}
 use Prim.Native.Nat.{ℕ, suc, ◌+◌, ◌-◌, ◌≤◌, ◌<◌}
 use native.Mathlib.Omega.{arith}
 use lib.ListN.{length}
-use borrow.Author.Tests.{lt-ltb, le-ltb, lt-leb, le-leb}
+use borrow.Author.Tests.{lt-leb, le-leb}
 use Rattle.rules.specs.Output.{cost}
 use Rattle.rules.specs.ReelPlaces.{word_at}
 use Rattle.rules.proofs.Reel.ReelLaws.{header_is}
@@ -14,10 +13,10 @@ use Rattle.terms.specs.Meaning.{format_of}
 use Rattle.pieces.specs.declared.Form.{Form}
 use Rattle.walks.specs.declared.Walk.{Walk}
 use Rattle.walks.specs.declared.RecordRead.{RecordRead}
-use Rattle.walks.specs.declared.RecordRead.TheVariants.{Record, End}
+use Rattle.std.specs.Prelude.{Option, Some, None}
 use Rattle.walks.specs.Walking.{Starting, block_start, first_walk, behind_at, end_in, record_of, opened_walk, onwards, taken_walk}
 use Rattle.walks.specs.Marks.{marked_all}
-use Rattle.walks.specs.Promise.{Sound, Standing, Begun, RecordSays, RecordTold, WalkTaken}
+use Rattle.walks.specs.Promise.{Sound, Standing, Begun, RecordTold, WalkTaken}
 use Rattle.walks.proofs.StandsLaws.{stands_all}
 use Rattle.walks.proofs.WalkLaws.{walks_all, says_of, lies_of, walks_taken, starting, Reads, reads_of}
 
@@ -26,7 +25,7 @@ use Rattle.walks.proofs.WalkLaws.{walks_all, says_of, lies_of, walks_taken, star
 pub begun : (form : Form) (s : List ℕ) (w : Walk) → w ≡ first_walk form s → Begun form s w
 begun form s w e = record { is = e; all = λ p recs f g. rw e (walks_all form p s recs f g) }
 
-pub told : (form : Form) (s : List ℕ) (w : Walk) (r : RecordRead) → Standing form s w → r ≡ record_of form s w → RecordTold form s w r
+pub told : (form : Form) (s : List ℕ) (w : Walk) (r : Option RecordRead) → Standing form s w → r ≡ record_of form s w → RecordTold form s w r
 told form s w r x e =
     record { is = e; lies = rw e (lies_of form x.p s w x.rest x.form_is x.walks); says = λ p rest f k. rw e (says_of form p s w rest f k) }
 
@@ -46,34 +45,16 @@ pub first_is_lem : (form : Form) (s : List ℕ) (w : Walk) (from : ℕ) → from
 unfolding first_walk
 first_is_lem form s w from e d = rw (sym e) d
 
-pub block_past : (form : Form) (s : List ℕ) (word from : ℕ) → length s ≤ from → record { word = word; at = from; end = from; begins = true } ≡ block_start form s word from
-unfolding block_start
-block_past form s word from l = rw (le-leb (length s) from l)
-
-pub block_there : (form : Form) (s : List ℕ) (word from first end : ℕ) → from < length s → first ≡ cost (format_of form.format) → end ≡ word_at s word
-    → record { word = word; at = from + first; end = end; begins = true } ≡ block_start form s word from
-unfolding block_start
-block_there form s word from first end l a e = rw (lt-leb (length s) from l, a, e)
-
 -- ---- a step
 
--- the walk behind a record
-pub walk_behind : (form : Form) (s : List ℕ) (w : Walk) (at : ℕ) → at < w.end → record { word = w.word; at = at; end = w.end; begins = false } ≡ behind_at form s w at
-unfolding behind_at
-walk_behind form s w at l = rw (lt-ltb at w.end l)
-
-pub walk_over : (form : Form) (s : List ℕ) (w : Walk) (at : ℕ) → w.end ≤ at → block_start form s (w.word + 4) at ≡ behind_at form s w at
-unfolding behind_at
-walk_over form s w at l = rw (le-ltb at w.end l)
-
 -- the record
-pub record_none : (form : Form) (s : List ℕ) (w : Walk) → length s ≤ w.at → End ≡ record_of form s w
+pub record_none : (form : Form) (s : List ℕ) (w : Walk) → length s ≤ w.at → None ≡ record_of form s w
 unfolding record_of
 record_none form s w l = rw (le-leb (length s) w.at l)
 
 pub record_found : (form : Form) (s : List ℕ) (w : Walk) (first end : ℕ) (next : Walk) → w.at < length s → first ≡ cost (format_of form.format)
     → end ≡ end_in (format_of form.format) form.n s w.at w.end → next ≡ behind_at form s w end
-    → Record (w.at + first) (end - (w.at + first)) w.begins next ≡ record_of form s w
+    → Some (record { start = w.at + first; length = end - (w.at + first); begins = w.begins; next = next }) ≡ record_of form s w
 unfolding record_of
 record_found form s w first end next l a e n = rw (lt-leb (length s) w.at l, n, e, a)
 
@@ -96,20 +77,18 @@ going_start form s first w x b =
     }
 
 -- behind a record the walk stands in the reel again
-pub stands_next : {form : Form} {s : List ℕ} {w : Walk} {r : RecordRead} → Standing form s w → RecordTold form s w r → {start size : ℕ} {begins : Bool} {next : Walk}
-    → r ≡ Record start size begins next → Standing form s next
-stands_next {s = s} x t e =
-    let q = subst (RecordSays x.p s x.rest) e (t.says x.p x.rest x.form_is x.walks) in
-    record { p = x.p; rest = q.more; form_is = x.form_is; walks = q.walks }
+pub stands_next : {form : Form} {s : List ℕ} {w : Walk} {read : RecordRead} → Standing form s w → RecordTold form s w (Some read) → Standing form s read.next
+stands_next x t = let q = t.says x.p x.rest x.form_is x.walks in record { p = x.p; rest = q.more; form_is = x.form_is; walks = q.walks }
 
-module _ {form : Form} {s : List ℕ} {first : ℕ} {w : Walk} {number : ℕ} (g : Going form s first w number) {r : RecordRead} (t : RecordTold form s w r) where
-  pub going_more : {start size : ℕ} {begins : Bool} {next : Walk} → number < first → r ≡ Record start size begins next → Going form s first next (number + 1)
-  going_more l e =
-      let z : first - number ≡ suc (first - (number + 1)) = omega arith in
-      record { same = g.same ∙ rw (z, sym t.is ∙ e); stands = stands_next g.stands t e }
+module _ {form : Form} {s : List ℕ} {first : ℕ} {w : Walk} {number : ℕ} (g : Going form s first w number) (l : number < first) where
+  more_left : first - number ≡ suc (first - (number + 1))
+  more_left = omega arith
 
-  pub going_ended : number < first → r ≡ End → opened_walk w ≡ taken_walk form s first
-  going_ended l e = let z : first - number ≡ suc (first - (number + 1)) = omega arith in sym (g.same ∙ rw (z, sym t.is ∙ e))
+  pub going_more : {read : RecordRead} → RecordTold form s w (Some read) → Going form s first read.next (number + 1)
+  going_more t = record { same = g.same ∙ rw (more_left, sym t.is); stands = stands_next g.stands t }
+
+  pub going_ended : RecordTold form s w None → opened_walk w ≡ taken_walk form s first
+  going_ended t = sym (g.same ∙ rw (more_left, sym t.is))
 
 pub going_there : {form : Form} {s : List ℕ} {first : ℕ} {w : Walk} {number : ℕ} → Going form s first w number → first ≤ number → opened_walk w ≡ taken_walk form s first
 going_there {first = first} {number = number} g l = let z : first - number ≡ 0 = omega arith in sym (g.same ∙ rw z)

@@ -1,5 +1,5 @@
 -- The promises, as a caller's loop uses them, and that each allows one outcome only. By what each says of every input.
-use mathlib.Core.Path.{◌≡◌, sym, ◌∙◌, subst}
+use mathlib.Core.Path.{◌≡◌, sym, ◌∙◌}
 use mathlib.Core.Bool.{Bool}
 use mathlib.Core.List.{List, []}
 use Prim.Native.Nat.{ℕ, ◌+◌, ◌-◌}
@@ -18,9 +18,9 @@ use Rattle.reels.specs.Records.{ReadAs}
 use Rattle.reels.proofs.ReelTold.{tells}
 use Rattle.walks.specs.declared.Walk.{Walk}
 use Rattle.walks.specs.declared.RecordRead.{RecordRead}
-use Rattle.walks.specs.declared.RecordRead.TheVariants.{Record, End}
+use Rattle.std.specs.Prelude.{Option, Some, None}
 use Rattle.walks.specs.Walking.{fixed_start}
-use Rattle.walks.specs.Promise.{Good, Walks, Begun, Passed, RecordSays, DataInside, Lies, RecordTold, WalkTaken}
+use Rattle.walks.specs.Promise.{Good, Walks, Begun, Passed, RecordTold, WalkTaken}
 
 -- ---- a reel that was read
 
@@ -33,23 +33,20 @@ good_read {form} {p} {s} {all} ok f x =
 
 -- ---- a turn of a loop over the records, of which `rest` are left
 
-module _ {form : Form} {s : List ℕ} {w : Walk} {r : RecordRead} (x : RecordTold form s w r) where
-  module _ {start size : ℕ} {begins : Bool} {next : Walk} (e : r ≡ Record start size begins next) where
-    pub inside : DataInside s w start size next
-    inside = subst (Lies s w) e x.lies
+module _ {form : Form} {s : List ℕ} {w : Walk} where
+  module _ {read : RecordRead} (x : RecordTold form s w (Some read)) where
+    -- the record as it is lent, `&s[start..start + length]`, and its length
+    pub lent : take (read.start + read.length - read.start) (drop read.start s) ≡ slice read.start (read.start + read.length) s
+    lent = sym (slice_part read.start (read.start + read.length) s (omega arith))
 
-    -- the record as it is lent, `&s[start..start + size]`, and its length
-    pub lent : take (start + size - start) (drop start s) ≡ slice start (start + size) s
-    lent = sym (slice_part start (start + size) s (omega arith))
+    pub lent_length : length (slice read.start (read.start + read.length) s) ≡ read.length
+    lent_length = length-slice read.start (read.start + read.length) s x.lies.ends ∙ (let z : read.start + read.length - read.start ≡ read.length = omega arith in z)
 
-    pub lent_length : length (slice start (start + size) s) ≡ size
-    lent_length = length-slice start (start + size) s inside.ends ∙ (let z : start + size - start ≡ size = omega arith in z)
+    pub passed : {p : Plan} {rest : List (Bool × List ℕ)} → FormIs form p → Walks p s w rest → Passed p s rest read
+    passed {p} {rest} f k = x.says p rest f k
 
-    pub passed : {p : Plan} {rest : List (Bool × List ℕ)} → FormIs form p → Walks p s w rest → Passed p s rest start size begins next
-    passed {p} {rest} f k = subst (RecordSays p s rest) e (x.says p rest f k)
-
-  pub ended : r ≡ End → {p : Plan} {rest : List (Bool × List ℕ)} → FormIs form p → Walks p s w rest → rest ≡ []
-  ended e {p} {rest} f k = subst (RecordSays p s rest) e (x.says p rest f k)
+  pub ended : RecordTold form s w None → {p : Plan} {rest : List (Bool × List ℕ)} → FormIs form p → Walks p s w rest → rest ≡ []
+  ended x {p} {rest} f k = x.says p rest f k
 
 -- ---- one outcome only
 
@@ -57,7 +54,7 @@ module _ (form : Form) where
   pub begin_only_one : (s : List ℕ) {x y : Walk} → Begun form s x → Begun form s y → x ≡ y
   begin_only_one s a b = a.is ∙ sym b.is
 
-  pub record_only_one : (s : List ℕ) (w : Walk) {x y : RecordRead} → RecordTold form s w x → RecordTold form s w y → x ≡ y
+  pub record_only_one : (s : List ℕ) (w : Walk) {x y : Option RecordRead} → RecordTold form s w x → RecordTold form s w y → x ≡ y
   record_only_one s w a b = a.is ∙ sym b.is
 
   pub taken_only_one : (s : List ℕ) (first : ℕ) {x y : Walk} → WalkTaken form s first x → WalkTaken form s first y → x ≡ y

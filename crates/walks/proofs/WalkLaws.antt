@@ -24,7 +24,7 @@ use Rattle.pieces.specs.Form.{FormIs}
 use Rattle.reels.specs.Header.{block_part}
 use Rattle.walks.specs.declared.Walk.{Walk}
 use Rattle.walks.specs.declared.RecordRead.{RecordRead}
-use Rattle.walks.specs.declared.RecordRead.TheVariants.{Record, End}
+use Rattle.std.specs.Prelude.{Option, Some, None}
 use Rattle.walks.specs.Marks.{marked, marked_all, opened, taken_marks}
 use Rattle.walks.specs.Walking.{Starting, block_start, first_walk, behind_at, end_in, record_of, opened_walk, on_record, onwards, taken_walk, Place, block_place, behind_place, walk_of}
 use Rattle.walks.specs.Promise.{Good, PlaceStands, Walks, RecordSays, Passed, bytes_left, DataInside, Lies}
@@ -80,7 +80,7 @@ module _ (form : Form) (s : List ℕ) (e : is_reel s ≡ true) where
 
 record_is : (form : Form) (s : List ℕ) (w : Walk) (to start size : ℕ) (next : Walk) → w.at < length s → end_in (format_of form.format) form.n s w.at w.end ≡ to
     → w.at + cost (format_of form.format) ≡ start → to - (w.at + cost (format_of form.format)) ≡ size → behind_at form s w to ≡ next
-    → record_of form s w ≡ Record start size w.begins next
+    → record_of form s w ≡ Some (record { start = start; length = size; begins = w.begins; next = next })
 unfolding record_of
 record_is form s w to start size next l e b n d = rw (lt-leb (length s) w.at l, e, n, b, d)
 
@@ -170,16 +170,19 @@ module _ (form : Form) (p : Plan) (s : List ℕ) (v : Place) (rest : List (Bool 
     to_is = ap₂ (λ (i j : ℕ). end_in (format_of form.format) form.n s i j) at_is end_is ∙ ends.1
 
     -- what is answered
-    step : record_of form s (walk_of s v) ≡ Record (a + y.place) y.size v.begins (walk_of s next)
+    abbrev read : RecordRead
+    read = record { start = a + y.place; length = y.size; begins = v.begins; next = walk_of s next }
+
+    step : record_of form s (walk_of s v) ≡ Some read
     step =
         record_is form s (walk_of s v) (a + behind y) (a + y.place) y.size (walk_of s next) (omega (arith, at_is, k.inside l, part.ends, part.most)) to_is
         (omega (arith, at_is, ends.0)) (omega (arith, at_is, ends.0)) behind_walk
-        ∙ ap (λ (t : Bool). Record (a + y.place) y.size t (walk_of s next)) (ap (λ (w : Walk). w.begins) (walk_in s v l))
+        ∙ ap (λ (t : Bool). Some (record { start = a + y.place; length = y.size; begins = t; next = walk_of s next })) (ap (λ (w : Walk). w.begins) (walk_in s v l))
 
     next_far : a + behind y ≤ (walk_of s next).at
     next_far = subst (λ (z : Walk). a + behind y ≤ z.at) behind_walk (behind_far form s (walk_of s v) (a + behind y))
 
-    passes : Passed p s rest (a + y.place) y.size v.begins (walk_of s next)
+    passes : Passed p s rest read
     passes =
         record {
           more = marked false here.more ++ marked_all k.later;
@@ -191,7 +194,7 @@ module _ (form : Form) (p : Plan) (s : List ℕ) (v : Place) (rest : List (Bool 
           walks = record { place = next; is = refl; stands = stands_next form p s v rest f k (behind y) l here.more here.left };
         }
 
-    inside : DataInside s (walk_of s v) (a + y.place) y.size (walk_of s next)
+    inside : DataInside s (walk_of s v) read
     unfolding bytes_left
     inside =
         record {
@@ -214,7 +217,7 @@ module _ (form : Form) (p : Plan) (s : List ℕ) (v : Place) (rest : List (Bool 
         }
 
   -- behind the last record
-  no_record : block_count s ≤ v.block → record_of form s (walk_of s v) ≡ End
+  no_record : block_count s ≤ v.block → record_of form s (walk_of s v) ≡ None
   unfolding record_of
   no_record m =
       let z = ap (λ (w : Walk). w.at) (walk_past s v m) in
@@ -257,10 +260,10 @@ module _ (form : Form) (p : Plan) (s : List ℕ) (f : FormIs form p) where
   walks_onwards zero w rest x = x
   walks_onwards (suc k) w rest x = go (λ v more y. walks_onwards k v more y) (record_of form s w) (says_of form p s w rest f x)
     where
-      go : ((v : Walk) (more : List (Bool × List ℕ)) → Walks p s v more → Walks p s (onwards form s k v) (drop k more)) → (r : RecordRead) → RecordSays p s rest r
+      go : ((v : Walk) (more : List (Bool × List ℕ)) → Walks p s v more → Walks p s (onwards form s k v) (drop k more)) → (r : Option RecordRead) → RecordSays p s rest r
           → Walks p s (on_record r w (λ next. onwards form s k next)) (drop (suc k) rest)
-      go ih (Record start size begins next) y = rw y.is (ih next y.more y.walks)
-      go ih End y = let z : rest ≡ drop (suc k) rest = rw y in subst (Walks p s w) z x
+      go ih (Some read) y = rw y.is (ih read.next y.more y.walks)
+      go ih None y = let z : rest ≡ drop (suc k) rest = rw y in subst (Walks p s w) z x
 
   -- the same place, with the first of the records marked
   walks_opened : (w : Walk) (rest : List (Bool × List ℕ)) → Walks p s w rest → Walks p s (opened_walk w) (opened rest)

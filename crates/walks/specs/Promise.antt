@@ -1,5 +1,5 @@
 -- What the functions promise: where a reel is read by the rules, a walk goes along just the records that these find.
-use Rattle.std.specs.Prelude.{◌≡◌, Bool, true, List, [], ◌∷◌, ◌++◌, ℕ, suc, ◌+◌, ◌-◌, ◌≤◌, ◌<◌, length, drop}
+use Rattle.std.specs.Prelude.{◌≡◌, Bool, true, Option, Some, None, List, [], ◌∷◌, ◌++◌, ℕ, suc, ◌+◌, ◌-◌, ◌≤◌, ◌<◌, length, drop}
 use Rattle.std.proofs.Math.Option.{some}
 use Rattle.std.proofs.Math.Seq.{slice}
 use Rattle.rules.specs.Answer.{fine}
@@ -13,7 +13,6 @@ use Rattle.pieces.specs.Form.{FormIs}
 use Rattle.reels.specs.Header.{block_part}
 use Rattle.walks.specs.declared.Walk.{Walk}
 use Rattle.walks.specs.declared.RecordRead.{RecordRead}
-use Rattle.walks.specs.declared.RecordRead.TheVariants.{Record, End}
 use Rattle.walks.specs.Marks.{marked, marked_all}
 use Rattle.walks.specs.Walking.{first_walk, record_of, taken_walk, Place, walk_of}
 
@@ -62,32 +61,32 @@ pub record Begun (form : Form) (s : List ℕ) (w : Walk) : Type 0 where
   pub all : (p : Plan) (recs : List (List (List ℕ))) → FormIs form p → Good p s recs → Walks p s w (marked_all recs)
 
 -- the record is the first of those that were left, and the walk goes on before the others
-pub record Passed (p : Plan) (s : List ℕ) (rest : List (Bool × List ℕ)) (start size : ℕ) (begins : Bool) (next : Walk) : Type 0 where
+pub record Passed (p : Plan) (s : List ℕ) (rest : List (Bool × List ℕ)) (read : RecordRead) : Type 0 where
   pub more : List (Bool × List ℕ)
-  pub is : rest ≡ (begins, slice start (start + size) s) ∷ more
-  pub long : least_data p ≤ size
-  pub walks : Walks p s next more
+  pub is : rest ≡ (read.begins, slice read.start (read.start + read.length) s) ∷ more
+  pub long : least_data p ≤ read.length
+  pub walks : Walks p s read.next more
 
-abbrev pub RecordSays : Plan → List ℕ → List (Bool × List ℕ) → RecordRead → Type 0
-RecordSays p s rest (Record start size begins next) = Passed p s rest start size begins next
-RecordSays p s rest End = rest ≡ []
+abbrev pub RecordSays : Plan → List ℕ → List (Bool × List ℕ) → Option RecordRead → Type 0
+RecordSays p s rest (Some read) = Passed p s rest read
+RecordSays p s rest None = rest ≡ []
 
 -- the bytes of the reel from a walk on, by which a loop over a walk ends
 unfoldable pub bytes_left : List ℕ → Walk → ℕ
 bytes_left s w = length s - w.at
 
 -- the data lies in the reel, and behind it less of the reel is left, at least by the data
-pub record DataInside (s : List ℕ) (w : Walk) (start size : ℕ) (next : Walk) : Type 0 where
-  pub ends : start + size ≤ length s
-  pub less : bytes_left s next < bytes_left s w
-  pub fewer : bytes_left s next + size ≤ bytes_left s w
+pub record DataInside (s : List ℕ) (w : Walk) (read : RecordRead) : Type 0 where
+  pub ends : read.start + read.length ≤ length s
+  pub less : bytes_left s read.next < bytes_left s w
+  pub fewer : bytes_left s read.next + read.length ≤ bytes_left s w
 
-abbrev pub Lies : List ℕ → Walk → RecordRead → Type 0
-Lies s w (Record start size begins next) = DataInside s w start size next
-Lies s w End = Unit
+abbrev pub Lies : List ℕ → Walk → Option RecordRead → Type 0
+Lies s w (Some read) = DataInside s w read
+Lies s w None = Unit
 
 -- the answer, and where it lies; and where the walk stands before some records of a good reel, that it is the first of them
-pub record RecordTold (form : Form) (s : List ℕ) (w : Walk) (r : RecordRead) : Type 0 where
+pub record RecordTold (form : Form) (s : List ℕ) (w : Walk) (r : Option RecordRead) : Type 0 where
   pub is : r ≡ record_of form s w
   pub lies : Lies s w r
   pub says : (p : Plan) (rest : List (Bool × List ℕ)) → FormIs form p → Walks p s w rest → RecordSays p s rest r

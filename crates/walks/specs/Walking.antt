@@ -1,5 +1,5 @@
 -- What a walk is answered, for every list of bytes and every walk; and which walk leads to a place of a block.
-use Rattle.std.specs.Prelude.{Bool, true, false, cond, List, ℕ, zero, suc, ◌+◌, ◌-◌, ◌*◌, ◌≤◌, ◌<◌, ltb, leb, length, get_or}
+use Rattle.std.specs.Prelude.{Bool, true, false, cond, Option, Some, None, List, ℕ, zero, suc, ◌+◌, ◌-◌, ◌*◌, ◌≤◌, ◌<◌, ltb, leb, length, get_or}
 use Rattle.rules.specs.Grammar.{Format, ff, fv, fu, fsp}
 use Rattle.rules.specs.Output.{cost}
 use Rattle.rules.specs.Reel.{block_count}
@@ -8,7 +8,6 @@ use Rattle.terms.specs.Meaning.{format_of}
 use Rattle.pieces.specs.declared.Form.{Form}
 use Rattle.walks.specs.declared.Walk.{Walk}
 use Rattle.walks.specs.declared.RecordRead.{RecordRead}
-use Rattle.walks.specs.declared.RecordRead.TheVariants.{Record, End}
 
 -- ---- the answers
 
@@ -39,18 +38,24 @@ end_in fsp n s at end = end
 
 -- the record at the walk's place, which ends at a place
 abbrev pub record_to : Form → List ℕ → Walk → ℕ → RecordRead
-record_to form s w end = Record (w.at + cost (format_of form.format)) (end - (w.at + cost (format_of form.format))) w.begins (behind_at form s w end)
+record_to form s w end =
+    record {
+      start = w.at + cost (format_of form.format);
+      length = end - (w.at + cost (format_of form.format));
+      begins = w.begins;
+      next = behind_at form s w end;
+    }
 
-unfoldable pub record_of : Form → List ℕ → Walk → RecordRead
-record_of form s w = cond (leb (length s) w.at) End (record_to form s w (end_in (format_of form.format) form.n s w.at w.end))
+unfoldable pub record_of : Form → List ℕ → Walk → Option RecordRead
+record_of form s w = cond (leb (length s) w.at) None (Some (record_to form s w (end_in (format_of form.format) form.n s w.at w.end)))
 
 -- the same place, before a record that counts as the first of its block
 abbrev pub opened_walk : Walk → Walk
 opened_walk w = record { word = w.word; at = w.at; end = w.end; begins = true }
 
-abbrev pub on_record : {A : Type 0} → RecordRead → A → (Walk → A) → A
-on_record (Record start size begins next) end go = go next
-on_record End end go = end
+abbrev pub on_record : {A : Type 0} → Option RecordRead → A → (Walk → A) → A
+on_record (Some read) end go = go read.next
+on_record None end go = end
 
 -- behind so many records, or where there is no further one
 abbrev pub onwards : Form → List ℕ → ℕ → Walk → Walk

@@ -24,37 +24,32 @@ pub struct Walk {
 
 // A record and the walk behind it: where its data starts in the reel, the length of the data, and whether it is the first of its block.
 #[derive(Clone, Copy)]
-pub enum RecordRead {
-    Record {
-        start: usize,
-        length: usize,
-        begins: bool,
-        next: Walk,
-    },
-    End,
+pub struct RecordRead {
+    pub start: usize,
+    pub length: usize,
+    pub begins: bool,
+    pub next: Walk,
 }
 
 // Before the first record of the block that starts at a place, or behind the last block.
+#[tactic(auto, unfolding(crate::specs::Walking::block_start))]
 fn block_start(form: Form, reel: &[u8], word: usize, from: usize) -> Walk
     requires { Starting form reel.now word from }
     ensures { result ≡ block_start form reel.now word from }
 {
-    let begins = true;
     if from >= reel.len() {
         return Walk {
             word,
             at: from,
             end: from,
-            begins,
+            begins: true,
         };
     }
-    let format = form.format;
-    let at = from + terms::cost(format);
     Walk {
         word,
-        at,
+        at: from + terms::cost(form.format),
         end: pieces::word(reel, word),
-        begins,
+        begins: true,
     }
 }
 
@@ -68,22 +63,20 @@ fn begin(form: Form, reel: &[u8]) -> Walk
 }
 
 // Behind a record that ends at a place: a block's end moves on to the next block, so that one call finds the next record.
+#[tactic(auto, unfolding(crate::specs::Walking::behind_at))]
 fn behind(form: Form, reel: &[u8], w: Walk, at: usize) -> Walk
     requires word_in_bounds { w.word ≤ length reel.now }
     requires starting { w.end ≤ at → Starting form reel.now (w.word + 4) at }
     ensures { result ≡ behind_at form reel.now w at }
 {
-    let word = w.word;
-    let end = w.end;
-    if at < end {
+    if at < w.end {
         return Walk {
-            word,
             at,
-            end,
             begins: false,
+            ..w
         };
     }
-    block_start(form, reel, word + 4, at)
+    block_start(form, reel, w.word + 4, at)
 }
 
 // Where the record at a place ends, in a block that ends at a place: in FV its word says so, which counts its own 4 bytes.
@@ -92,43 +85,36 @@ fn record_end(form: Form, reel: &[u8], at: usize, end: usize) -> usize
     requires end_in_bounds { end_in (format_of form.format) form.n reel.now at end ≤ length reel.now }
     ensures { result ≡ end_in (format_of form.format) form.n reel.now at end }
 {
-    let format = form.format;
-    match format {
+    match form.format {
         Format::FF => at + form.n,
         Format::FV => at + (256 * terms::wide(reel[at]) + terms::wide(reel[at + 1])),
-        Format::FU => end,
-        Format::FS => end,
+        Format::FU | Format::FS => end,
     }
 }
 
-// The record that a walk stands before, in constant time.
-pub fn record(form: Form, reel: &[u8], w: Walk) -> RecordRead
+// The record that a walk stands before, in constant time; none behind the last.
+pub fn record(form: Form, reel: &[u8], w: Walk) -> Option<RecordRead>
     requires { Standing form reel.now w }
     ensures { RecordTold form reel.now w result }
 {
-    let at = w.at;
-    if at >= reel.len() {
-        return RecordRead::End;
+    if w.at >= reel.len() {
+        return None;
     }
-    let format = form.format;
-    let start = at + terms::cost(format);
-    let end = record_end(form, reel, at, w.end);
-    let length = end - start;
-    RecordRead::Record {
+    let start = w.at + terms::cost(form.format);
+    let end = record_end(form, reel, w.at, w.end);
+    Some(RecordRead {
         start,
-        length,
+        length: end - start,
         begins: w.begins,
         next: behind(form, reel, w, end),
-    }
+    })
 }
 
 // The same place, before the first record that is taken.
 fn opened(w: Walk) -> Walk
     ensures { result ≡ opened_walk w }
 {
-    let mut first = w;
-    first.begins = true;
-    first
+    Walk { begins: true, ..w }
 }
 
 // Before record R, or behind the last record: R is the first that is taken of its block, so that it counts as the block's first.
@@ -137,23 +123,11 @@ pub fn taken(form: Form, reel: &[u8], first: usize) -> Walk
     ensures { WalkTaken form reel.now first result }
 {
     let mut w = begin(form, reel);
-    let mut number = 1;
-    while number < first {
-        let read = record(form, reel, w);
-        match read {
-            RecordRead::Record {
-                start: _,
-                length: _,
-                begins: _,
-                next,
-            } => {
-                w = next;
-                number += 1;
-            }
-            RecordRead::End => {
-                return opened(w);
-            }
-        }
+    for _number in 1..first {
+        let Some(read) = record(form, reel, w) else {
+            return opened(w);
+        };
+        w = read.next;
     }
     opened(w)
 }
@@ -172,8 +146,5 @@ pub fn fixed_start(form: Form, reel: &[u8], first: usize) -> usize
 pub fn rest(reel: &[u8], from: usize) -> &[u8]
     ensures { result.now ≡ drop from reel.now }
 {
-    if from < reel.len() {
-        return &reel[from..];
-    }
-    &reel[..0]
+    reel.get(from..).unwrap_or_default()
 }

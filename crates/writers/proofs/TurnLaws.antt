@@ -17,10 +17,10 @@ use Rattle.terms.specs.Meaning.{format_of}
 use Rattle.pieces.specs.declared.Form.{Form}
 use Rattle.walks.specs.declared.Walk.{Walk}
 use Rattle.walks.specs.declared.RecordRead.{RecordRead}
-use Rattle.walks.specs.declared.RecordRead.TheVariants.{Record}
+use Rattle.std.specs.Prelude.{Some}
 use Rattle.walks.specs.Marks.{marked_all}
 use Rattle.walks.specs.Promise.{Walks, Standing, RecordTold, WalkTaken}
-use Rattle.walks.proofs.PromiseLaws.{passed, inside, lent, lent_length}
+use Rattle.walks.proofs.PromiseLaws.{passed, lent, lent_length}
 use Rattle.tasks.specs.Promise.{form_of, output_length_of}
 use Rattle.tasks.proofs.LengthLaws.{form_given, out_length}
 use Rattle.fixed.specs.Promise.{Ready}
@@ -28,9 +28,9 @@ use Rattle.fillings.proofs.GatheredLaws.{outs}
 use Rattle.fixed.proofs.ReadyLaws.{marks_in, input_small}
 
 -- the record as it is lent, and its length
-pub record_long : {form : Form} {s : List ℕ} {w : Walk} {read : RecordRead} (t : RecordTold form s w read) {start size : ℕ} {begins : Bool} {next : Walk} (e : read ≡ Record start size begins next)
-    → length (take (start + size - start) (drop start s)) ≡ size
-record_long t e = ap length (lent t e) ∙ lent_length t e
+pub record_long : {form : Form} {s : List ℕ} {w : Walk} {read : RecordRead} (t : RecordTold form s w (Some read))
+    → length (take (read.start + read.length - read.start) (drop read.start s)) ≡ read.length
+record_long t = ap length (lent t) ∙ lent_length t
 
 module _ {task : Task} {s : List ℕ} {blocks room : ℕ} (x : Ready task s blocks room) where
   -- the walk stands in the reel
@@ -49,16 +49,15 @@ module _ {task : Task} {s : List ℕ} {blocks room : ℕ} (x : Ready task s bloc
     pub least : least_data x.p ≤ length r
     pub walks : Walks x.p s next more
 
-  module _ {form : Form} (same : form ≡ form_of task) {w : Walk} {rest : List (Bool × List ℕ)} (k : Walks x.p s w rest) {read : RecordRead} (t : RecordTold form s w read) {start size : ℕ} {begins : Bool}
-      {next : Walk} (e : read ≡ Record start size begins next) where
-    pub turn : Turn rest (take (start + size - start) (drop start s)) begins next
+  module _ {form : Form} (same : form ≡ form_of task) {w : Walk} {rest : List (Bool × List ℕ)} (k : Walks x.p s w rest) {read : RecordRead} (t : RecordTold form s w (Some read)) where
+    pub turn : Turn rest (take (read.start + read.length - read.start) (drop read.start s)) read.begins read.next
     turn =
-        let q = passed t e (form_given x.is same) k in
-        let r = take (start + size - start) (drop start s) in
-        let least : least_data x.p ≤ length r = omega (arith, q.long, record_long t e) in
+        let q = passed t (form_given x.is same) k in
+        let r = take (read.start + read.length - read.start) (drop read.start s) in
+        let least : least_data x.p ≤ length r = omega (arith, q.long, record_long t) in
         record {
           more = q.more;
-          left = ap (outs x.p) (q.is ∙ ap (λ (z : List ℕ). (begins, z) ∷ q.more) (sym (lent t e)));
+          left = ap (outs x.p) (q.is ∙ ap (λ (z : List ℕ). (read.begins, z) ∷ q.more) (sym (lent t)));
           long = out_length x.is x.good.accepted r least;
           least = least;
           walks = q.walks;
@@ -80,9 +79,9 @@ module _ {task : Task} {s : List ℕ} {blocks room : ℕ} (x : Ready task s bloc
   pub cost_small : task.cost ≤ 4
   cost_small = omega (arith, x.is.costs, cost_high x.p.format)
 
-  module _ {form : Form} {w : Walk} {read : RecordRead} (t : RecordTold form s w read) {start size : ℕ} {begins : Bool} {next : Walk} (e : read ≡ Record start size begins next) where
-    pub record_ends : start + size ≤ 65536
-    record_ends = omega (arith, (inside t e).ends, input_small)
+  module _ {form : Form} {w : Walk} {read : RecordRead} (t : RecordTold form s w (Some read)) where
+    pub record_ends : read.start + read.length ≤ 65536
+    record_ends = omega (arith, t.lies.ends, input_small)
 
-    pub record_few : length (take (start + size - start) (drop start s)) ≤ 65536
-    record_few = omega (arith, record_ends, record_long t e)
+    pub record_few : length (take (read.start + read.length - read.start) (drop read.start s)) ≤ 65536
+    record_few = omega (arith, record_ends, record_long t)

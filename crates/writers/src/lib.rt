@@ -11,7 +11,6 @@ ghost use Rattle.writers.specs.Promise.{Writable, DataPut, PiecePut, NextFits, N
 
 use fillings::Tally;
 use terms::{Format, Task};
-use walks::RecordRead;
 
 // The output of a record, at the front of out: TR carries records unchanged.
 fn put_data(task: Task, fields: &[u16], covered: bool, record: &[u8], out: &mut [u8])
@@ -20,8 +19,7 @@ fn put_data(task: Task, fields: &[u16], covered: bool, record: &[u8], out: &mut 
     requires covers { Covers fields.now task.width covered }
     ensures { DataPut task fields.now «record».now out.old out.new }
 {
-    let mode = task.mode;
-    if terms::selects(mode) {
+    if terms::selects(task.mode) {
         records::put_record(
             fields,
             task.n,
@@ -94,34 +92,17 @@ fn write_walked(task: Task, fields: &[u16], reel: &[u8], blocks: usize, out: &mu
     let form = tasks::form_of(task);
     let base = 4 * blocks + 8;
     let mut walk = walks::taken(form, reel, task.first);
-    let mut tally = Tally {
-        blocks: 0,
-        size: 0,
-        bytes: 0,
-    };
-    loop {
-        let read = walks::record(form, reel, walk);
-        match read {
-            RecordRead::Record {
-                start,
-                length,
-                begins,
-                next,
-            } => {
-                let n = tasks::output_length(task, length);
-                let more = fillings::tallied(task, tally, begins, n);
-                let end = start + length;
-                let record = &reel[start..end];
-                put_next(task, fields, covered, record, n, base, tally, more, out);
-                tally = more;
-                walk = next;
-            }
-            RecordRead::End => {
-                pieces::put_word(out, 4 * blocks + 4, base + tally.bytes);
-                return;
-            }
-        }
+    let mut tally = Tally::default();
+    while let Some(read) = walks::record(form, reel, walk) {
+        let n = tasks::output_length(task, read.length);
+        let more = fillings::tallied(task, tally, read.begins, n);
+        let end = read.start + read.length;
+        let record = &reel[read.start..end];
+        put_next(task, fields, covered, record, n, base, tally, more, out);
+        tally = more;
+        walk = read.next;
     }
+    pieces::put_word(out, 4 * blocks + 4, base + tally.bytes);
 }
 
 // The offsets from place 4 on, and behind them the blocks. FU has TC alone, whose output is its input; FS has writers of its own.
@@ -129,12 +110,10 @@ fn put_body(task: Task, fields: &[u16], reel: &[u8], blocks: usize, out: &mut [u
     requires { Lent task fields.now reel.now blocks (length out.old) }
     ensures { BodyPut task fields.now reel.now blocks out.old out.new }
 {
-    let format = task.format;
-    match format {
+    match task.format {
         Format::FF => fixed::write(task, fields, reel, blocks, out),
         Format::FV => write_walked(task, fields, reel, blocks, out),
-        Format::FU => {}
-        Format::FS => {}
+        Format::FU | Format::FS => {}
     }
 }
 

@@ -1,7 +1,7 @@
 -- Each turn looks at one offset more.
 use native.Mathlib.Omega.{arith}
 use Rattle.rules.proofs.Reel.ReelLaws.{header_is}
-use Rattle.measures.proofs.FixedLaws.{behind_start, behind_word, behind_small, behind_more, behind_same, behind_end}
+use Rattle.measures.proofs.FixedLaws.{behind_start, behind_word, behind_more, behind_same, behind_end}
 use Rattle.measures.proofs.blocks_behind.Goals as goal
 use Rattle.measures.proofs.blocks_behind.Goals.{else-from-word, then-from-word}
 
@@ -13,9 +13,6 @@ loop-i-init c = behind_start _ _ c.requires c.word-count.ensures.0
 
 pub word-requires : goal.word-requires
 word-requires c = behind_word c.loop-i.invariant (omega arith)
-
-pub overflow_add-blocks : goal.overflow_add-blocks
-overflow_add-blocks c = omega (arith, c.loop-i.invariant.few, behind_small c.loop-i.invariant)
 
 pub loop-i-preserved : goal.loop-i-preserved
 loop-i-preserved c =

@@ -3,8 +3,8 @@ use Rattle.walks.specs.Promise.{bytes_left}
 use Rattle.measures.proofs.SeekLaws.{Seeking}
 use Rattle.measures.proofs.first_walked.Given as goal
 
-abbrev pub invariant-loop-start : goal.invariant-loop-start
-invariant-loop-start l = Seeking l.form l.first l.fields l.reel l.w l.number
+abbrev pub invariant-loop-read : goal.invariant-loop-read
+invariant-loop-read l = Seeking l.form l.fn.task.first l.fields l.reel l.w l.number
 
-abbrev pub decreases-loop-start : goal.decreases-loop-start
-decreases-loop-start l = bytes_left l.reel l.w
+abbrev pub decreases-loop-read : goal.decreases-loop-read
+decreases-loop-read l = bytes_left l.reel l.w

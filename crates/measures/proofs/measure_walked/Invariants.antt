@@ -3,8 +3,8 @@ use Rattle.walks.specs.Promise.{bytes_left}
 use Rattle.measures.proofs.GoLaws.{Going}
 use Rattle.measures.proofs.measure_walked.Given as goal
 
-abbrev pub invariant-loop-length : goal.invariant-loop-length
-invariant-loop-length l = Going l.task l.reel l.walk l.number l.tally
+abbrev pub invariant-loop-read : goal.invariant-loop-read
+invariant-loop-read l = Going l.task l.reel l.walk l.number l.tally
 
-abbrev pub decreases-loop-length : goal.decreases-loop-length
-decreases-loop-length l = bytes_left l.reel l.walk
+abbrev pub decreases-loop-read : goal.decreases-loop-read
+decreases-loop-read l = bytes_left l.reel l.walk

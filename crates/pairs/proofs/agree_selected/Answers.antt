@@ -4,12 +4,8 @@ use Prim.Native.Nat.{◌≤◌}
 use lib.ListN.{length}
 use lib.Seq.{length-take-le}
 use borrow.Author.Rules.{part_to_end}
-use Rattle.pairs.proofs.AgreeLaws.{length_asked, record_long, width_inside, front_asked, other_length, front_changed, front_alone, tail_told}
+use Rattle.pairs.proofs.AgreeLaws.{width_inside, front_asked, other_length, front_changed, front_alone, tail_told}
 use Rattle.pairs.proofs.agree_selected.Goals as goal
-
--- theirs has B's n bytes
-pub output_length-requires : goal.output_length-requires
-output_length-requires c = length_asked c.requires
 
 pub returns-then-theirs-output_length : goal.returns-then-theirs-output_length
 returns-then-theirs-output_length c =
@@ -30,12 +26,6 @@ pub returns-then-not-written_over : goal.returns-then-not-written_over
 returns-then-not-written_over c =
     front_changed c.requires c.args.theirs.now c.output_length.result c.output_length.ensures c.if-theirs-output_length.false c.written_over.result
     c.written_over.ensures c.if-not-written_over.true
-
-pub slice_bounds-same-count : goal.slice_bounds-same-count
-slice_bounds-same-count c = record_long c.requires
-
-pub slice_bounds-same-start : goal.slice_bounds-same-start
-slice_bounds-same-start c = record_long c.requires
 
 pub slice_bounds-same-count-then-task : goal.slice_bounds-same-count-then-task
 slice_bounds-same-count-then-task c =

@@ -2,8 +2,8 @@
 use Rattle.pairs.proofs.PairLaws.{lacks_one, lacks_none}
 use Rattle.pairs.proofs.lacking.Goals as goal
 
-pub returns-in-Record : goal.returns-in-Record
-returns-in-Record c = lacks_one c.record-read.ensures c.in-Record.is
+pub returns-in-Some : goal.returns-in-Some
+returns-in-Some c = lacks_one c.in-Some.ensures
 
-pub returns-in-End : goal.returns-in-End
-returns-in-End c = lacks_none c.record-read.ensures c.in-End.is
+pub returns-in-None : goal.returns-in-None
+returns-in-None c = lacks_none c.in-None.ensures

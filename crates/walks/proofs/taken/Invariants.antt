@@ -1,10 +1,6 @@
 -- What is left of the way to record R leads to the same place from each turn on.
-use Prim.Native.Nat.{◌-◌}
 use Rattle.walks.proofs.AnswerLaws.{Going}
 use Rattle.walks.proofs.taken.Given as goal
 
 abbrev pub invariant-loop-number : goal.invariant-loop-number
-invariant-loop-number l = Going l.form l.reel l.first l.w l.number
-
-abbrev pub decreases-loop-number : goal.decreases-loop-number
-decreases-loop-number l = l.first - l.number
+invariant-loop-number l = Going l.form l.reel l.first l.w l._number

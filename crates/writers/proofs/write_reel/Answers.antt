@@ -1,14 +1,10 @@
 -- The count, and behind it the offsets and the blocks.
 use Rattle.writers.specs.Promise.{ReelPut}
-use Rattle.writers.proofs.WriteLaws.{count_room, first_lent, reel_put}
+use Rattle.writers.proofs.WriteLaws.{count_room, reel_put}
 use Rattle.writers.proofs.write_reel.Goals as goal
 
 pub put_word-requires : goal.put_word-requires
 put_word-requires c = count_room c.args.out.now c.requires
-
-pub put_body-requires : goal.put_body-requires
-put_body-requires c =
-    first_lent c.args.out.now c.requires _ c.put_word.ensures
 
 pub returns : goal.returns
 unfolding ReelPut

@@ -5,8 +5,8 @@ use Rattle.fixed.specs.Promise.{Lent}
 use Rattle.writers.proofs.LayingLaws.{Laying}
 use Rattle.writers.proofs.write_walked.Given as goal
 
-abbrev pub invariant-loop-start : goal.invariant-loop-start
-invariant-loop-start l = (y : Lent l.task l.fields l.reel l.blocks (length l.initial.out)) → Laying l.initial.out y l.out l.walk l.tally
+abbrev pub invariant-loop-read : goal.invariant-loop-read
+invariant-loop-read l = (y : Lent l.task l.fields l.reel l.blocks (length l.initial.out)) → Laying l.initial.out y l.out l.walk l.tally
 
-abbrev pub decreases-loop-start : goal.decreases-loop-start
-decreases-loop-start l = bytes_left l.reel l.walk
+abbrev pub decreases-loop-read : goal.decreases-loop-read
+decreases-loop-read l = bytes_left l.reel l.walk
