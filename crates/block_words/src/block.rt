@@ -1,6 +1,6 @@
 // Refusals 12 and 18: in what a block breaks its rule. Document 01, "Blocks and records".
 use crate::{segment, word};
-use pieces::{Cursor, Form, PieceRead};
+use pieces::{Cursor, Form};
 use std::fmt;
 use std::io::Print;
 use terms::Format;
@@ -53,7 +53,10 @@ fn said_too_long(to: &impl Print, asks: Asks, b: &[u8]) -> bool {
     if is_longer {
         let letter = if asks.is_single { 'g' } else { 'm' };
         say_size(to, b);
-        say(to, format_args!(", more than {}'s {letter}, {m}", asks.whose));
+        say(
+            to,
+            format_args!(", more than {}'s {letter}, {m}", asks.whose),
+        );
     }
     is_longer
 }
@@ -81,27 +84,14 @@ fn least_data(form: Form) -> usize {
 // The place of the first record in a block of FV that is wrong, or where the block ends.
 fn first_wrong(form: Form, b: &[u8]) -> usize {
     let least = least_data(form);
-    let mut at = 4;
-    while at < b.len() {
-        let read = pieces::piece(form, b, Cursor { at });
-        let PieceRead::Piece {
-            place: _,
-            length,
-            third: _,
-            next,
-        } = read
-        else {
-            return at;
-        };
-        if length < least {
-            return at;
+    let mut at = Cursor { at: 4 };
+    while let Ok(Some(piece)) = pieces::piece(form, b, at) {
+        if piece.length < least {
+            return at.at;
         }
-        if next.at <= at {
-            return at;
-        }
-        at = next.at;
+        at = piece.next;
     }
-    at
+    at.at
 }
 
 // Says that a record whose word is right has too few data.

@@ -30,9 +30,15 @@ fn say_offset(to: &impl Print, reel: &[u8], count: usize, i: usize)
 {
     let offset = offset(reel, i);
     if i >= count {
-        say(to, format_args!("the last offset, the reel's end, is {offset}"));
+        say(
+            to,
+            format_args!("the last offset, the reel's end, is {offset}"),
+        );
     } else {
-        say(to, format_args!("the offset of block {} is {offset}", i + 1));
+        say(
+            to,
+            format_args!("the offset of block {} is {offset}", i + 1),
+        );
     }
 }
 

@@ -1,6 +1,6 @@
 // Refusals 12 and 18 in FS: in what the segments of a block, whose own word is right, are none in turn. Document 02, order 6.
 use crate::word;
-use pieces::{Cursor, PieceRead};
+use pieces::Cursor;
 use std::io::Print;
 use words::say;
 
@@ -39,34 +39,24 @@ fn held_behind(held: Option<usize>, code: usize, size: usize) -> Option<usize> {
 
 // The place of the first segment in a block that is wrong, or where the block ends, behind so many bytes of an open record.
 fn first_wrong(b: &[u8], before: Option<usize>) -> Open {
-    let mut at = 4;
+    let mut at = Cursor { at: 4 };
     let mut held = before;
-    while at < b.len() {
-        let read = pieces::segment(b, Cursor { at });
-        let PieceRead::Piece {
-            place: _,
-            length,
-            third,
-            next,
-        } = read
-        else {
-            return Open { at, held };
-        };
-        if !in_turn(held, third, length) {
-            return Open { at, held };
+    while let Ok(Some(segment)) = pieces::segment(b, at) {
+        if !in_turn(held, segment.third, segment.length) {
+            break;
         }
-        if next.at <= at {
-            return Open { at, held };
-        }
-        held = held_behind(held, third, length);
-        at = next.at;
+        held = held_behind(held, segment.third, segment.length);
+        at = segment.next;
     }
-    Open { at, held }
+    Open { at: at.at, held }
 }
 
 // How many bytes the record has that is open before a block, from 0.
 fn held_before(reel: &[u8], block: usize) -> Option<usize> {
-    (0..block).fold(None, |held, i| first_wrong(reels::block(reel, i), held).held)
+    (0..block).fold(
+        None,
+        |held, i| first_wrong(reels::block(reel, i), held).held,
+    )
 }
 
 fn say_code(to: &impl Print, code: u8) {

@@ -5,8 +5,7 @@ ghost use Rattle.std.specs.Prelude.{◌≡◌, length};
 ghost use Rattle.io.specs.Counts.{IsPrefixLen};
 ghost use Rattle.pieces.proofs.PiecesLaws.{further};
 
-use pieces::{Cursor, Form, PieceRead};
-use reels::HeaderRead;
+use pieces::{Cursor, Form, FoundPiece, NoPiece};
 use terms::Format;
 
 // Room for the longest record. The `ensures` gives the length, which lending the array as a slice needs.
@@ -24,55 +23,42 @@ pub struct Gathered {
 }
 
 // Where the pieces of a block begin: in FS too behind a word of 4 bytes.
-fn first_place(format: Format) -> usize {
-    if terms::is_fs(format) {
-        return 4;
+pub fn first_place(format: Format) -> Cursor {
+    match format {
+        Format::FF | Format::FV | Format::FU => Cursor {
+            at: terms::cost(format),
+        },
+        Format::FS => Cursor { at: 4 },
     }
-    terms::cost(format)
 }
 
 // What stands at a place of a block: a record, in FS a segment.
-fn piece_at(form: Form, b: &[u8], at: usize) -> PieceRead
-    ensures { further at (length b.now) result }
+pub fn piece_at(form: Form, b: &[u8], at: Cursor) -> Result<Option<FoundPiece>, NoPiece>
+    ensures { further at.at (length b.now) result }
 {
-    let format = form.format;
-    if terms::is_fs(format) {
-        return pieces::segment(b, Cursor { at });
+    match form.format {
+        Format::FF | Format::FV | Format::FU => pieces::piece(form, b, at),
+        Format::FS => pieces::segment(b, at),
     }
-    pieces::piece(form, b, Cursor { at })
 }
 
-// The number behind so many records, of which no reel has more than 65,536.
-fn next_number(records: usize) -> usize {
-    if records < 65536 {
-        return records + 1;
-    }
-    records
-}
-
-// How many records there are with a piece of the next one: codes 0 and 2 end it.
-fn ended(records: usize, code: usize) -> usize {
-    if code % 2 == 0 {
-        return next_number(records);
-    }
-    records
-}
-
-// Behind a piece, whose bytes go into the room if its record is the wanted one.
+// Behind a piece of the next record, which codes 0 and 2 end; its bytes go into the room if that record is the wanted one.
 fn behind(before: Gathered, bytes: &[u8], code: usize, wanted: usize, room: &mut [u8]) -> Gathered
     requires { IsPrefixLen before.length room.old }
     ensures { IsPrefixLen result.length room.new }
 {
-    if next_number(before.records) == wanted {
-        return Gathered {
-            records: ended(before.records, code),
-            length: files::put(room, before.length, bytes),
-        };
-    }
-    Gathered {
-        records: ended(before.records, code),
-        length: before.length,
-    }
+    let number = before.records.saturating_add(1);
+    let records = if code % 2 == 0 {
+        number
+    } else {
+        before.records
+    };
+    let length = if number == wanted {
+        files::put(room, before.length, bytes)
+    } else {
+        before.length
+    };
+    Gathered { records, length }
 }
 
 // Behind a block.
@@ -80,47 +66,25 @@ fn behind_block(form: Form, b: &[u8], before: Gathered, wanted: usize, room: &mu
     requires { IsPrefixLen before.length room.old }
     ensures { IsPrefixLen result.length room.new }
 {
-    let format = form.format;
-    let mut at = first_place(format);
+    let mut at = first_place(form.format);
     let mut found = before;
-    loop {
-        let read = piece_at(form, b, at);
-        let PieceRead::Piece {
-            place,
-            length: _,
-            third,
-            next,
-        } = read
-        else {
-            return found;
-        };
-        at = next.at;
-        found = behind(found, &b[place..at], third, wanted, room);
+    while let Ok(Some(piece)) = piece_at(form, b, at) {
+        at = piece.next;
+        found = behind(found, &b[piece.place..at.at], piece.third, wanted, room);
     }
-}
-
-// How many blocks a reel has.
-fn blocks(reel: &[u8]) -> usize {
-    let read = reels::header(reel);
-    match read {
-        HeaderRead::Reel { blocks } => blocks,
-        HeaderRead::NoReel => 0,
-    }
+    found
 }
 
 // Counts the records of a reel, and puts the wanted one, from 1, into the room, as much of it as goes in. Where there is no such record its length is 0.
 pub fn gather(form: Form, reel: &[u8], wanted: usize, room: &mut [u8]) -> Gathered
     ensures { IsPrefixLen result.length room.new }
 {
-    let count = blocks(reel);
     let mut found = Gathered {
         records: 0,
         length: 0,
     };
-    let mut i = 0;
-    while i < count {
+    for i in 0..reels::header(reel).unwrap_or(0) {
         found = behind_block(form, reels::block(reel, i), found, wanted, room);
-        i += 1;
     }
     found
 }

@@ -3,16 +3,26 @@ use std::io::Print;
 use terms::{Asked, Field, Kind, ZONE};
 use words::{say, say_bytes};
 
-// How many bytes are left of what a field reads, from a position on, counted from 1; 0 where the field does not read there.
-fn left(f: Field, position: usize) -> usize {
-    if position < f.r {
-        return 0;
-    }
-    let before = position - f.r;
-    if f.input <= before {
-        return 0;
-    }
-    f.input - before
+// A half of a byte, by its value: the one that comes first, or the other.
+#[derive(Clone, Copy)]
+enum Half {
+    High(u8),
+    Low(u8),
+}
+
+// A byte that a field may not read: its position in the record, from 1, and the field with its number, from 1.
+#[derive(Clone, Copy)]
+struct Refused {
+    position: usize,
+    byte: u8,
+    number: usize,
+    field: Field,
+}
+
+// How many bytes are left of what a field reads, from a position on, counted from 1, if the field reads there.
+fn left(f: Field, position: usize) -> Option<usize> {
+    let before = position.checked_sub(f.r)?;
+    f.input.checked_sub(before).filter(|left| *left > 0)
 }
 
 fn is_digit(half: u8) -> bool {
@@ -20,125 +30,102 @@ fn is_digit(half: u8) -> bool {
 }
 
 // Whether a half of a byte may be packed: F before a digit, in the last byte a sign before it.
-fn packs(is_last: bool, is_high: bool, half: u8) -> bool {
-    if !is_high {
-        return is_digit(half);
+fn packs(is_last: bool, half: Half) -> bool {
+    match half {
+        Half::High(sign) if is_last => !is_digit(sign),
+        Half::High(zone) => zone == ZONE,
+        Half::Low(digit) => is_digit(digit),
     }
-    if is_last {
-        return !is_digit(half);
-    }
-    half == ZONE
 }
 
 // Whether a half of a byte may be unpacked: a digit, and behind the last one a sign.
-fn unpacks(is_last: bool, is_high: bool, half: u8) -> bool {
-    if is_last && !is_high {
-        return !is_digit(half);
+fn unpacks(is_last: bool, half: Half) -> bool {
+    match half {
+        Half::Low(sign) if is_last => !is_digit(sign),
+        Half::High(digit) | Half::Low(digit) => is_digit(digit),
     }
-    is_digit(half)
 }
 
 // Whether a field may not read a half of the byte at a position.
-fn refuses(f: Field, position: usize, is_high: bool, half: u8) -> bool {
-    let left = left(f, position);
-    if left == 0 {
-        return false;
-    }
-    let kind = f.kind;
-    match kind {
-        Kind::Copy => false,
-        Kind::Pack => !packs(left == 1, is_high, half),
-        Kind::Unpack => !unpacks(left == 1, is_high, half),
+fn refuses(f: Field, position: usize, half: Half) -> bool {
+    match (left(f, position), f.kind) {
+        (None, _) | (_, Kind::Copy) => false,
+        (Some(left), Kind::Pack) => !packs(left == 1, half),
+        (Some(left), Kind::Unpack) => !unpacks(left == 1, half),
     }
 }
 
-// The number of the first field that may not read a half of the byte at a position, or 0.
-fn first_refusing(fields: &[u16], position: usize, is_high: bool, half: u8) -> usize {
-    let count = fields.len() / 5;
-    let mut i = 0;
-    while i < count {
-        if refuses(rows::field_at(fields, i), position, is_high, half) {
-            return i + 1;
+// The first field that may not read a half of the byte at a position, behind its number.
+fn first_refusing(fields: &[u16], position: usize, half: Half) -> Option<(usize, Field)> {
+    for i in 0..fields.len() / 5 {
+        let field = rows::field_at(fields, i);
+        if refuses(field, position, half) {
+            return Some((i + 1, field));
         }
-        i += 1;
     }
-    0
+    None
 }
 
 // The same for a byte, of which the high half comes first.
-fn refusing(fields: &[u16], position: usize, byte: u8) -> usize {
-    let first = first_refusing(fields, position, true, byte / 16);
-    if first > 0 {
-        return first;
-    }
-    first_refusing(fields, position, false, byte % 16)
+fn refusing(fields: &[u16], position: usize, byte: u8) -> Option<(usize, Field)> {
+    first_refusing(fields, position, Half::High(byte / 16)).or_else(|| first_refusing(
+        fields,
+        position,
+        Half::Low(byte % 16),
+    ))
 }
 
-// The place, from 0, of the first byte of a record that a field may not read, or its length.
-fn first_refused(fields: &[u16], record: &[u8]) -> usize {
-    let mut i = 0;
-    while i < record.len() {
-        if refusing(fields, i + 1, record[i]) > 0 {
-            return i;
+// The first byte of a record that a field may not read.
+fn first_refused(fields: &[u16], record: &[u8]) -> Option<Refused> {
+    for (i, byte) in record.iter().enumerate() {
+        let position = i + 1;
+        if let Some((number, field)) = refusing(fields, position, *byte) {
+            return Some(Refused {
+                position,
+                byte: *byte,
+                number,
+                field,
+            });
         }
-        i += 1;
     }
-    i
+    None
 }
 
 // Says a position of a record, behind a key of so many bytes.
 fn say_position(to: &impl Print, position: usize, key: usize) {
-    say(to, "byte ");
     if key == 0 {
-        say(to, position);
-        say(to, " of the record");
-        return;
-    }
-    if position <= key {
-        say(to, position);
-        say(to, " of the key");
-        return;
-    }
-    say(to, position - key);
-    say(to, " of the data");
-}
-
-// Says what a field asks of a byte, of which it reads so many from there on.
-fn say_asked(to: &impl Print, kind: Kind, left: usize) {
-    match kind {
-        Kind::Copy => say(to, "to copy, a byte is any"),
-        Kind::Pack => {
-            if left == 1 {
-                say(
-                    to,
-                    "to pack, the last byte is a sign, hex A to F, and a digit",
-                );
-            } else {
-                say(to, "to pack, a byte is hex F and a digit");
-            }
-        }
-        Kind::Unpack => {
-            if left == 1 {
-                say(
-                    to,
-                    "to unpack, the last byte is a digit and a sign, hex A to F",
-                );
-            } else {
-                say(to, "to unpack, each half byte is a digit");
-            }
-        }
+        say(to, format_args!("byte {position} of the record"));
+    } else if position <= key {
+        say(to, format_args!("byte {position} of the key"));
+    } else {
+        say(to, format_args!("byte {} of the data", position - key));
     }
 }
 
-// Says that a field may not read the byte at a position, and why.
-fn say_refused(to: &impl Print, f: Field, key: usize, position: usize, byte: u8) {
+// What a field asks of a byte, be it the last one that it reads or not.
+fn asked_by(kind: Kind, is_last: bool) -> &'static str {
+    match (kind, is_last) {
+        (Kind::Copy, _) => "to copy, a byte is any",
+        (Kind::Pack, true) => "to pack, the last byte is a sign, hex A to F, and a digit",
+        (Kind::Pack, false) => "to pack, a byte is hex F and a digit",
+        (Kind::Unpack, true) => "to unpack, the last byte is a digit and a sign, hex A to F",
+        (Kind::Unpack, false) => "to unpack, each half byte is a digit",
+    }
+}
+
+// Says which field may not read a byte, and why.
+fn say_refused(to: &impl Print, deck: &[u8], key: usize, refused: Refused) {
+    let field = refused.field;
+    notices::field_on_card(to, deck, key, refused.number, field);
     say(to, ", reads ");
-    say_position(to, position, key);
+    say_position(to, refused.position, key);
     say(to, ", which is hex ");
-    say_bytes(to, &hexadecimal::hex(byte));
+    say_bytes(to, &hexadecimal::hex(refused.byte));
     say(to, ": ");
-    let kind = f.kind;
-    say_asked(to, kind, left(f, position));
+    say(
+        to,
+        asked_by(field.kind, left(field, refused.position) == Some(1)),
+    );
 }
 
 // What is said where nothing else was found.
@@ -146,33 +133,7 @@ fn say_wrong(to: &impl Print) {
     say(to, "this record has a half byte that a field may not read");
 }
 
-// Says the first field that may not read the byte at a position.
-fn say_byte(to: &impl Print, deck: &[u8], key: usize, fields: &[u16], position: usize, byte: u8) {
-    let first = refusing(fields, position, byte);
-    if first == 0 {
-        say_wrong(to);
-        return;
-    }
-    if fields.len() / 5 < first {
-        say_wrong(to);
-        return;
-    }
-    let f = rows::field_at(fields, first - 1);
-    notices::field_on_card(to, deck, key, first, f);
-    say_refused(to, f, key, position, byte);
-}
-
-// Says the first byte of a record that a field may not read, and the first such field.
-fn say_first(to: &impl Print, deck: &[u8], key: usize, fields: &[u16], record: &[u8]) {
-    let at = first_refused(fields, record);
-    if record.len() <= at {
-        say_wrong(to);
-        return;
-    }
-    say_byte(to, deck, key, fields, at + 1, record[at]);
-}
-
-// Says it of the record of a place.
+// Says the first byte of the record of a place that a field may not read, and the first such field.
 fn say_record(
     to: &impl Print,
     deck: &[u8],
@@ -181,22 +142,18 @@ fn say_record(
     reel: &[u8],
     place: usize,
 ) {
+    let form = tasks::form_of(tasks::task_of(asked));
     let mut room = gathers::record_room();
-    let found = gathers::gather(
-        tasks::form_of(tasks::task_of(asked)),
-        reel,
-        place,
-        &mut room,
-    );
-    let n = found.length;
-    say_first(to, deck, asked.key, fields, &room[..n]);
+    let found = gathers::gather(form, reel, place, &mut room);
+    match first_refused(fields, &room[..found.length]) {
+        Some(refused) => say_refused(to, deck, asked.key, refused),
+        None => say_wrong(to),
+    }
 }
 
 // Says which byte of the record of a place, from 1, a field may not read. A deck that runs has a plan.
 pub(crate) fn explain(to: &impl Print, deck: &[u8], reel: &[u8], place: usize) {
-    say(to, ", at record ");
-    say(to, place);
-    say(to, " of the input: ");
+    say(to, format_args!(", at record {place} of the input: "));
     let mut row = [0u16; 320];
     let plan = plans::plan_deck(deck, &mut row);
     if plan.answer.refusal != 0 {

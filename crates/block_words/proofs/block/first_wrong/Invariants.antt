@@ -1,10 +1,6 @@
--- The bytes that are left fall, so the loop ends.
-use Prim.Native.Nat.{◌-◌}
-use lib.ListN.{length}
+-- A piece lies behind its place and inside the block, so that fewer bytes are left at each turn.
+use Rattle.std.proofs.Common.{◌-◌, length}
 use Rattle.block_words.proofs.block.first_wrong.Given as goal
 
-abbrev pub invariant-loop-at : goal.invariant-loop-at
-invariant-loop-at l = Unit {0}
-
-abbrev pub decreases-loop-at : goal.decreases-loop-at
-decreases-loop-at l = length l.b - l.at
+abbrev pub decreases-loop-piece : goal.decreases-loop-piece
+decreases-loop-piece l = length l.b - l.at.at
