@@ -90,11 +90,8 @@ fn deck_and_reel(to: &impl Print, words: &[u8]) {
         shown::refusal(to, read.refusal, read.place, read.column);
         return;
     }
-    reel::tell(
-        to,
-        reel::form_of(read.asked),
-        text::decode(reel, &mut bytes),
-    );
+    let form = tasks::form_of(tasks::task_of(read.asked));
+    reel::tell(to, form, text::decode(reel, &mut bytes));
 }
 
 fn deck_and_table(to: &impl Print, words: &[u8]) {

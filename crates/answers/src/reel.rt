@@ -1,23 +1,10 @@
 // What a reel is read as, as words of a line.
 use crate::shown;
-use pieces::{Cursor, Form, PieceRead, StartRead};
-use reels::ReelRead;
+use pieces::{Form, FoundPiece};
+use reels::{Contents, ReelError};
 use std::io::Print;
-use terms::{Asked, Format};
+use terms::Format;
 use words::say;
-
-// What the cards ask of blocks.
-pub(crate) fn form_of(asked: Asked) -> Form {
-    let mode = asked.mode;
-    let format = asked.format;
-    let input = asked.input;
-    Form {
-        format,
-        n: terms::record_length(input),
-        m: terms::block_length(input),
-        selects: terms::selects(mode),
-    }
-}
 
 // What was told of records: whether of any, and how many bytes of the next were read.
 #[derive(Clone, Copy)]
@@ -26,26 +13,12 @@ struct Told {
     held: usize,
 }
 
-// The sum of two lengths, of which none is that of more than a reel: said so that it is seen to fit.
-fn sum(a: usize, b: usize) -> usize {
-    if a > 65536 {
-        return a;
-    }
-    if b > 65536 {
-        return a;
-    }
-    a + b
-}
-
 // What is told behind a piece. Codes 0 and 2 end a record: the length of its data is told, with a comma before each but the first of the reel. In FS alone there
 // are others, and a record is its segments joined.
-fn with_piece(to: &impl Print, told: Told, length: usize, code: usize) -> Told {
-    let held = sum(told.held, length);
-    if code % 2 == 1 {
-        return Told {
-            any: told.any,
-            held,
-        };
+fn with_piece(to: &impl Print, told: Told, piece: FoundPiece) -> Told {
+    let held = told.held.saturating_add(piece.length);
+    if piece.third % 2 == 1 {
+        return Told { held, ..told };
     }
     if told.any {
         say(to, ",");
@@ -54,111 +27,46 @@ fn with_piece(to: &impl Print, told: Told, length: usize, code: usize) -> Told {
     Told { any: true, held: 0 }
 }
 
-// The pieces of a block from a place on.
-fn pieces_from(to: &impl Print, form: Form, block: &[u8], from: Cursor, before: Told) -> Told {
-    let mut at = from.at;
-    let mut told = before;
-    loop {
-        let read = pieces::piece(form, block, Cursor { at });
-        match read {
-            PieceRead::Piece {
-                place: _,
-                length,
-                third,
-                next,
-            } => {
-                told = with_piece(to, told, length, third);
-                at = next.at;
-            }
-            PieceRead::End => return told,
-            PieceRead::Bad => return told,
-        }
-    }
-}
-
-fn pieces(to: &impl Print, form: Form, block: &[u8], before: Told) -> Told {
-    let start = pieces::start(form, block);
-    match start {
-        StartRead::From { cursor } => pieces_from(to, form, block, cursor, before),
-        StartRead::NoStart => before,
-    }
-}
-
-// The same in FS.
-fn segments_from(to: &impl Print, block: &[u8], from: Cursor, before: Told) -> Told {
-    let mut at = from.at;
-    let mut told = before;
-    loop {
-        let read = pieces::segment(block, Cursor { at });
-        match read {
-            PieceRead::Piece {
-                place: _,
-                length,
-                third,
-                next,
-            } => {
-                told = with_piece(to, told, length, third);
-                at = next.at;
-            }
-            PieceRead::End => return told,
-            PieceRead::Bad => return told,
-        }
-    }
-}
-
-fn segments(to: &impl Print, block: &[u8], before: Told) -> Told {
-    let start = pieces::variable_start(block);
-    match start {
-        StartRead::From { cursor } => segments_from(to, block, cursor, before),
-        StartRead::NoStart => before,
-    }
-}
-
+// The pieces of a block, which are records, in FS segments.
 fn in_block(to: &impl Print, form: Form, block: &[u8], before: Told) -> Told {
-    let format = form.format;
-    match format {
-        Format::FF => pieces(to, form, block, before),
-        Format::FV => pieces(to, form, block, before),
-        Format::FU => pieces(to, form, block, before),
-        Format::FS => segments(to, block, before),
+    let mut at = gathers::first_place(form.format);
+    let mut told = before;
+    while let Ok(Some(piece)) = gathers::piece_at(form, block, at) {
+        told = with_piece(to, told, piece);
+        at = piece.next;
     }
+    told
 }
 
-// The length of each record, block after block.
-fn lengths(to: &impl Print, form: Form, reel: &[u8], blocks: usize) {
+// The length of each record, block after block; `-` for none.
+fn lengths(to: &impl Print, form: Form, reel: &[u8], contents: Contents) {
+    if contents.records == 0 {
+        say(to, "-");
+    }
     let mut told = Told {
         any: false,
         held: 0,
     };
-    let mut i = 0;
-    while i < blocks {
+    for i in 0..contents.blocks {
         told = in_block(to, form, reels::block(reel, i), told);
-        i += 1;
     }
 }
 
-fn read(form: Form, reel: &[u8]) -> ReelRead {
-    let format = form.format;
-    match format {
-        Format::FF => reels::read_reel(form, reel),
-        Format::FV => reels::read_reel(form, reel),
-        Format::FU => reels::read_reel(form, reel),
+fn read(form: Form, reel: &[u8]) -> Result<Contents, ReelError> {
+    match form.format {
+        Format::FF | Format::FV | Format::FU => reels::read_reel(form, reel),
         Format::FS => turns::read_spanned(form.m, reel),
     }
 }
 
 pub(crate) fn tell(to: &impl Print, form: Form, reel: &[u8]) {
-    let read = read(form, reel);
-    match read {
-        ReelRead::Read { blocks, records } => {
+    match read(form, reel) {
+        Ok(contents) => {
             shown::refusal(to, 0, 0, 0);
-            say(to, format_args!(" {blocks} {records} "));
-            if records == 0 {
-                say(to, "-");
-            }
-            lengths(to, form, reel, blocks);
+            say(to, format_args!(" {} {} ", contents.blocks, contents.records));
+            lengths(to, form, reel, contents);
         }
-        ReelRead::NotReel => shown::refusal(to, 11, 0, 0),
-        ReelRead::BadBlock { block } => shown::refusal(to, 12, block, 0),
+        Err(ReelError::NotReel) => shown::refusal(to, 11, 0, 0),
+        Err(ReelError::BadBlock { block }) => shown::refusal(to, 12, block, 0),
     }
 }
