@@ -15,11 +15,9 @@ pub fn put_steps(step: usize, base: usize, end: usize, out: &mut [u8])
     ensures { out.new ≡ over 4 (stepped (end - base) step base end) out.old }
 {
     let mut at = 4;
-    let mut next = base;
-    while next < end {
+    for next in (base..end).step_by(step) {
         pieces::put_word(out, at, next);
         at += 4;
-        next += step;
     }
     pieces::put_word(out, at, end);
 }
@@ -57,10 +55,8 @@ pub fn put_each(n: usize, w: usize, reel: &[u8], from: usize, base: usize, out: 
     pieces::put_word(out, 4, base);
     let count = pieces::word(reel, 0);
     let mut at = 8;
-    let mut i = 0;
-    while i < count {
+    for i in 0..count {
         let end = pieces::word(reel, 4 * i + 8);
         at = put_end(n, w, from, base, end, at, out);
-        i += 1;
     }
 }

@@ -1,8 +1,6 @@
 -- Each turn looks at one offset of the input more.
-use mathlib.Core.Path.{◌∙◌}
 use native.Mathlib.Omega.{arith}
 use Rattle.rules.proofs.Reel.ReelLaws.{header_is}
-use Rattle.offsets.proofs.Sending.{sent_length}
 use Rattle.offsets.proofs.EachLaws.{each_start, each_word, each_small, each_room, each_more, each_end, first_room, rest_room, both_put}
 use Rattle.offsets.proofs.put_each.Goals as goal
 
@@ -26,9 +24,6 @@ put_end-at-requires c =
 
 pub loop-i-preserved : goal.loop-i-preserved
 loop-i-preserved c = each_more c.loop-i.invariant (omega arith) _ c.word-end.ensures.0 _ c.put_end-at.ensures.place _ c.put_end-at.ensures.offset
-
-pub shape_of-out : goal.shape_of-out
-shape_of-out c = sent_length c.loop-i.invariant.sent ∙ c.put_word.auto.out
 
 pub returns : goal.returns
 returns c = both_put _ _ _ c.requires.reel_in_bounds _ _ c.put_word.ensures (each_end c.loop-i.invariant (omega arith))
