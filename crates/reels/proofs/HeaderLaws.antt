@@ -2,11 +2,14 @@
 use mathlib.Core.Path.{◌≡◌, refl, ap, sym, ◌∙◌}
 use mathlib.Core.Bool.{Bool, true, false}
 use mathlib.Core.List.{List, [], ◌∷◌}
+use mathlib.Core.Logic.{◌⊎◌, inl, inr}
+use denote.Bor.{Bor}
 use Prim.Native.Nat.{ℕ, suc, ◌+◌, ◌-◌, ◌*◌, ◌≤◌, ◌<◌}
 use native.Mathlib.Omega.{arith}
 use lib.ListN.{length, take, drop, get_or, length-take, drop_of_length-le}
 use lib.Seq.{slice}
-use borrow.Author.Tests.{le-leb, lt-leb}
+use lib.Dec.{leb}
+use borrow.Author.Tests.{le-leb, lt-leb, leb-true, leb-false}
 use Rattle.rules.specs.Reel.{block_count, is_reel, blocks_of}
 use Rattle.rules.specs.ReelPlaces.{word_at, offset_at}
 use Rattle.rules.proofs.Base.Lists.{slice_part}
@@ -15,7 +18,7 @@ use Rattle.rules.proofs.Reel.ReelLaws.{header_is}
 use Rattle.rules.proofs.Reel.ReelSteps.{offset_most, blocks_step, block_at, length_block}
 use Rattle.rules.proofs.Base.Tests.{never_true}
 use Rattle.reels.specs.Header.{header_of, block_part}
-use Rattle.std.specs.Prelude.{Some, None}
+use Rattle.std.specs.Prelude.{Option, Some, None, MatchOption, slice_range, unwrap_or}
 use Rattle.std.specs.Bool.{then_some}
 
 pub no_reel : (s : List ℕ) → is_reel s ≡ false → None ≡ header_of s
@@ -55,21 +58,35 @@ pub words_missing : (s : List ℕ) (i : ℕ) → length s < 4 * i + 12 → [] �
 unfolding block_part
 words_missing s i l = rw (lt-leb (4 * i + 12) (length s) l)
 
-pub part_outside : (s : List ℕ) (i e : ℕ) → 4 * i + 12 ≤ length s → e ≡ word_at s (4 * i + 8) → length s < e → [] ≡ block_part s i
+part_outside : (s : List ℕ) (i e : ℕ) → 4 * i + 12 ≤ length s → e ≡ word_at s (4 * i + 8) → length s < e → [] ≡ block_part s i
 unfolding block_part
 part_outside s i e l n m = rw (le-leb (4 * i + 12) (length s) l, lt-leb (offset_at s (suc i)) (length s) (omega (arith, next_at s i)))
 
-pub part_backwards : (s : List ℕ) (i a e : ℕ) → 4 * i + 12 ≤ length s → a ≡ word_at s (4 * i + 4) → e ≡ word_at s (4 * i + 8) → e ≤ length s → e < a → [] ≡ block_part s i
+part_backwards : (s : List ℕ) (i a e : ℕ) → 4 * i + 12 ≤ length s → a ≡ word_at s (4 * i + 4) → e ≡ word_at s (4 * i + 8) → e ≤ length s → e < a → [] ≡ block_part s i
 part_backwards s i a e l f n m d =
     let o : offset_at s (suc i) ≡ e = next_at s i ∙ sym n in
     let z : length (take (offset_at s (suc i)) s) ≤ offset_at s i = omega (arith, length-take (offset_at s (suc i)) s) in
     sym (part_there s i l (omega arith) ∙ drop_of_length-le (take (offset_at s (suc i)) s) {i = offset_at s i} z)
 
-pub part_taken : (s : List ℕ) (i a e : ℕ) → 4 * i + 12 ≤ length s → a ≡ word_at s (4 * i + 4) → e ≡ word_at s (4 * i + 8) → e ≤ length s → a ≤ e
+part_taken : (s : List ℕ) (i a e : ℕ) → 4 * i + 12 ≤ length s → a ≡ word_at s (4 * i + 4) → e ≡ word_at s (4 * i + 8) → e ≤ length s → a ≤ e
     → take (e - a) (drop a s) ≡ block_part s i
 part_taken s i a e l f n m d =
     let o : offset_at s (suc i) ≡ e = next_at s i ∙ sym n in
     sym (part_there s i l (omega arith) ∙ ap (λ (x : ℕ). slice (offset_at s i) x s) o ∙ ap (λ (x : ℕ). slice x e s) (sym f) ∙ slice_part a e s d)
+
+part_missing : (s : List ℕ) (i a e : ℕ) → 4 * i + 12 ≤ length s → a ≡ word_at s (4 * i + 4) → e ≡ word_at s (4 * i + 8) → (e < a) ⊎ (length s < e) → [] ≡ block_part s i
+part_missing s i a e l f n (inr m) = part_outside s i e l n m
+part_missing s i a e l f n (inl m) = go (leb e (length s)) refl
+  where
+    go : (t : Bool) → leb e (length s) ≡ t → [] ≡ block_part s i
+    go true t = part_backwards s i a e l f n (leb-true e (length s) t) m
+    go false t = part_outside s i e l n (leb-false e (length s) t)
+
+-- what `get` gives, or no byte
+pub part_got : (s : List ℕ) (i a e : ℕ) → 4 * i + 12 ≤ length s → a ≡ word_at s (4 * i + 4) → e ≡ word_at s (4 * i + 8) → (r : Option (Bor (List ℕ))) (d : Bor (List ℕ)) → [] ≡ d.now
+    → MatchOption r ((e < a) ⊎ (length s < e)) (λ x. (a ≤ e) × (e ≤ length s) × (x.now ≡ slice_range s a e) × (length x.now + a ≡ e)) → (unwrap_or r d).now ≡ block_part s i
+part_got s i a e l f n None d z h = sym z ∙ part_missing s i a e l f n h
+part_got s i a e l f n (Some x) d z h = h.2 ∙ part_taken s i a e l f n h.1 h.0
 
 -- block i of a reel is the part between offset i and offset i+1
 pub part_is : (s : List ℕ) (i : ℕ) → is_reel s ≡ true → i < block_count s → block_part s i ≡ slice (offset_at s i) (offset_at s (suc i)) s

@@ -43,21 +43,12 @@ pub fn block(reel: &[u8], i: usize) -> &[u8]
     ensures { result.now ≡ block_part reel.now i }
 {
     let end = reel.len();
-    if end < 12 {
-        return &reel[..0];
-    }
-    if i > (end - 12) / 4 {
-        return &reel[..0];
+    if end < 12 || i > (end - 12) / 4 {
+        return &[];
     }
     let a = pieces::word(reel, 4 * i + 4);
     let e = pieces::word(reel, 4 * i + 8);
-    if e > end {
-        return &reel[..0];
-    }
-    if e < a {
-        return &reel[..0];
-    }
-    &reel[a..e]
+    reel.get(a..e).unwrap_or(&[])
 }
 
 // What a reel that keeps the rules has: so many blocks and records.
