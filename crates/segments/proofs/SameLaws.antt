@@ -13,16 +13,11 @@ use Rattle.reels.specs.Header.{block_part}
 use Rattle.segments.specs.declared.Spot.{Spot}
 use Rattle.segments.specs.Spots.{passed_by, on_data}
 use Rattle.segments.specs.Promise.{Streams, Streamed, SameData}
-use Rattle.segments.proofs.StreamLaws.{lent_part, Streaming, streaming_start, streaming_block, streaming_some, streaming_room, streaming_part, streaming_more}
+use Rattle.segments.proofs.StreamLaws.{Streaming, streaming_start, streaming_block, streaming_some, streaming_room, streaming_part, streaming_more}
 
 -- so many of the bytes of its block from the spot's own place on
 abbrev pub Part : List ℕ → Spot → ℕ → List ℕ
 Part s v n = take n (drop v.from (block_part s v.block))
-
--- the bytes as they are lent, `&b[from..from + n]` and `&c[at..at + n]`
-pub lent_same : (s : List ℕ) (v : Spot) (t : List ℕ) (u : Spot) (n : ℕ) (b c : List ℕ) → b ≡ block_part s v.block → c ≡ block_part t u.block → (r : Bool)
-    → (r ≡ true) ↔ (take (v.from + n - v.from) (drop v.from b) ≡ take (u.from + n - u.from) (drop u.from c)) → (r ≡ true) ↔ (Part s v n ≡ Part t u n)
-lent_same s v t u n b c d e r k = (λ q. sym (lent_part s v n b d) ∙ k.0 q ∙ lent_part t u n c e, λ q. k.1 (lent_part s v n b d ∙ q ∙ sym (lent_part t u n c e)))
 
 -- bytes in the middle are those of the front that holds them
 middle : (done size n : ℕ) (x : List ℕ) → done + size ≤ n → take size (drop done x) ≡ drop done (take (done + size) (take n x))

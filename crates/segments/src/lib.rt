@@ -85,9 +85,8 @@ fn passed(v: Spot, n: usize) -> Spot
     ensures { result ≡ passed_by n v }
 {
     Spot {
-        block: v.block,
         from: v.from + n,
-        to: v.to,
+        ..v
     }
 }
 
@@ -173,10 +172,8 @@ fn same_part(reel: &[u8], v: Spot, t: &[u8], u: Spot, n: usize) -> bool
     let b = reels::block(reel, v.block);
     let c = reels::block(t, u.block);
     let start = v.from;
-    let end = start + n;
     let at = u.from;
-    let past = at + n;
-    check::same(&b[start..end], &c[at..past])
+    b[start..start + n] == c[at..at + n]
 }
 
 // Whether so many bytes of data from a spot on are those from a spot of another reel on, across segments and blocks of both.

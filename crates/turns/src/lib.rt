@@ -42,8 +42,8 @@ fn taken(counts: Counts, code: usize, size: usize) -> Counts
         }
     } else {
         Counts {
-            records: counts.records,
             held: counts.held + size,
+            ..counts
         }
     }
 }
