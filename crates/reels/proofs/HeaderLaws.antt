@@ -58,17 +58,17 @@ pub words_missing : (s : List ℕ) (i : ℕ) → length s < 4 * i + 12 → [] �
 unfolding block_part
 words_missing s i l = rw (lt-leb (4 * i + 12) (length s) l)
 
-part_outside : (s : List ℕ) (i e : ℕ) → 4 * i + 12 ≤ length s → e ≡ word_at s (4 * i + 8) → length s < e → [] ≡ block_part s i
+pub part_outside : (s : List ℕ) (i e : ℕ) → 4 * i + 12 ≤ length s → e ≡ word_at s (4 * i + 8) → length s < e → [] ≡ block_part s i
 unfolding block_part
 part_outside s i e l n m = rw (le-leb (4 * i + 12) (length s) l, lt-leb (offset_at s (suc i)) (length s) (omega (arith, next_at s i)))
 
-part_backwards : (s : List ℕ) (i a e : ℕ) → 4 * i + 12 ≤ length s → a ≡ word_at s (4 * i + 4) → e ≡ word_at s (4 * i + 8) → e ≤ length s → e < a → [] ≡ block_part s i
+pub part_backwards : (s : List ℕ) (i a e : ℕ) → 4 * i + 12 ≤ length s → a ≡ word_at s (4 * i + 4) → e ≡ word_at s (4 * i + 8) → e ≤ length s → e < a → [] ≡ block_part s i
 part_backwards s i a e l f n m d =
     let o : offset_at s (suc i) ≡ e = next_at s i ∙ sym n in
     let z : length (take (offset_at s (suc i)) s) ≤ offset_at s i = omega (arith, length-take (offset_at s (suc i)) s) in
     sym (part_there s i l (omega arith) ∙ drop_of_length-le (take (offset_at s (suc i)) s) {i = offset_at s i} z)
 
-part_taken : (s : List ℕ) (i a e : ℕ) → 4 * i + 12 ≤ length s → a ≡ word_at s (4 * i + 4) → e ≡ word_at s (4 * i + 8) → e ≤ length s → a ≤ e
+pub part_taken : (s : List ℕ) (i a e : ℕ) → 4 * i + 12 ≤ length s → a ≡ word_at s (4 * i + 4) → e ≡ word_at s (4 * i + 8) → e ≤ length s → a ≤ e
     → take (e - a) (drop a s) ≡ block_part s i
 part_taken s i a e l f n m d =
     let o : offset_at s (suc i) ≡ e = next_at s i ∙ sym n in
