@@ -1,13 +1,15 @@
 -- What the numbers say, of what the functions promise: a half has 0 exactly if it is not lost, and else why; the tail is said to be lost exactly if it is; a number of a
 -- field is that of the last. It holds since each promise is the rules' answer, of which it is proved.
-use mathlib.Core.Path.{◌≡◌, ap, sym, ◌∙◌, subst}
+use mathlib.Core.Path.{◌≡◌, refl, ap, sym, ◌∙◌, subst}
 use mathlib.Core.Logic.{◌↔◌}
 use mathlib.Core.Bool.{Bool, true}
 use mathlib.Core.List.{List, []}
-use Prim.Native.Nat.{ℕ, ◌≤◌, ◌<◌}
+use Prim.Native.Nat.{ℕ, zero, suc, ◌≤◌, ◌<◌}
 use native.Mathlib.Nat.{zero-add}
 use native.Mathlib.Omega.{arith}
 use lib.ListN.{get_or}
+use borrow.Author.Tests.{ne_eqb}
+use Rattle.std.proofs.Common.{Option, Some, None}
 use Rattle.rules.specs.Halves.{Field as RuleField}
 use Rattle.rules.specs.Plan.{Plan, record_length, input_halves}
 use Rattle.rules.specs.Lent.{zone_f}
@@ -24,6 +26,7 @@ use Rattle.terms.specs.declared.Asked.{Asked}
 use Rattle.rows.specs.Kept.{fields_in}
 use Rattle.rows.specs.Fair.{PlanFair}
 use Rattle.reasons.proofs.FairLaws.{fields_fair}
+use Rattle.losses.specs.Promise.{place_of}
 
 module _ (x : Asked) (row : List ℕ) (fair : PlanFair x row) where
   abbrev the_plan : Plan
@@ -51,12 +54,20 @@ module _ (x : Asked) (row : List ℕ) (fair : PlanFair x row) where
       let w = (losses_say the_plan zone_low fair.accepted).tail in
       (λ t. w.0 (sym (e (fields_in row)) ∙ t), λ t. e (fields_in row) ∙ w.1 t)
 
--- of `last_reader` and `last_writer`
-pub reader_demands : (h : ℕ) (fs : List RuleField) (r : ℕ) → r ≡ last_reader h fs → LastSays (λ f. Reads f h) fs r
-reader_demands h fs r e = subst (LastSays (λ f. Reads f h) fs) (sym e) (last_reader_says h fs)
+-- of `last_reader` and `last_writer`, where none is number 0
+abbrev pub number_in : Option ℕ → ℕ
+number_in None = 0
+number_in (Some n) = n
 
-pub writer_demands : (i : ℕ) (fs : List RuleField) (r : ℕ) → r ≡ last_writer i fs → LastSays (WritesAt i) fs r
-writer_demands i fs r e = subst (LastSays (WritesAt i) fs) (sym e) (last_writer_says i fs)
+number_of_place : (n : ℕ) → number_in (place_of n) ≡ n
+number_of_place zero = refl
+number_of_place (suc n) = rw (ne_eqb (suc n) 0 (λ e. omega arith))
+
+pub reader_demands : (h : ℕ) (fs : List RuleField) (r : Option ℕ) → r ≡ place_of (last_reader h fs) → LastSays (λ f. Reads f h) fs (number_in r)
+reader_demands h fs r e = subst (LastSays (λ f. Reads f h) fs) (sym (ap number_in e ∙ number_of_place (last_reader h fs))) (last_reader_says h fs)
+
+pub writer_demands : (i : ℕ) (fs : List RuleField) (r : Option ℕ) → r ≡ place_of (last_writer i fs) → LastSays (WritesAt i) fs (number_in r)
+writer_demands i fs r e = subst (LastSays (WritesAt i) fs) (sym (ap number_in e ∙ number_of_place (last_writer i fs))) (last_writer_says i fs)
 
 -- ---- one outcome only
 
@@ -66,8 +77,8 @@ only_one_losses x row r r' e e' = e ∙ sym e'
 pub only_one_tail : (x : Asked) (r r' : Bool) → ((fs : List RuleField) → r ≡ is_tail_lost (plan_in zone_f x fs)) → ((fs : List RuleField) → r' ≡ is_tail_lost (plan_in zone_f x fs)) → r ≡ r'
 only_one_tail x r r' e e' = e [] ∙ sym (e' [])
 
-pub only_one_reader : (h : ℕ) (row : List ℕ) (r r' : ℕ) → r ≡ last_reader h (fields_in row) → r' ≡ last_reader h (fields_in row) → r ≡ r'
+pub only_one_reader : (h : ℕ) (row : List ℕ) (r r' : Option ℕ) → r ≡ place_of (last_reader h (fields_in row)) → r' ≡ place_of (last_reader h (fields_in row)) → r ≡ r'
 only_one_reader h row r r' e e' = e ∙ sym e'
 
-pub only_one_writer : (i : ℕ) (row : List ℕ) (r r' : ℕ) → r ≡ last_writer i (fields_in row) → r' ≡ last_writer i (fields_in row) → r ≡ r'
+pub only_one_writer : (i : ℕ) (row : List ℕ) (r r' : Option ℕ) → r ≡ place_of (last_writer i (fields_in row)) → r' ≡ place_of (last_writer i (fields_in row)) → r ≡ r'
 only_one_writer i row r r' e e' = e ∙ sym e'

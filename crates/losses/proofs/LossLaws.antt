@@ -2,7 +2,7 @@
 -- order are the losses of the plan. By cases on the tests.
 use mathlib.Core.Path.{◌≡◌, refl, ap, ap₂, ◌∙◌}
 use mathlib.Core.Bool.{Bool, true, false, cond, not, ◌&&◌}
-use mathlib.Core.List.{List, [], ◌∷◌}
+use mathlib.Core.List.{List}
 use Prim.Native.Nat.{ℕ, ◌*◌, ◌≤◌, ◌<◌}
 use native.Mathlib.Nat.{zero-add}
 use native.Mathlib.Omega.{arith}
@@ -10,11 +10,11 @@ use lib.Dec.{ltb, eqb}
 use lib.ListN.{get_or, replicate, length-replicate}
 use borrow.Author.Tests.{lt-ltb, le-ltb, eq-eqb, ne_eqb}
 use Rattle.rules.specs.Halves.{Field as RuleField, sources}
-use Rattle.rules.specs.Permitted.{reads, permitted}
+use Rattle.rules.specs.Permitted.{permitted}
 use Rattle.rules.specs.Keeping.{missing}
 use Rattle.rules.specs.Plan.{Plan, bit, selects, record_length, block_length, input_halves, allowed, sources_of, tail_kept}
 use Rattle.rules.specs.Lent.{zone_f}
-use Rattle.rules.specs.Twins.{listed, shows, reason_of, reason_by}
+use Rattle.rules.specs.Twins.{listed, reason_by}
 use Rattle.rules.specs.Losses.{is_lost, loss_at, is_tail_lost}
 use Rattle.rules.proofs.Halves.ListedLaws.{get_d_listed, listed_all}
 use Rattle.terms.specs.Meaning.{mode_of, format_of, size_of, plan_in}
@@ -43,24 +43,6 @@ pub fields_inside : (x : Asked) (row : List ℕ) → PlanFair x row → (n m : �
 fields_inside x row fair n m a b = rw (a, b) (fields_fair x row fair)
 
 -- ---- one half
-
--- a reason fits a byte
-module _ (zone many h : ℕ) where
-  one_low : (f : RuleField) → reason_of zone many h f < 256
-  unfolding reason_of
-  one_low f = go (shows zone many h f)
-    where
-      go : (t : Bool) → cond t 3 2 < 256
-      go true = omega arith
-      go false = omega arith
-
-  pub reason_low : (x : ℕ) (fs : List RuleField) → x < 256 → reason_by zone many h x fs < 256
-  reason_low x [] l = l
-  reason_low x (f ∷ fs) l = reason_low (cond (reads f h) (reason_of zone many h f) x) fs (go (reads f h))
-    where
-      go : (t : Bool) → cond t (reason_of zone many h f) x < 256
-      go true = one_low f
-      go false = l
 
 module _ (fs : List RuleField) (n h mark : ℕ) where
   pub loss_none : mark ≡ 0 → 0 ≡ loss_of fs n h mark

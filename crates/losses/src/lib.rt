@@ -2,18 +2,18 @@
 // a half or writes a position.
 #![tactic(auto)]
 
-ghost use Rattle.std.specs.Prelude.{◌≡◌, List, ◌≤◌, length};
+ghost use Rattle.std.specs.Prelude.{◌≡◌, Bool, List, ◌≤◌, length};
 ghost use Rattle.rules.specs.Halves.{Field as RuleField};
 ghost use Rattle.rules.specs.Plan.{record_length};
 ghost use Rattle.rules.specs.Lent.{zone_f};
 ghost use Rattle.rules.specs.Twins.{listed};
 ghost use Rattle.rules.specs.Judge.{writes_at};
-ghost use Rattle.rules.specs.Losses.{loss_at, is_tail_lost, last_reader, last_writer};
+ghost use Rattle.rules.specs.Losses.{loss_at, is_tail_lost, last_from, last_reader, last_writer};
 ghost use Rattle.terms.specs.Meaning.{size_of, field_of, plan_in};
 ghost use Rattle.rows.specs.Kept.{fields_in};
 ghost use Rattle.rows.specs.Fair.{PlanFair};
 ghost use Rattle.sources.specs.Promise.{FieldInside, RowInside};
-ghost use Rattle.losses.specs.Promise.{loss_of, Reasoned};
+ghost use Rattle.losses.specs.Promise.{loss_of, Reasoned, place_of};
 
 use terms::{Asked, Field};
 
@@ -24,13 +24,10 @@ fn loss(fields: &[u16], n: usize, h: usize, missing: u8) -> u8
     requires { RowInside fields.now n 4096 }
     ensures { result ≡ loss_of (fields_in fields.now) n h missing }
 {
-    if missing == 0 {
+    if missing == 0 || 2 * n <= h {
         return 0;
     }
-    if 2 * n <= h {
-        return 0;
-    }
-    reasons::reason(fields, h) as u8
+    u8::from(reasons::reason(fields, h))
 }
 
 // Each half that is missing gives way to the reason.
@@ -39,10 +36,8 @@ fn give_reasons(fields: &[u16], n: usize, halves: &mut [u8; 8192])
     requires halves_len { length halves.old ≡ 8192 }
     ensures { Reasoned (fields_in fields.now) n halves.old halves.new }
 {
-    let mut h = 0;
-    while h < 8192 {
-        halves[h] = loss(fields, n, h, halves[h]);
-        h += 1;
+    for (h, half) in halves.iter_mut().enumerate() {
+        *half = loss(fields, n, h, *half);
     }
 }
 
@@ -70,32 +65,37 @@ pub fn is_tail_lost(asked: Asked) -> bool
     ensures { (fs : List RuleField) → result ≡ is_tail_lost (plan_in zone_f asked fs) }
 {
     let mode = asked.mode;
-    if !terms::selects(mode) {
-        return false;
-    }
     let format = asked.format;
     let input = asked.input;
     let n = terms::record_length(input);
-    !plans::tail_kept(format, asked.cv, n, terms::block_length(input))
+    let m = terms::block_length(input);
+    terms::selects(mode) && !plans::tail_kept(format, asked.cv, n, m)
 }
 
 // ---- the last field
 
-// The number of the last field that reads half h, from 1, or 0.
-pub fn last_reader(fields: &[u16], h: usize) -> usize
-    requires { RowInside fields.now 4096 4096 }
-    ensures { result ≡ last_reader h (fields_in fields.now) }
+// The number, from 1, of the last field that passes a test of it and of a half or a position.
+fn last<F: Fn(Field, usize) -> bool>(fields: &[u16], at: usize, passes: F) -> Option<usize>
+    ghost test: { RuleField → Bool }
+    requires row_inside { RowInside fields.now 4096 4096 }
+    requires tests { (f : Field) → FieldInside 4096 4096 f → F.pre passes f at × ((r : Bool) → F.post passes f at r → r ≡ test (field_of f)) }
+    ensures { result ≡ place_of (last_from test 0 1 (fields_in fields.now)) }
 {
-    let count = fields.len() / 5;
-    let mut last = 0;
-    let mut k = 0;
-    while k < count {
-        if reasons::reads(rows::field_at(fields, k), h) {
-            last = k + 1;
+    let mut last = None;
+    for k in 0..fields.len() / 5 {
+        if passes(rows::field_at(fields, k), at) {
+            last = Some(k + 1);
         }
-        k += 1;
     }
     last
+}
+
+// The number of the last field that reads half h, from 1.
+pub fn last_reader(fields: &[u16], h: usize) -> Option<usize>
+    requires { RowInside fields.now 4096 4096 }
+    ensures { result ≡ place_of (last_reader h (fields_in fields.now)) }
+{
+    last(fields, h, reasons::reads)
 }
 
 // Whether a field writes a position, from 1.
@@ -106,19 +106,10 @@ fn writes(f: Field, position: usize) -> bool
     f.t <= position && position < f.t + f.output
 }
 
-// The number of the last field that writes a position, both from 1, or 0.
-pub fn last_writer(fields: &[u16], position: usize) -> usize
+// The number of the last field that writes a position, both from 1.
+pub fn last_writer(fields: &[u16], position: usize) -> Option<usize>
     requires { RowInside fields.now 4096 4096 }
-    ensures { result ≡ last_writer position (fields_in fields.now) }
+    ensures { result ≡ place_of (last_writer position (fields_in fields.now)) }
 {
-    let count = fields.len() / 5;
-    let mut last = 0;
-    let mut k = 0;
-    while k < count {
-        if writes(rows::field_at(fields, k), position) {
-            last = k + 1;
-        }
-        k += 1;
-    }
-    last
+    last(fields, position, writes)
 }

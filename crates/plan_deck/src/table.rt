@@ -99,7 +99,7 @@ fn all_losses(rt: &HostRuntime, asked: Asked, fields: &[u16])
                     h,
                     end - 1,
                     halves[h] as usize,
-                    losses::last_reader(fields, h),
+                    losses::last_reader(fields, h).unwrap_or(0),
                 ],
             );
         }
@@ -147,7 +147,8 @@ fn all_written(rt: &HostRuntime, fields: &[u16], width: usize)
     let mut i = 1;
     while i <= width {
         let end = written_end(fields, i, width);
-        line(rt, "output ", &[i, end, losses::last_writer(fields, i)]);
+        let writer = losses::last_writer(fields, i).unwrap_or(0);
+        line(rt, "output ", &[i, end, writer]);
         i = end + 1;
     }
 }

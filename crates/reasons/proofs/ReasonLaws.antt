@@ -1,6 +1,6 @@
 -- The reason, field by field: which halves a field of the code reads and shows is what the rules say of its meaning, by how many halves stand behind the half;
 -- and one more field of the row takes the reason one step on.
-use mathlib.Core.Path.{◌≡◌, ap, ap₂, sym, ◌∙◌}
+use mathlib.Core.Path.{◌≡◌, refl, ap, ap₂, sym, ◌∙◌}
 use mathlib.Core.Bool.{Bool, true, false, cond, ◌&&◌, ◌||◌}
 use mathlib.Core.List.{List, ◌∷◌}
 use Prim.Native.Nat.{ℕ, ◌+◌, ◌-◌, ◌*◌, ◌/◌, ◌%◌, ◌≤◌, ◌<◌}
@@ -23,6 +23,9 @@ use Rattle.rows.proofs.RowLaws.{fields_on, fields_end}
 use Rattle.sources.specs.Promise.{FieldInside, RowInside}
 use Rattle.terms.proofs.FieldLaws.{input_of_lem}
 use Rattle.sources.proofs.Fields.{kind_of_lem, fair_fits}
+use Rattle.reasons.specs.Promise.{number_of}
+use Rattle.reasons.specs.declared.Cause.{Cause}
+use Rattle.reasons.specs.declared.Cause.TheVariants.{NeverRead, Dropped, Covered}
 
 -- ---- one field
 
@@ -127,7 +130,19 @@ module _ (zone many h : ℕ) where
 pub only_one_reads : (f : Field) (h : ℕ) (r r' : Bool) → r ≡ reads (field_of f) h → r' ≡ reads (field_of f) h → r ≡ r'
 only_one_reads f h r r' e e' = e ∙ sym e'
 
-pub only_one_reason : (row : List ℕ) (h r r' : ℕ) → RowInside row 4096 4096
-    → ((n m : ℕ) → RowInside row n m → r ≡ reason_by zone_f (2 * n) h 1 (fields_in row))
-    → ((n m : ℕ) → RowInside row n m → r' ≡ reason_by zone_f (2 * n) h 1 (fields_in row)) → r ≡ r'
-only_one_reason row h r r' fair e e' = e 4096 4096 fair ∙ sym (e' 4096 4096 fair)
+-- no two reasons have one number
+pub number_once : (r q : Cause) → number_of r ≡ number_of q → r ≡ q
+number_once NeverRead NeverRead e = refl
+number_once NeverRead Dropped e = absurd (omega arith)
+number_once NeverRead Covered e = absurd (omega arith)
+number_once Dropped NeverRead e = absurd (omega arith)
+number_once Dropped Dropped e = refl
+number_once Dropped Covered e = absurd (omega arith)
+number_once Covered NeverRead e = absurd (omega arith)
+number_once Covered Dropped e = absurd (omega arith)
+number_once Covered Covered e = refl
+
+pub only_one_reason : (row : List ℕ) (h : ℕ) (r r' : Cause) → RowInside row 4096 4096
+    → ((n m : ℕ) → RowInside row n m → number_of r ≡ reason_by zone_f (2 * n) h 1 (fields_in row))
+    → ((n m : ℕ) → RowInside row n m → number_of r' ≡ reason_by zone_f (2 * n) h 1 (fields_in row)) → r ≡ r'
+only_one_reason row h r r' fair e e' = number_once r r' (e 4096 4096 fair ∙ sym (e' 4096 4096 fair))

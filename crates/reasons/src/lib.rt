@@ -9,8 +9,29 @@ ghost use Rattle.rules.specs.Twins.{shows as showsBy, reason_of, reason_by};
 ghost use Rattle.terms.specs.Meaning.{field_of};
 ghost use Rattle.rows.specs.Kept.{fields_in};
 ghost use Rattle.sources.specs.Promise.{FieldInside, RowInside};
+ghost use Rattle.reasons.specs.Promise.{number_of};
 
 use terms::{Field, Kind};
+
+// No field reads the half; or the last one that does drops it; or it shows it, and a later field covers what it wrote.
+#[derive(Clone, Copy, Debug, PartialEq, Eq)]
+pub enum Cause {
+    NeverRead,
+    Dropped,
+    Covered,
+}
+
+impl From<Cause> for u8 {
+    ghost from_gives = { λ cause number. number ≡ number_of cause };
+
+    fn from(cause: Cause) -> u8 {
+        match cause {
+            Cause::NeverRead => 1,
+            Cause::Dropped => 2,
+            Cause::Covered => 3,
+        }
+    }
+}
 
 // Whether a field reads half h.
 pub fn reads(f: Field, h: usize) -> bool
@@ -38,31 +59,29 @@ fn shows(f: Field, h: usize) -> bool
 }
 
 // Of a field that reads half h: covered later, or dropped by it.
-fn reason_of(f: Field, h: usize) -> usize
+fn reason_of(f: Field, h: usize) -> Cause
     requires field_inside { FieldInside 4096 4096 f }
     requires h_value { readsBy (field_of f) h ≡ true }
-    ensures { (many : ℕ) → reads_from (field_of f) + reads_many (field_of f) ≤ many → result ≡ reason_of zone_f many h (field_of f) }
+    ensures { (many : ℕ) → reads_from (field_of f) + reads_many (field_of f) ≤ many → number_of result ≡ reason_of zone_f many h (field_of f) }
 {
     if shows(f, h) {
-        return 3;
+        Cause::Covered
+    } else {
+        Cause::Dropped
     }
-    2
 }
 
 // The last field that reads half h decides; where none does, it is never read.
-pub fn reason(fields: &[u16], h: usize) -> usize
+pub fn reason(fields: &[u16], h: usize) -> Cause
     requires { RowInside fields.now 4096 4096 }
-    ensures { (n m : ℕ) → RowInside fields.now n m → result ≡ reason_by zone_f (2 * n) h 1 (fields_in fields.now) }
+    ensures { (n m : ℕ) → RowInside fields.now n m → number_of result ≡ reason_by zone_f (2 * n) h 1 (fields_in fields.now) }
 {
-    let count = fields.len() / 5;
-    let mut reason = 1;
-    let mut k = 0;
-    while k < count {
+    let mut reason = Cause::NeverRead;
+    for k in 0..fields.len() / 5 {
         let f = rows::field_at(fields, k);
         if reads(f, h) {
             reason = reason_of(f, h);
         }
-        k += 1;
     }
     reason
 }

@@ -18,20 +18,14 @@ use terms::{Entry, Field};
 fn part_number(r: usize, key: usize) -> u8
     ensures { result ≡ part_on_card key r }
 {
-    if r <= key {
-        return 1;
-    }
-    0
+    u8::from(r <= key)
 }
 
 // Its first position as on the card: behind the key data count from 1 again.
 fn card_place(r: usize, key: usize) -> usize
     ensures { result ≡ place_on_card key r }
 {
-    if r <= key {
-        return r;
-    }
-    r - key
+    if r <= key { r } else { r - key }
 }
 
 fn entry(f: Field, key: usize) -> Entry
@@ -72,13 +66,10 @@ fn entries(fields: &[u16], key: usize) -> [Entry; 64]
     requires { FieldsFair fields.now × (length fields.now ≤ 320) }
     ensures { result ≡ table_of (map (on_card key) (fields_in fields.now)) }
 {
-    let count = fields.len() / 5;
     let mut out = no_entries();
-    let mut i: usize = 0;
-    while i < count {
+    for i in 0..fields.len() / 5 {
         let f = rows::field_at(fields, i);
         out[i] = entry(f, key);
-        i += 1;
     }
     out
 }

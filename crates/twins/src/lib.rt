@@ -46,7 +46,7 @@ fn why(asked: Asked, fields: &[u16], lost: usize) -> usize
     if lost == 2 * terms::record_length(input) {
         return 4;
     }
-    reasons::reason(fields, lost)
+    usize::from(u8::from(reasons::reason(fields, lost)))
 }
 
 // Of a plan that loses: refusal 15, or both records.

@@ -3,6 +3,7 @@ use mathlib.Core.Path.{ap, sym, ◌∙◌}
 use Prim.Native.Nat.{ℕ, ◌*◌}
 use native.Mathlib.Omega.{arith}
 use Rattle.reasons.proofs.FairLaws.{fields_fair, fields_wide}
+use Rattle.reasons.specs.Promise.{number_of}
 use Rattle.twins.proofs.ShowLaws.{reason_tail, reason_half}
 use Rattle.twins.proofs.why.Goals as goal
 
@@ -18,5 +19,7 @@ reason-requires c = fields_wide c.args.asked c.args.fields.now c.requires.plan_f
 
 pub returns : goal.returns
 returns c =
-    reason_half c.args.asked c.args.fields.now c.requires.plan_fair c.args.lost c.requires.lost_value
-    (λ e. c.if-lost-record_length.false (e ∙ ap (λ (k : ℕ). 2 * k) (sym c.record_length.ensures))) c.reason.result c.reason.ensures
+    let p = c.from-2.ensures in
+    let q = c.from.ensures in
+    p ∙ q ∙ reason_half c.args.asked c.args.fields.now c.requires.plan_fair c.args.lost c.requires.lost_value
+    (λ e. c.if-lost-record_length.false (e ∙ ap (λ (k : ℕ). 2 * k) (sym c.record_length.ensures))) (number_of c.reason.result) c.reason.ensures
