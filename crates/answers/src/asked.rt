@@ -3,21 +3,29 @@ use std::io::Print;
 use terms::{Asked, Field, Format, Kind, Mode, Size};
 use words::say;
 
-fn tell_mode(to: &impl Print, mode: Mode) {
+fn mode_letters(mode: Mode) -> &'static str {
     match mode {
-        Mode::TC => say(to, " TC"),
-        Mode::TF => say(to, " TF"),
-        Mode::TR => say(to, " TR"),
-        Mode::TRF => say(to, " TRF"),
+        Mode::TC => "TC",
+        Mode::TF => "TF",
+        Mode::TR => "TR",
+        Mode::TRF => "TRF",
     }
 }
 
-fn tell_format(to: &impl Print, format: Format) {
+fn format_letters(format: Format) -> &'static str {
     match format {
-        Format::FF => say(to, " FF"),
-        Format::FV => say(to, " FV"),
-        Format::FU => say(to, " FU"),
-        Format::FS => say(to, " FS"),
+        Format::FF => "FF",
+        Format::FV => "FV",
+        Format::FU => "FU",
+        Format::FS => "FS",
+    }
+}
+
+fn kind_letter(kind: Kind) -> char {
+    match kind {
+        Kind::Copy => 'C',
+        Kind::Pack => 'P',
+        Kind::Unpack => 'U',
     }
 }
 
@@ -25,14 +33,6 @@ fn tell_size(to: &impl Print, label: &str, size: Size) {
     match size {
         Size::Two { n, m } => say(to, format_args!("{label}{n},{m}")),
         Size::One { g } => say(to, format_args!("{label}{g}")),
-    }
-}
-
-fn tell_kind(to: &impl Print, kind: Kind) {
-    match kind {
-        Kind::Copy => say(to, " C"),
-        Kind::Pack => say(to, " P"),
-        Kind::Unpack => say(to, " U"),
     }
 }
 
@@ -58,7 +58,7 @@ fn tell_place(to: &impl Print, r: usize, key: usize) {
 }
 
 fn tell_field(to: &impl Print, field: Field, key: usize, card: usize) {
-    tell_kind(to, field.kind);
+    say(to, format_args!(" {}", kind_letter(field.kind)));
     tell_place(to, field.r, key);
     say(
         to,
@@ -74,8 +74,9 @@ fn tell_fields(to: &impl Print, deck: &[u8], fields: &[u16], key: usize) {
 }
 
 pub(crate) fn tell(to: &impl Print, deck: &[u8], asked: Asked, fields: &[u16]) {
-    tell_mode(to, asked.mode);
-    tell_format(to, asked.format);
+    let mode = mode_letters(asked.mode);
+    let format = format_letters(asked.format);
+    say(to, format_args!(" {mode} {format}"));
     tell_input(to, asked.input, asked.key);
     tell_size(to, " B=", asked.output);
     say(

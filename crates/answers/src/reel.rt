@@ -63,7 +63,10 @@ pub(crate) fn tell(to: &impl Print, form: Form, reel: &[u8]) {
     match read(form, reel) {
         Ok(contents) => {
             shown::refusal(to, 0, 0, 0);
-            say(to, format_args!(" {} {} ", contents.blocks, contents.records));
+            say(
+                to,
+                format_args!(" {} {} ", contents.blocks, contents.records),
+            );
             lengths(to, form, reel, contents);
         }
         Err(ReelError::NotReel) => shown::refusal(to, 11, 0, 0),

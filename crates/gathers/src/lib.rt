@@ -15,7 +15,8 @@ pub fn record_room() -> [u8; 32752]
     [0; 32752]
 }
 
-// How many records there are so far, and how many bytes of the one that is wanted are in the room.
+// How many records there are so far, and how many bytes of the one that is wanted are in the room. A length and not a slice: behind the next piece more is put there,
+// and callers whose records have to fit a room know its length from the room.
 #[derive(Clone, Copy)]
 pub struct Gathered {
     pub records: usize,

@@ -68,11 +68,9 @@ fn first_refusing(fields: &[u16], position: usize, half: Half) -> Option<(usize,
 
 // The same for a byte, of which the high half comes first.
 fn refusing(fields: &[u16], position: usize, byte: u8) -> Option<(usize, Field)> {
-    first_refusing(fields, position, Half::High(byte / 16)).or_else(|| first_refusing(
-        fields,
-        position,
-        Half::Low(byte % 16),
-    ))
+    let high = Half::High(byte / 16);
+    let low = Half::Low(byte % 16);
+    first_refusing(fields, position, high).or_else(|| first_refusing(fields, position, low))
 }
 
 // The first byte of a record that a field may not read.

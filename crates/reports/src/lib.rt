@@ -52,8 +52,7 @@ pub fn refused(
         notices::refused(to, deck, refusal, place, column);
         return;
     }
-    say(to, "refused by ");
-    say(to, refusal);
+    say(to, format_args!("refused by {refusal}"));
     match refusal {
         11 => block_words::no_reel(to, "the input", reel),
         12 => block_words::wrong_block(to, by_a(plan_of(deck).asked), reel, place),
@@ -66,8 +65,7 @@ pub fn refused(
 
 // Refusals 17 and 18 of a reel from elsewhere.
 pub fn refused_theirs(to: &impl Print, deck: &[u8], theirs: &[u8], refusal: usize, place: usize) {
-    say(to, "refused by ");
-    say(to, refusal);
+    say(to, format_args!("refused by {refusal}"));
     if refusal == 17 {
         block_words::no_reel(to, "theirs", theirs);
     } else {
