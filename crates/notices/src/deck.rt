@@ -65,10 +65,7 @@ fn key(deck: &[u8]) -> usize {
 fn where_it_is(to: &impl Print, deck: &[u8], refusal: usize, place: usize, column: usize) {
     say(to, ", at ");
     match refusal {
-        9 => {
-            say(to, "field ");
-            say(to, place);
-        }
+        9 => say(to, format_args!("field {place}")),
         10 => half(to, place, key(deck)),
         _ => line_words::spot(to, place, column),
     }

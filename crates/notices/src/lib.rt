@@ -12,15 +12,15 @@ pub use card_words::field_on_card;
 use plans::DeckPlan;
 use std::io::Print;
 pub use taken::{left_out, none_taken};
-pub use words::{because, fail, say, say_bytes};
+pub use words::{because, fail, many, say, say_bytes};
 
 // The numbers on standard output, with a blank between.
 pub fn line(rt: &HostRuntime, numbers: &[usize]) {
-    for i in 0..numbers.len() {
+    for (i, number) in numbers.iter().enumerate() {
         if i > 0 {
             say(rt, " ");
         }
-        say(rt, numbers[i]);
+        say(rt, number);
     }
     if let Err(why) = rt.write_all(b"\n") {
         fail(&rt.stderr(), "standard output", why);
@@ -31,39 +31,29 @@ pub fn line(rt: &HostRuntime, numbers: &[usize]) {
 fn byte(to: &impl Print, n: usize, key: usize) {
     if key == 0 {
         say(to, n);
-        return;
+    } else if n <= key {
+        say(to, format_args!("{n} of the key"));
+    } else {
+        say(to, format_args!("{} of the data", n - key));
     }
-    if n <= key {
-        say(to, n);
-        say(to, " of the key");
-        return;
-    }
-    say(to, n - key);
-    say(to, " of the data");
 }
 
 // Half 2i is the high half of byte i, from 0, through the key first.
 pub fn half_of_byte(to: &impl Print, place: usize, key: usize) {
-    if place % 2 == 0 {
-        say(to, "the high half of byte ");
-    } else {
-        say(to, "the low half of byte ");
-    }
+    let half = if place % 2 == 0 { "high" } else { "low" };
+    say(to, format_args!("the {half} half of byte "));
     byte(to, place / 2 + 1, key);
 }
 
 fn half(to: &impl Print, place: usize, key: usize) {
-    say(to, "half byte ");
-    say(to, place);
-    say(to, ", ");
+    say(to, format_args!("half byte {place}, "));
     half_of_byte(to, place, key);
     say(to, " of the input record");
 }
 
 // A refusal of a deck, by its number, its place and its column, or 0 for none; the deck has the card.
 pub fn refused(to: &impl Print, deck: &[u8], refusal: usize, place: usize, column: usize) {
-    say(to, "refused by ");
-    say(to, refusal);
+    say(to, format_args!("refused by {refusal}"));
     if refusal < 11 {
         deck::explain(to, deck, refusal, place, column);
     } else {
@@ -80,11 +70,11 @@ pub fn refused(to: &impl Print, deck: &[u8], refusal: usize, place: usize, colum
 fn lost(to: &impl Print, n: usize, key: usize, place: usize) {
     say(to, "the plan loses: ");
     if place / 2 == n {
-        say(to, "the tail, all data past the first ");
-        say(to, n);
         say(
             to,
-            " bytes, is dropped; records that differ only there become alike\n",
+            format_args!(
+                "the tail, all data past the first {n} bytes, is dropped; records that differ only there become alike\n"
+            ),
         );
         return;
     }

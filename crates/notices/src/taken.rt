@@ -4,18 +4,17 @@ use words::say;
 
 // What a deck with R above 1 leaves out of every reel.
 pub fn left_out(to: &impl Print, first: usize) {
-    if first < 2 {
-        return;
+    match first {
+        0 | 1 => {}
+        2 => say(to, "R is 2: record 1 of a reel is not taken\n"),
+        _ => say(
+            to,
+            format_args!(
+                "R is {first}: records 1 to {} of a reel are not taken\n",
+                first - 1
+            ),
+        ),
     }
-    say(to, "R is ");
-    say(to, first);
-    if first == 2 {
-        say(to, ": record 1 of a reel is not taken\n");
-        return;
-    }
-    say(to, ": records 1 to ");
-    say(to, first - 1);
-    say(to, " of a reel are not taken\n");
 }
 
 // That a finished run took no record, and why.
@@ -24,7 +23,8 @@ pub fn none_taken(to: &impl Print, first: usize) {
         say(to, "the reel has no record\n");
         return;
     }
-    say(to, "no record is taken: R is ");
-    say(to, first);
-    say(to, ", and the reel has fewer\n");
+    say(
+        to,
+        format_args!("no record is taken: R is {first}, and the reel has fewer\n"),
+    );
 }

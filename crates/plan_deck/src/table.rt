@@ -1,6 +1,6 @@
 // The plan as lines on standard output, each a word and numbers: the sizes of the records, each field, each run of lost halves, the tail, and what each part of the
 // output record is written by. Where records are carried unchanged, by TC or TR, there are none of these.
-ghost use Rattle.std.specs.Prelude.{◌≤◌, ◌<◌};
+ghost use Rattle.std.specs.Prelude.{◌+◌, ◌≤◌, ◌<◌};
 ghost use Rattle.rules.specs.Plan.{record_length};
 ghost use Rattle.terms.specs.Meaning.{size_of};
 ghost use Rattle.rows.specs.Fair.{PlanFair};
@@ -53,103 +53,73 @@ fn field(rt: &HostRuntime, deck: &[u8], number: usize, f: Field)
 }
 
 fn all_fields(rt: &HostRuntime, deck: &[u8], fields: &[u16]) {
-    let count = fields.len() / 5;
-    let mut k = 0;
-    while k < count {
+    for k in 0..fields.len() / 5 {
         field(rt, deck, k + 1, rows::field_at(fields, k));
-        k += 1;
     }
 }
 
-// Where the run ends that begins with a half: its halves are lost for one reason, and the same field is the last that reads them.
-fn run_end(fields: &[u16], halves: &[u8; 8192], from: usize, many: usize) -> usize
+// Whether the run of lost halves that has a half goes on in the next: both are lost for one reason, and the same field is the last that reads them.
+fn is_lost_alike(fields: &[u16], halves: &[u8; 8192], h: usize) -> bool
     requires row_inside { RowInside fields.now 4096 4096 }
-    requires from_lt_many { (from < many) × (many ≤ 8192) }
-    ensures { (from < result) × (result ≤ many) }
+    requires next_in_bounds { h + 1 < 8192 }
 {
-    let reader = losses::last_reader(fields, from);
-    let mut h = from + 1;
-    while h < many {
-        if halves[h] != halves[from] {
-            break;
-        }
-        if losses::last_reader(fields, h) != reader {
-            break;
-        }
-        h += 1;
-    }
-    h
+    halves[h] == halves[h + 1]
+        && losses::last_reader(fields, h) == losses::last_reader(fields, h + 1)
 }
 
 // Each run of lost halves: the first and the last, why (1 never read, 2 dropped by a short field, 3 covered later), and the last field that reads them, or 0.
+fn lost_runs(rt: &HostRuntime, fields: &[u16], halves: &[u8; 8192], many: usize)
+    requires row_inside { RowInside fields.now 4096 4096 }
+    requires many_bound { many ≤ 8192 }
+{
+    let mut first = 0;
+    for h in 0..many {
+        if h + 1 < many && is_lost_alike(fields, halves, h) {
+            continue;
+        }
+        if halves[h] > 0 {
+            let reader = losses::last_reader(fields, h).unwrap_or(0);
+            line(rt, "lost ", &[first, h, usize::from(halves[h]), reader]);
+        }
+        first = h + 1;
+    }
+}
+
 fn all_losses(rt: &HostRuntime, asked: Asked, fields: &[u16])
     requires { PlanFair asked fields.now }
 {
-    let input = asked.input;
-    let many = 2 * terms::record_length(input);
+    let many = 2 * terms::record_length(asked.input);
     let halves = losses::losses(asked, fields);
-    let mut h = 0;
-    while h < many {
-        let end = run_end(fields, &halves, h, many);
-        if halves[h] > 0 {
-            line(
-                rt,
-                "lost ",
-                &[
-                    h,
-                    end - 1,
-                    halves[h] as usize,
-                    losses::last_reader(fields, h).unwrap_or(0),
-                ],
-            );
-        }
-        h = end;
-    }
+    lost_runs(rt, fields, &halves, many);
 }
 
 // What becomes of the tail: 0 there is none, 1 it is carried, 2 it is lost.
 fn tail(rt: &HostRuntime, asked: Asked)
     requires { record_length (size_of asked.input) ≤ 4096 }
 {
-    if losses::is_tail_lost(asked) {
-        line(rt, "tail ", &[2]);
-        return;
-    }
-    if asked.cv > 0 {
-        line(rt, "tail ", &[1]);
-        return;
-    }
-    line(rt, "tail ", &[0]);
+    let becomes = if losses::is_tail_lost(asked) {
+        2
+    } else if asked.cv > 0 {
+        1
+    } else {
+        0
+    };
+    line(rt, "tail ", &[becomes]);
 }
 
-// Where the run of output bytes ends, from 1, that begins at a position and is written by one field, or by none.
-fn written_end(fields: &[u16], from: usize, width: usize) -> usize
-    requires row_inside { RowInside fields.now 4096 4096 }
-    requires from_le_width { from ≤ width }
-    ensures { (from ≤ result) × (result ≤ width) }
-{
-    let writer = losses::last_writer(fields, from);
-    let mut i = from;
-    while i < width {
-        if losses::last_writer(fields, i + 1) != writer {
-            break;
-        }
-        i += 1;
-    }
-    i
-}
-
-// Each run of output bytes: the first and the last, and the field that writes them last, or 0 for blanks.
+// Each run of output bytes: the first and the last, from 1, and the field that writes them last, or 0 for blanks.
 fn all_written(rt: &HostRuntime, fields: &[u16], width: usize)
     requires row_inside { RowInside fields.now 4096 4096 }
     requires width_bound { width ≤ 4096 }
 {
-    let mut i = 1;
-    while i <= width {
-        let end = written_end(fields, i, width);
-        let writer = losses::last_writer(fields, i).unwrap_or(0);
-        line(rt, "output ", &[i, end, writer]);
-        i = end + 1;
+    let mut first = 1;
+    for i in 1..=width {
+        let writer = losses::last_writer(fields, i);
+        if i < width && losses::last_writer(fields, i + 1) == writer {
+            continue;
+        }
+        line(rt, "output ", &[first, i, writer.unwrap_or(0)]);
+        first = i + 1;
     }
 }
 

@@ -1,5 +1,4 @@
--- The halves that are left fall, so the loop ends; a run ends within the record, which has at most 4,096 bytes.
-use Prim.Native.Nat.{◌-◌}
+-- The fields of an accepted plan lie inside their records, of which the input's has at most 4,096 bytes.
 use native.Mathlib.Omega.{arith}
 use Rattle.reasons.proofs.FairLaws.{fields_fair, fields_wide}
 use Rattle.plan_deck.proofs.table.all_losses.Goals as goal
@@ -8,9 +7,8 @@ pub overflow_mul-many : goal.overflow_mul-many
 overflow_mul-many c =
     record { fits = omega (arith, c.record_length-many.ensures, (fields_fair c.args.asked c.args.fields.now c.requires).n_high) }
 
-pub loop-h-init : goal.loop-h-init
-loop-h-init c = (
-  fields_wide c.args.asked c.args.fields.now c.requires,
-  omega (arith, c.record_length-many.ensures, (fields_fair c.args.asked c.args.fields.now c.requires).n_high),
-  omega arith,
-)
+pub lost_runs-requires : goal.lost_runs-requires
+lost_runs-requires c = record {
+  row_inside = fields_wide c.args.asked c.args.fields.now c.requires;
+  many_bound = omega (arith, c.record_length-many.ensures, (fields_fair c.args.asked c.args.fields.now c.requires).n_high);
+}
