@@ -1,75 +1,63 @@
 // Where the outputs go, as the arguments give it: a folder, or a file and its mode.
-ghost use Rattle.io.specs.Counts.{IsPrefixLen};
+ghost use Rattle.std.specs.Prelude.{◌≤◌, length, IfSome};
 
 use crate::form::Form;
 use crate::mode;
+use crate::mode::NoMode;
 
-// How long the name of the folder or file is, which stands in a room, and 0 where nothing is written; the mode, or NO_MODE; and whether one of them is wrong, which is
-// said then.
+// The folder or file, or none where nothing is written; and the mode, if one is given.
 #[derive(Clone, Copy)]
-pub(crate) struct Destination {
-    pub(crate) length: usize,
-    pub(crate) mode: u32,
-    pub(crate) wrong: bool,
+pub(crate) struct Destination<'a> {
+    pub(crate) out: Option<&'a [u8]>,
+    pub(crate) mode: Option<u32>,
 }
 
-// The mode that an argument gives, or NO_MODE for `-`.
-fn argument_mode(rt: &HostRuntime, argument: usize) -> u32 {
-    let mut digits = io::buffer();
-    let n = inputs::argument(rt, argument, &mut digits);
-    if check::same(&digits[..n], b"-") {
-        return files::NO_MODE;
-    }
-    let mode = mode::read(&digits[..n]);
-    if mode == mode::WRONG || n == 0 {
+// The mode that an argument gives, or none for `-`; what is no mode is said.
+fn argument_mode(rt: &HostRuntime, argument: usize) -> Result<Option<u32>, NoMode> {
+    let mut room = io::buffer();
+    let n = inputs::argument(rt, argument, &mut room);
+    let mode = match &room[..n] {
+        b"-" => Ok(None),
+        b"" => Err(NoMode),
+        digits => mode::read(digits),
+    };
+    if mode.is_err() {
         notices::say(
             &rt.stderr(),
             "the mode has to be digits in octal, at most 7777, or -\n",
         );
-        return mode::WRONG;
     }
     mode
 }
 
-fn mode(rt: &HostRuntime, form: Form) -> u32 {
-    if form.mode == 0 {
-        return files::NO_MODE;
+fn mode(rt: &HostRuntime, form: Form) -> Result<Option<u32>, NoMode> {
+    match form.mode {
+        Some(argument) => argument_mode(rt, argument),
+        None => Ok(None),
     }
-    argument_mode(rt, form.mode)
 }
 
-// Puts the name of the folder or file into the room, an empty one where nothing is written, and answers its length.
-fn put_given(rt: &HostRuntime, form: Form, room: &mut [u8]) -> usize
-    ensures { IsPrefixLen result room.new }
-{
-    if form.out == 0 {
-        return files::put(room, 0, b"");
-    }
-    files::name(rt, form.out, room)
-}
-
-fn is_wrong(form: Form, mode: u32, length: usize) -> bool {
-    mode == mode::WRONG || form.out > 0 && length == 0
-}
-
-pub(crate) fn read(rt: &HostRuntime, form: Form, room: &mut [u8]) -> Destination
-    ensures { IsPrefixLen result.length room.new }
-{
+// None where the mode or the name is wrong; all that is wrong is said.
+pub(crate) fn read<'a>(
+    rt: &HostRuntime,
+    form: Form,
+    room: &'a mut [u8],
+) -> Option<Destination<'a>> {
     let mode = mode(rt, form);
-    let length = put_given(rt, form, room);
-    Destination {
-        length,
-        mode,
-        wrong: is_wrong(form, mode, length),
-    }
+    let out = match form.out {
+        Some(argument) => Some(files::name(rt, argument, room)?),
+        None => None,
+    };
+    Some(Destination {
+        out,
+        mode: mode.ok()?,
+    })
 }
 
-// Puts the output's name into the room. One that fills the room is longer than any that a file may have.
-pub(crate) fn put_name(form: Form, out: &[u8], reel: &[u8], room: &mut [u8]) -> usize
-    ensures { IsPrefixLen result room.new }
-{
+// The output's name, in the room. One that fills the room is longer than any that a file may have.
+pub(crate) fn name<'a>(form: Form, out: &'a [u8], reel: &[u8], room: &'a mut [u8]) -> &'a [u8] {
     if form.folder {
         return files::put_in(room, out, reel);
     }
-    files::put(room, 0, out)
+    out
 }

@@ -1,50 +1,40 @@
 // An entry of a list: the name of a reel, and where the form has modes, before it the mode of its output, in octal, or nothing, and a blank.
 use crate::form::Form;
 use crate::mode;
+use crate::mode::NoMode;
 use std::io::Print;
 
 // The bytes of the longest name.
 const LONGEST: usize = 4095;
 
-// How many bytes stand before the first blank.
-fn before_blank(entry: &[u8]) -> usize {
-    let mut i = 0;
-    while i < entry.len() {
-        if entry[i] == b' ' {
-            return i;
-        }
-        i += 1;
-    }
-    i
+// The name of a reel, and the mode of its output, if there is one.
+#[derive(Clone, Copy)]
+pub(crate) struct Entry<'a> {
+    pub(crate) name: &'a [u8],
+    pub(crate) mode: Option<u32>,
 }
 
-// The bytes behind the first so many and the blank; none where there are not so many.
-fn behind(entry: &[u8], at: usize) -> &[u8] {
-    if entry.len() <= at {
-        return &entry[..0];
-    }
-    &entry[at + 1..]
-}
-
-// The name; empty where there is none.
-pub(crate) fn name(form: Form, entry: &[u8]) -> &[u8] {
+// The digits of the mode and the name, which stand before and behind the first blank. Where the form has no modes all is the name.
+fn parts<'a>(form: Form, entry: &'a [u8]) -> Option<(&'a [u8], &'a [u8])> {
     if !form.modes {
-        return entry;
+        return Some((&entry[..0], entry));
     }
-    behind(entry, before_blank(entry))
+    let blank = entry.iter().position(|byte| *byte == b' ')?;
+    Some((&entry[..blank], &entry[blank + 1..]))
 }
 
 // The mode; the given one where the form has no modes.
-pub(crate) fn mode(form: Form, entry: &[u8], given: u32) -> u32 {
-    if !form.modes {
-        return given;
+fn mode(form: Form, digits: &[u8], given: Option<u32>) -> Result<Option<u32>, NoMode> {
+    if form.modes {
+        mode::read(digits)
+    } else {
+        Ok(given)
     }
-    mode::read(files::front(entry, before_blank(entry)))
 }
 
-// Says what is wrong with an entry that names no reel.
-fn nameless(to: &impl Print, form: Form, entry: &[u8]) {
-    if form.modes && entry.len() > 0 && before_blank(entry) == entry.len() {
+// Says that an entry has no blank, if it is one.
+fn say_no_blank(to: &impl Print, entry: &[u8]) {
+    if !entry.is_empty() {
         files::say_name(to, files::front(entry, 60));
         notices::say(
             to,
@@ -53,12 +43,19 @@ fn nameless(to: &impl Print, form: Form, entry: &[u8]) {
     }
 }
 
-// Whether there is a name and no mode that is wrong. Otherwise what is wrong is said.
-pub(crate) fn is_usable(to: &impl Print, form: Form, entry: &[u8]) -> bool {
-    let name = name(form, entry);
-    if name.len() == 0 {
-        nameless(to, form, entry);
-        return false;
+// What an entry says. What is wrong with it is said; where no more is wrong than that nothing is named, nothing.
+pub(crate) fn read<'a>(
+    to: &impl Print,
+    form: Form,
+    entry: &'a [u8],
+    given: Option<u32>,
+) -> Option<Entry<'a>> {
+    let Some((digits, name)) = parts(form, entry) else {
+        say_no_blank(to, entry);
+        return None;
+    };
+    if name.is_empty() {
+        return None;
     }
     if LONGEST < name.len() {
         files::say_name(to, files::front(name, 60));
@@ -66,15 +63,15 @@ pub(crate) fn is_usable(to: &impl Print, form: Form, entry: &[u8]) -> bool {
             to,
             "..: this name has more than 4,095 bytes, and no file has such a one\n",
         );
-        return false;
+        return None;
     }
-    if mode(form, entry, files::NO_MODE) == mode::WRONG {
+    let Ok(mode) = mode(form, digits, given) else {
         files::say_name(to, name);
         notices::say(
             to,
             ": the mode before this name has to be digits in octal, at most 7777, or nothing\n",
         );
-        return false;
-    }
-    true
+        return None;
+    };
+    Some(Entry { name, mode })
 }

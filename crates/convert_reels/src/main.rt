@@ -21,6 +21,13 @@ mod series;
 
 use form::Form;
 
+const USAGE: &str = "\
+usage: convert_reels --check DECK REEL
+       convert_reels --file MODE DECK OUT REEL
+       convert_reels DECK OUTDIR REEL..
+       convert_reels [--null | --modes] DECK OUTDIR <LIST
+";
+
 fn refused(rt: &HostRuntime, form: Form, deck: &[u8], refusal: usize, place: usize, column: usize) {
     line::print(rt, outcomes::refused(refusal, place, column), b"", form.end);
     notices::refused(&rt.stderr(), deck, refusal, place, column);
@@ -49,13 +56,12 @@ fn convert(rt: &HostRuntime, form: Form, deck: &[u8]) {
 }
 
 fn convert_named(rt: &HostRuntime, form: Form) {
-    let mut path = io::buffer();
-    let n = files::name(rt, form.deck, &mut path);
-    if n == 0 {
+    let mut room = io::buffer();
+    let Some(path) = files::name(rt, form.deck, &mut room) else {
         return;
-    }
+    };
     let mut cards = io::large_buffer();
-    let read = files::deck(rt, &path[..n], &mut cards);
+    let read = files::deck(rt, path, &mut cards);
     if read.failed {
         return;
     }
@@ -69,19 +75,8 @@ fn convert_named(rt: &HostRuntime, form: Form) {
 }
 
 fn main(rt: HostRuntime) {
-    let form = form::read(&rt);
-    if form.deck > 0 {
-        convert_named(&rt, form);
-        return;
+    match form::read(&rt) {
+        Some(form) => convert_named(&rt, form),
+        None => notices::say(&rt.stderr(), USAGE),
     }
-    notices::say(&rt.stderr(), "usage: convert_reels --check DECK REEL\n");
-    notices::say(
-        &rt.stderr(),
-        "       convert_reels --file MODE DECK OUT REEL\n",
-    );
-    notices::say(&rt.stderr(), "       convert_reels DECK OUTDIR REEL..\n");
-    notices::say(
-        &rt.stderr(),
-        "       convert_reels [--null | --modes] DECK OUTDIR <LIST\n",
-    );
 }

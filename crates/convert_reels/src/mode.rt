@@ -1,32 +1,25 @@
 // The mode of a file as digits in octal give it.
 
-// In place of a mode, where it cannot be read.
-pub(crate) const WRONG: u32 = 4096;
+// What is no mode.
+#[derive(Clone, Copy)]
+pub(crate) struct NoMode;
 
-// The mode with one digit more behind it. A mode has at most 12 bits; one that is wrong has more, and stays so.
-fn with(mode: u32, digit: u8) -> u32 {
-    if digit < b'0' {
-        return WRONG;
+// The mode with one digit more behind it. A mode has at most 12 bits.
+fn with(mode: u32, digit: u8) -> Result<u32, NoMode> {
+    match digit {
+        b'0'..=b'7' if mode < 512 => Ok(8 * mode + u32::from(digit - b'0')),
+        _ => Err(NoMode),
     }
-    if b'7' < digit {
-        return WRONG;
-    }
-    if 511 < mode {
-        return WRONG;
-    }
-    8 * mode + (digit - b'0') as u32
 }
 
 // No digit asks for no mode.
-pub(crate) fn read(digits: &[u8]) -> u32 {
-    if digits.len() == 0 {
-        return files::NO_MODE;
+pub(crate) fn read(digits: &[u8]) -> Result<Option<u32>, NoMode> {
+    if digits.is_empty() {
+        return Ok(None);
     }
     let mut mode = 0;
-    let mut i = 0;
-    while i < digits.len() {
-        mode = with(mode, digits[i]);
-        i += 1;
+    for digit in digits {
+        mode = with(mode, *digit)?;
     }
-    mode
+    Ok(Some(mode))
 }

@@ -2,6 +2,8 @@
 ghost use Rattle.io.specs.Counts.{IsPrefixLen};
 ghost use Rattle.rows.specs.Fair.{PlanFair};
 
+use crate::destination::Destination;
+use crate::entry::Entry;
 use crate::form::Form;
 use crate::{destination, entry, line};
 use outcomes::Ran;
@@ -48,21 +50,20 @@ fn run(asked: Asked, fields: &[u16], reel: &[u8], room: &mut [u8]) -> Ran
     runs::run_plan(asked, fields, reel, room)
 }
 
-// Whether the output is in its file. An empty destination asks for none.
+// Whether the output is in its file, if it has one.
 fn is_stored(
     rt: &HostRuntime,
     form: Form,
-    out: &[u8],
+    destination: Destination,
     name: &[u8],
     bytes: &[u8],
-    mode: u32,
 ) -> bool {
-    if out.len() == 0 {
+    let Some(out) = destination.out else {
         return true;
-    }
-    let mut path = io::buffer();
-    let n = destination::put_name(form, out, name, &mut path);
-    files::write(rt, &path[..n], bytes, mode)
+    };
+    let mut room = io::buffer();
+    let path = destination::name(form, out, name, &mut room);
+    files::write(rt, path, bytes, destination.mode)
 }
 
 // The reel that is named. The output's room is the longest reel's: a longer one is refused in any room.
@@ -72,53 +73,49 @@ fn convert_named(
     deck: &[u8],
     asked: Asked,
     fields: &[u16],
-    out: &[u8],
-    mode: u32,
+    destination: Destination,
     name: &[u8],
 )
     requires { PlanFair asked fields.now }
 {
     let mut blocks = files::reel_room();
-    let filled = files::reel(rt, name, &mut blocks);
-    if filled.failed {
+    let Some(reel) = files::reel(rt, name, &mut blocks) else {
         return;
-    }
-    let n = filled.length;
+    };
     let mut room = io::large_buffer();
-    let ran = run(asked, fields, &blocks[..n], &mut room);
+    let ran = run(asked, fields, reel, &mut room);
     if ran.refusal != 0 {
-        refused(rt, deck, &blocks[..n], ran, told(form, name), form.end);
+        refused(rt, deck, reel, ran, told(form, name), form.end);
         return;
     }
     let length = ran.length;
-    if is_stored(rt, form, out, name, &room[..length], mode) {
+    if is_stored(rt, form, destination, name, &room[..length]) {
         finished(rt, ran, asked.first, told(form, name), form.end);
     }
 }
 
-// The reel of an entry. Where the entry has no mode the output gets the given one.
+// The reel of an entry. Where entries have no modes the output gets the given one.
 pub(crate) fn convert(
     rt: &HostRuntime,
     form: Form,
     deck: &[u8],
     asked: Asked,
     fields: &[u16],
-    out: &[u8],
-    mode: u32,
+    given: Destination,
     entry: &[u8],
 )
     requires { PlanFair asked fields.now }
 {
-    if entry::is_usable(&rt.stderr(), form, entry) {
+    if let Some(Entry { name, mode }) = entry::read(&rt.stderr(), form, entry, given.mode) {
+        let out = given.out;
         convert_named(
             rt,
             form,
             deck,
             asked,
             fields,
-            out,
-            entry::mode(form, entry, mode),
-            entry::name(form, entry),
+            Destination { out, mode },
+            name,
         );
     }
 }

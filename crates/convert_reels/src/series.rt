@@ -2,6 +2,7 @@
 ghost use Rattle.std.specs.Prelude.{◌≡◌, length};
 ghost use Rattle.rows.specs.Fair.{PlanFair};
 
+use crate::destination::Destination;
 use crate::form::Form;
 use crate::list::Place;
 use crate::{destination, list, one};
@@ -18,9 +19,11 @@ fn entry_room() -> [u8; ENTRY]
 
 // Puts the name that an argument gives into the room and answers its length, or 0 where it is no name.
 fn put_argument(rt: &HostRuntime, argument: usize, room: &mut [u8]) -> usize {
-    let mut name = io::buffer();
-    let n = files::name(rt, argument, &mut name);
-    files::put(room, 0, &name[..n])
+    let mut given = io::buffer();
+    match files::name(rt, argument, &mut given) {
+        Some(name) => files::put(room, 0, name),
+        None => 0,
+    }
 }
 
 // The next argument: `taken` are before it, and `got` are there.
@@ -40,25 +43,25 @@ fn next_argument(rt: &HostRuntime, place: Place, room: &mut [u8]) -> Place {
 }
 
 fn first(rt: &HostRuntime, form: Form) -> Place {
-    if form.reel == 0 {
-        return Place {
+    match form.reel {
+        Some(reel) => Place {
+            got: inputs::argument_count(rt),
+            taken: reel,
+            held: 0,
+        },
+        None => Place {
             got: 0,
             taken: 0,
             held: 0,
-        };
-    }
-    Place {
-        got: inputs::argument_count(rt),
-        taken: form.reel,
-        held: 0,
+        },
     }
 }
 
 fn next(rt: &HostRuntime, form: Form, place: Place, bytes: &mut [u8], entry: &mut [u8]) -> Place {
-    if form.reel > 0 {
-        return next_argument(rt, place, entry);
+    match form.reel {
+        Some(_) => next_argument(rt, place, entry),
+        None => list::next(rt, place, form.end, bytes, entry),
     }
-    list::next(rt, place, form.end, bytes, entry)
 }
 
 // One turn more than there are reels finds none left; the turns end as those of the list do.
@@ -68,8 +71,7 @@ fn convert_all(
     deck: &[u8],
     asked: Asked,
     fields: &[u16],
-    out: &[u8],
-    mode: u32,
+    destination: Destination,
 )
     requires { PlanFair asked fields.now }
 {
@@ -84,8 +86,7 @@ fn convert_all(
             deck,
             asked,
             fields,
-            out,
-            mode,
+            destination,
             files::front(&room, place.held),
         );
         if place.got == 0 {
@@ -96,21 +97,18 @@ fn convert_all(
 
 // Where one reel is asked for and its destination is wrong, the name of the reel is looked at all the same, so that all that is wrong is said at once.
 fn look(rt: &HostRuntime, form: Form) {
-    if !form.folder {
-        let mut name = io::buffer();
-        files::name(rt, form.reel, &mut name);
+    if let (false, Some(reel)) = (form.folder, form.reel) {
+        let mut room = io::buffer();
+        files::name(rt, reel, &mut room);
     }
 }
 
 pub(crate) fn convert(rt: &HostRuntime, form: Form, deck: &[u8], asked: Asked, fields: &[u16])
     requires { PlanFair asked fields.now }
 {
-    let mut out = io::buffer();
-    let destination = destination::read(rt, form, &mut out);
-    if destination.wrong {
-        look(rt, form);
-        return;
+    let mut room = io::buffer();
+    match destination::read(rt, form, &mut room) {
+        Some(destination) => convert_all(rt, form, deck, asked, fields, destination),
+        None => look(rt, form),
     }
-    let n = destination.length;
-    convert_all(rt, form, deck, asked, fields, &out[..n], destination.mode);
 }

@@ -1,14 +1,14 @@
 // What the arguments give: names of files, and the deck and the reel that two of them name. What fails is said on standard error.
-ghost use Rattle.std.specs.Prelude.{◌≡◌, length, replicate};
+ghost use Rattle.std.specs.Prelude.{◌≡◌, ◌≤◌, length, replicate, IfSome};
 ghost use Rattle.io.specs.Counts.{IsPrefixLen};
 
 use crate::{paths, shown};
-use inputs::{BytesRead, DeckBytes, Source};
+use inputs::{DeckBytes, Source};
 use std::fs::File;
 
-// Puts the name that an argument gives into the room and answers its length, or 0 where it is no name.
-pub fn name(rt: &HostRuntime, argument: usize, room: &mut [u8]) -> usize
-    ensures { IsPrefixLen result room.new }
+// The name that an argument gives, in the room.
+pub fn name<'a>(rt: &HostRuntime, argument: usize, room: &'a mut [u8]) -> Option<&'a [u8]>
+    ensures { IfSome result (λ name. length name.now ≤ length room.old) }
 {
     match inputs::read_argument(rt, argument, room) {
         Ok(0) => {
@@ -16,12 +16,12 @@ pub fn name(rt: &HostRuntime, argument: usize, room: &mut [u8]) -> usize
                 &rt.stderr(),
                 "an argument is empty; it has to name a file\n",
             );
-            0
+            None
         }
-        Ok(n) => n,
+        Ok(n) => Some(&room[..n]),
         Err(why) => {
             notices::fail(&rt.stderr(), "an argument", why);
-            0
+            None
         }
     }
 }
@@ -71,19 +71,15 @@ pub fn reel_room() -> [u8; 65537]
     [0; 65537]
 }
 
-// The first bytes of a file, as many as the room takes.
-pub fn reel(rt: &HostRuntime, path: &[u8], room: &mut [u8]) -> BytesRead
-    ensures { IsPrefixLen result.length room.new }
+// The first bytes of a file, as many as the room takes, in the room.
+pub fn reel<'a>(rt: &HostRuntime, path: &[u8], room: &'a mut [u8]) -> Option<&'a [u8]>
+    ensures { IfSome result (λ reel. length reel.now ≤ length room.old) }
 {
-    let Some(mut from) = open(rt, path) else {
-        return BytesRead {
-            length: 0,
-            failed: true,
-        };
-    };
+    let mut from = open(rt, path)?;
     let read = inputs::fill(&mut from, room);
     if read.failed {
         say_failure(rt, path, &from);
+        return None;
     }
-    read
+    Some(&room[..read.length])
 }

@@ -6,9 +6,11 @@ mod given;
 mod names;
 mod output;
 mod paths;
+mod room;
 mod shown;
 
 pub use given::{deck, name, reel, reel_room};
 pub use names::{front, put_in};
-pub use output::{NO_MODE, put, write};
+pub use output::write;
+pub use room::{put, written};
 pub use shown::{fail, say_name};

@@ -1,112 +1,66 @@
 // How a name is shown to people: no byte of it reaches a terminal as a command. A name without a control character is shown as it is; of any other, what is put in the
 // place of a control character or a backslash is what the shell's `printf %b` understands.
-ghost use Rattle.std.specs.Prelude.{◌≤◌, ◌<◌, ◌≡◌, length};
-ghost use Rattle.io.specs.Counts.{IsPrefixLen};
+ghost use Rattle.std.specs.Prelude.{◌<◌, length};
 
-use crate::output::put;
-use std::io::{Error, Print};
+use crate::room;
+use std::io::{Cursor, Error, Print, Write};
 
-// Four bytes for each of a name, which has at most 4,096.
-fn shown_room() -> [u8; 16384]
-    ensures { 16384 ≡ length result }
-{
-    [0; 16384]
+// Whether bytes begin with a control character in UTF-8, U+0080 to U+009F.
+fn begins_with_pair(bytes: &[u8]) -> bool {
+    bytes.len() > 1 && bytes[0] == 0xC2 && (0x80..=0x9F).contains(&bytes[1])
 }
 
-fn put_hexadecimal(room: &mut [u8], from: usize, byte: u8) -> usize
-    requires { from ≤ length room.old }
-    ensures { IsPrefixLen result room.new }
-{
-    let mut digits = [0u8; 16];
-    let n = io::hex(byte as u64, 2, &mut digits);
-    let marked = put(room, from, b"\\x");
-    put(room, marked, &digits[..n])
-}
-
-// Puts a control character: those that have a letter of their own by it.
-fn put_control(room: &mut [u8], from: usize, byte: u8) -> usize
-    requires { from ≤ length room.old }
-    ensures { IsPrefixLen result room.new }
-{
-    if byte == b'\n' {
-        return put(room, from, b"\\n");
-    }
-    if byte == b'\t' {
-        return put(room, from, b"\\t");
-    }
-    if byte == b'\r' {
-        return put(room, from, b"\\r");
-    }
-    put_hexadecimal(room, from, byte)
-}
-
-// Whether the bytes at two places are a control character in UTF-8, U+0080 to U+009F.
-fn is_pair(name: &[u8], high: usize, low: usize) -> bool {
-    if name.len() <= high || name.len() <= low {
-        return false;
-    }
-    let byte = name[low];
-    name[high] == 0xC2 && 0x80 <= byte && byte <= 0x9F
-}
-
-// Whether the byte at a place is one of such a pair.
-fn is_of_pair(name: &[u8], i: usize) -> bool
+// Whether the byte at a place is one of a control character.
+fn is_control(name: &[u8], i: usize) -> bool
     requires { i < length name.now }
 {
-    is_pair(name, i, i + 1) || i > 0 && is_pair(name, i - 1, i)
+    name[i].is_ascii_control()
+        || begins_with_pair(&name[i..])
+        || i > 0 && begins_with_pair(&name[i - 1..])
 }
 
 // Whether a name has a control character.
 fn is_odd(name: &[u8]) -> bool {
     for i in 0..name.len() {
-        let byte = name[i];
-        if byte < 0x20 || byte == 0x7F || is_of_pair(name, i) {
+        if is_control(name, i) {
             return true;
         }
     }
     false
 }
 
-// Puts the byte at a place of the name as it is shown.
-fn put_shown(room: &mut [u8], from: usize, name: &[u8], i: usize) -> usize
-    requires from_in_bounds { from ≤ length room.old }
-    requires i_in_bounds { i < length name.now }
-    ensures { IsPrefixLen result room.new }
-{
-    let byte = name[i];
-    if byte < 0x20 || byte == 0x7F {
-        return put_control(room, from, byte);
-    }
-    if byte == b'\\' {
-        return put(room, from, b"\\\\");
-    }
-    if is_of_pair(name, i) {
-        return put_hexadecimal(room, from, byte);
-    }
-    put(room, from, &[byte])
+// Writes a control character: those that have a letter of their own by it.
+fn write_control(to: &mut impl Write, byte: u8) {
+    let _ = match byte {
+        b'\n' => to.write_all(b"\\n"),
+        b'\t' => to.write_all(b"\\t"),
+        b'\r' => to.write_all(b"\\r"),
+        _ => write!(to, "\\x{byte:02x}"),
+    };
 }
 
-// Puts the name as it is shown into the room and answers how long it is then.
-fn put_name(room: &mut [u8], name: &[u8]) -> usize
-    ensures { IsPrefixLen result room.new }
-{
-    if !is_odd(name) {
-        return put(room, 0, name);
+// Writes the name as it is shown, with four bytes at most for each of its own.
+fn write_name(to: &mut impl Write, name: &[u8]) {
+    for (i, byte) in name.iter().enumerate() {
+        if is_control(name, i) {
+            write_control(to, *byte);
+        } else if *byte == b'\\' {
+            let _ = to.write_all(b"\\\\");
+        } else {
+            let _ = to.write_all(&[*byte]);
+        }
     }
-    let mut end = 0;
-    let mut i = 0;
-    while i < name.len() {
-        end = put_shown(room, end, name, i);
-        i += 1;
-    }
-    end
 }
 
-// Says a name.
+// Says a name, which has at most 4,096 bytes.
 pub fn say_name(to: &impl Print, name: &[u8]) {
-    let mut room = shown_room();
-    let n = put_name(&mut room, name);
-    notices::say_bytes(to, &room[..n]);
+    if !is_odd(name) {
+        notices::say_bytes(to, name);
+        return;
+    }
+    let mut shown = Cursor::new([0; 16384]);
+    write_name(&mut shown, name);
+    notices::say_bytes(to, room::written(&shown));
 }
 
 // Says what failed with the file of this name, and why.

@@ -1,25 +1,33 @@
 // In which byte a record of theirs differs from what ours gives, and which field writes it, in words.
-ghost use Rattle.std.specs.Prelude.{◌*◌, ◌≤◌, length};
+ghost use Rattle.std.specs.Prelude.{◌+◌, ◌*◌, ◌≤◌, length, IfSome};
 ghost use Rattle.rows.specs.Flat.{Fielded};
 ghost use Rattle.rows.specs.Fair.{PlanFair};
 
-use notices::{say, say_bytes};
+use notices::say;
 use std::io::Print;
 use terms::{Asked, Field, Task};
 
-// The first place, from 0, at which two records differ, or where one of them ends.
-fn first_difference(ours: &[u8], theirs: &[u8]) -> usize {
-    let mut i = 0;
-    while i < ours.len() {
-        if theirs.len() <= i {
-            break;
+// A byte, by its position from 1, in which two records differ, and what stands there in each.
+#[derive(Clone, Copy)]
+struct Difference {
+    position: usize,
+    ours: u8,
+    theirs: u8,
+}
+
+// The first byte in which two records differ.
+fn first_difference(ours: &[u8], theirs: &[u8]) -> Option<Difference> {
+    for (at, byte) in ours.iter().enumerate() {
+        let other = theirs.get(at)?;
+        if byte != other {
+            return Some(Difference {
+                position: at + 1,
+                ours: *byte,
+                theirs: *other,
+            });
         }
-        if ours[i] != theirs[i] {
-            break;
-        }
-        i += 1;
     }
-    i
+    None
 }
 
 // Whether a field writes a position, both counted from 1.
@@ -27,30 +35,25 @@ fn writes(f: Field, position: usize) -> bool {
     f.t <= position && position - f.t < f.output
 }
 
-// The number of the last field that writes a position, or 0.
-fn last_writer(fields: &[u16], position: usize) -> usize
-    ensures { 5 * result ≤ length fields.now }
+// The place in the row, from 0, of the last field that writes a position.
+fn last_writer(fields: &[u16], position: usize) -> Option<usize>
+    ensures { IfSome result (λ k. 5 * k + 5 ≤ length fields.now) }
 {
-    let mut number = fields.len() / 5;
-    while number > 0 {
-        if writes(rows::field_at(fields, number - 1), position) {
-            break;
+    for k in (0..fields.len() / 5).rev() {
+        if writes(rows::field_at(fields, k), position) {
+            return Some(k);
         }
-        number -= 1;
     }
-    number
+    None
 }
 
 // Says what writes a position: a field, or with CV the tail. In TR there is neither.
 fn say_writer(to: &impl Print, deck: &[u8], asked: Asked, fields: &[u16], position: usize) {
-    let last = last_writer(fields, position);
-    if last > 0 {
+    if let Some(last) = last_writer(fields, position) {
         say(to, "; ");
-        notices::field_on_card(to, deck, asked.key, last, rows::field_at(fields, last - 1));
+        notices::field_on_card(to, deck, asked.key, last + 1, rows::field_at(fields, last));
         say(to, ", writes it");
-        return;
-    }
-    if asked.cv > 0 {
+    } else if asked.cv > 0 {
         say(to, "; it is of the tail, which CV carries");
     }
 }
@@ -64,20 +67,21 @@ fn say_byte(
     ours: &[u8],
     theirs: &[u8],
 ) {
-    let at = first_difference(ours, theirs);
-    if ours.len() <= at {
+    let Some(
+        Difference {
+            position,
+            ours,
+            theirs,
+        },
+    ) = first_difference(ours, theirs)
+    else {
         return;
-    }
-    if theirs.len() <= at {
-        return;
-    }
-    say(to, " in byte ");
-    say(to, at + 1);
-    say(to, ": ours gives ");
-    say_bytes(to, &hexadecimal::hex(ours[at]));
-    say(to, ", theirs has ");
-    say_bytes(to, &hexadecimal::hex(theirs[at]));
-    say_writer(to, deck, asked, fields, at + 1);
+    };
+    say(
+        to,
+        format_args!(" in byte {position}: ours gives {ours:02X}, theirs has {theirs:02X}"),
+    );
+    say_writer(to, deck, asked, fields, position);
 }
 
 // Writes what our record gives over a copy of theirs: the fields, and with CV the tail. Where nothing is written, theirs may have anything.

@@ -82,15 +82,13 @@ fn judge_files(rt: &HostRuntime, deck: &[u8], ours: &[u8], theirs: &[u8]) {
         return;
     }
     let mut blocks = files::reel_room();
-    let filled = files::reel(rt, ours, &mut blocks);
-    if filled.failed {
+    let Some(ours) = files::reel(rt, ours, &mut blocks) else {
         return;
-    }
+    };
     let mut others = files::reel_room();
-    let foreign = files::reel(rt, theirs, &mut others);
-    if foreign.failed {
+    let Some(theirs) = files::reel(rt, theirs, &mut others) else {
         return;
-    }
+    };
     // A deck that is longer than the room is refused without a column, so its cards are not asked for.
     if read.refusal != 0 {
         notices::line(rt, &[read.refusal, read.place, 0, 0, 0]);
@@ -98,20 +96,18 @@ fn judge_files(rt: &HostRuntime, deck: &[u8], ours: &[u8], theirs: &[u8]) {
         return;
     }
     let n = read.length;
-    let m = filled.length;
-    let k = foreign.length;
-    judge(rt, &cards[..n], &blocks[..m], &others[..k]);
+    judge(rt, &cards[..n], ours, theirs);
 }
 
 fn judge_named(rt: &HostRuntime) {
-    let mut deck = io::buffer();
-    let n = files::name(rt, 1, &mut deck);
-    let mut ours = io::buffer();
-    let m = files::name(rt, 2, &mut ours);
-    let mut theirs = io::buffer();
-    let k = files::name(rt, 3, &mut theirs);
-    if n > 0 && m > 0 && k > 0 {
-        judge_files(rt, &deck[..n], &ours[..m], &theirs[..k]);
+    let mut first = io::buffer();
+    let deck = files::name(rt, 1, &mut first);
+    let mut second = io::buffer();
+    let ours = files::name(rt, 2, &mut second);
+    let mut third = io::buffer();
+    let theirs = files::name(rt, 3, &mut third);
+    if let (Some(deck), Some(ours), Some(theirs)) = (deck, ours, theirs) {
+        judge_files(rt, deck, ours, theirs);
     }
 }
 

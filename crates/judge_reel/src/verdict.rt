@@ -25,43 +25,31 @@ pub(crate) fn yes(to: &impl Print, plan: DeckPlan, theirs: &[u8]) {
 fn passed(first: usize) -> usize
     ensures { result ≤ 65535 }
 {
-    if first == 0 {
-        return 0;
-    }
-    if first > 65536 {
-        return 0;
-    }
-    first - 1
+    first.saturating_sub(1).min(65535)
 }
 
 // The number in our input of a record of the output. No reel has more than 65,536 records.
 fn in_input(passed: usize, apart: usize) -> usize
     requires { passed ≤ 65535 }
 {
-    if apart > 65536 {
-        return apart;
-    }
-    passed + apart
+    passed + apart.min(65536)
 }
 
 // How many records of our input are left behind those that are passed over.
 fn left(records: usize, passed: usize) -> usize {
-    if records < passed {
-        return 0;
-    }
-    records - passed
+    records.saturating_sub(passed)
 }
 
 // Says which record of the output is apart, and which one it is in our input; where ours has none, theirs has it.
 fn say_record(to: &impl Print, apart: usize, place: usize, is_ours: bool) {
-    say(to, "record ");
-    say(to, apart);
+    say(to, format_args!("record {apart} of "));
     if is_ours {
-        say(to, " of the output, record ");
-        say(to, place);
-        say(to, " of our input, ");
+        say(
+            to,
+            format_args!("the output, record {place} of our input, "),
+        );
     } else {
-        say(to, " of theirs ");
+        say(to, "theirs ");
     }
 }
 
@@ -69,8 +57,7 @@ fn say_record(to: &impl Print, apart: usize, place: usize, is_ours: bool) {
 fn say_counts(to: &impl Print, ours: usize, theirs: usize) {
     say(to, "lacks a partner: ours gives ");
     many(to, ours, "record");
-    say(to, ", theirs has ");
-    say(to, theirs);
+    say(to, format_args!(", theirs has {theirs}"));
 }
 
 // Says how a record of theirs is apart from one of ours: by its length, or by a byte.
@@ -84,8 +71,7 @@ fn say_pair(to: &impl Print, deck: &[u8], asked: Asked, fields: &[u16], ours: &[
     }
     say(to, "has another length: ours gives ");
     many(to, n, "byte");
-    say(to, ", theirs has ");
-    say(to, theirs.len());
+    say(to, format_args!(", theirs has {}", theirs.len()));
 }
 
 // Says which record is apart, by its number in the output, and why.

@@ -1,80 +1,59 @@
 // Which files the arguments ask for behind the deck: `records FILE` and `reel FILE`, in either order, each at most once.
-ghost use Rattle.io.specs.Counts.{IsPrefixLen};
 
-// The argument that names each file, or 0 where it is not asked for; and whether the arguments can be understood.
+// The argument that names each file, if it is asked for.
 #[derive(Clone, Copy)]
 pub(crate) struct Wanted {
-    pub(crate) records: usize,
-    pub(crate) reel: usize,
-    pub(crate) right: bool,
+    pub(crate) records: Option<usize>,
+    pub(crate) reel: Option<usize>,
 }
 
-// What stands before the name of a file.
+// An argument that names no file.
 #[derive(Clone, Copy)]
-enum Word {
-    Records,
-    Reel,
-    Other,
-}
+pub(crate) struct NoName;
 
-fn word_of(rt: &HostRuntime, argument: usize) -> Word {
+// What is asked for with what a word asks for too, behind which the argument stands that names its file.
+fn with(rt: &HostRuntime, wanted: Wanted, word: usize, file: usize) -> Option<Wanted> {
     let mut room = io::buffer();
-    let n = inputs::argument(rt, argument, &mut room);
-    if check::same(&room[..n], b"records") {
-        return Word::Records;
+    let n = inputs::argument(rt, word, &mut room);
+    let Wanted { records, reel } = wanted;
+    match &room[..n] {
+        b"records" if records.is_none() => Some(Wanted {
+            records: Some(file),
+            reel,
+        }),
+        b"reel" if reel.is_none() => Some(Wanted {
+            records,
+            reel: Some(file),
+        }),
+        _ => None,
     }
-    if check::same(&room[..n], b"reel") {
-        return Word::Reel;
-    }
-    Word::Other
 }
 
-// What is asked for with the word too, behind which the argument stands that names its file.
-fn with(wanted: Wanted, word: Word, argument: usize) -> Wanted {
-    match word {
-        Word::Records => Wanted {
-            records: argument,
-            reel: wanted.reel,
-            right: wanted.right && wanted.records == 0,
+// What the arguments ask for, if they can be understood. The program's own name counts among them.
+pub(crate) fn read(rt: &HostRuntime) -> Option<Wanted> {
+    let nothing = Wanted {
+        records: None,
+        reel: None,
+    };
+    match inputs::argument_count(rt) {
+        2 => Some(nothing),
+        4 => with(rt, nothing, 2, 3),
+        6 => with(rt, with(rt, nothing, 2, 3)?, 4, 5),
+        _ => None,
+    }
+}
+
+// The name of a file, in the room, if one is asked for.
+pub(crate) fn file<'a>(
+    rt: &HostRuntime,
+    argument: Option<usize>,
+    room: &'a mut [u8],
+) -> Result<Option<&'a [u8]>, NoName> {
+    match argument {
+        Some(argument) => match files::name(rt, argument, room) {
+            Some(name) => Ok(Some(name)),
+            None => Err(NoName),
         },
-        Word::Reel => Wanted {
-            records: wanted.records,
-            reel: argument,
-            right: wanted.right && wanted.reel == 0,
-        },
-        Word::Other => Wanted {
-            records: 0,
-            reel: 0,
-            right: false,
-        },
+        None => Ok(None),
     }
-}
-
-fn nothing(right: bool) -> Wanted {
-    Wanted {
-        records: 0,
-        reel: 0,
-        right,
-    }
-}
-
-// The program's own name counts among the arguments.
-pub(crate) fn read(rt: &HostRuntime) -> Wanted {
-    let count = inputs::argument_count(rt);
-    match count {
-        2 => nothing(true),
-        4 => with(nothing(true), word_of(rt, 2), 3),
-        6 => with(with(nothing(true), word_of(rt, 2), 3), word_of(rt, 4), 5),
-        _ => nothing(false),
-    }
-}
-
-// Puts the name of a file into the room and answers its length, or 0 where none is asked for or the argument is no name.
-pub(crate) fn file(rt: &HostRuntime, argument: usize, room: &mut [u8]) -> usize
-    ensures { IsPrefixLen result room.new }
-{
-    if argument == 0 {
-        return 0;
-    }
-    files::name(rt, argument, room)
 }

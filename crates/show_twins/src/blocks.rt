@@ -21,9 +21,7 @@ fn put_words(format: Format, length: usize, room: &mut [u8]) -> usize
             room::put_length_word(room, 4, length + 4);
             8
         }
-        Format::FF => 0,
-        Format::FU => 0,
-        Format::FS => 0,
+        Format::FF | Format::FU | Format::FS => 0,
     }
 }
 
@@ -41,10 +39,7 @@ fn put_block(format: Format, record: &[u8], room: &mut [u8]) -> usize {
 fn most_copies(block: usize, last: usize) -> usize
     ensures { result ≤ 65524 }
 {
-    if 65524 < last {
-        return 0;
-    }
-    let left = 65524 - last;
+    let left = 65524usize.saturating_sub(last);
     if left < block {
         return 0;
     }
@@ -58,14 +53,6 @@ struct Ends {
     blocks: usize,
 }
 
-// The place behind an offset, none of which stands past the longest reel.
-fn next(at: usize) -> usize {
-    if at > 65536 {
-        return at;
-    }
-    at + 4
-}
-
 // Adds a block to a reel; no bytes are no block.
 fn add(room: &mut [u8], ends: Ends, block: &[u8]) -> Ends {
     if block.len() == 0 {
@@ -73,17 +60,15 @@ fn add(room: &mut [u8], ends: Ends, block: &[u8]) -> Ends {
     }
     room::put_word(room, ends.offsets, ends.blocks);
     Ends {
-        offsets: next(ends.offsets),
+        offsets: ends.offsets.saturating_add(4),
         blocks: room::put(room, ends.blocks, block),
     }
 }
 
 fn add_copies(room: &mut [u8], ends: Ends, block: &[u8], copies: usize) -> Ends {
     let mut now = ends;
-    let mut i = 0;
-    while i < copies {
+    for _ in 0..copies {
         now = add(room, now, block);
-        i += 1;
     }
     now
 }
@@ -115,21 +100,22 @@ fn join(copies: usize, block: &[u8], last: &[u8], room: &mut [u8]) -> usize
     done.blocks
 }
 
-// Puts a reel into the room, and answers its length: so many copies of the first record, each a block, and then the second, which may be
-// missing. Where the reel would be longer than 65,536 bytes there is none, and the length is 0.
-pub(crate) fn reel(
+// A reel, in the room: so many copies of the first record, each a block, and then the second, which may be missing. There is none where it
+// would be longer than 65,536 bytes.
+pub(crate) fn reel<'a>(
     format: Format,
     copies: usize,
     first: &[u8],
     second: &[u8],
-    room: &mut [u8],
-) -> usize {
+    room: &'a mut [u8],
+) -> Option<&'a [u8]> {
     let mut block = block_room();
     let n = put_block(format, first, &mut block);
     let mut last = block_room();
     let m = put_block(format, second, &mut last);
     if most_copies(n, m) < copies {
-        return 0;
+        return None;
     }
-    join(copies, room::front(&block, n), room::front(&last, m), room)
+    let length = join(copies, room::front(&block, n), room::front(&last, m), room);
+    Some(room::front(room, length))
 }

@@ -3,8 +3,8 @@
 ghost use Rattle.std.specs.Prelude.{◌+◌, ◌<◌, ◌^◌};
 
 use crate::room;
-use notices::say;
-use std::io::Print;
+use notices::{say, say_bytes};
+use std::io::{Cursor, Print, Write};
 
 const BLANK: u8 = b' ';
 
@@ -14,6 +14,13 @@ pub(crate) struct Difference {
     byte: usize,
     high: u8,
     low: u8,
+}
+
+// The record that stands under another, and where it differs.
+#[derive(Clone, Copy)]
+struct Second<'a> {
+    record: &'a [u8],
+    difference: Difference,
 }
 
 fn caret(differs: bool) -> u8 {
@@ -39,80 +46,48 @@ fn column(byte: usize) -> usize
 
 // Puts bytes into a row, of which the first begins a row.
 fn put_bytes(row: &mut [u8], bytes: &[u8]) {
-    let mut i = 0;
-    while i < bytes.len() {
-        room::put(row, column(i), &hexadecimal::hex(bytes[i]));
-        i += 1;
+    for (i, byte) in bytes.iter().enumerate() {
+        room::put(row, column(i), &hexadecimal::hex(*byte));
     }
-}
-
-// Puts the position of a row's first byte, which people count from 1, so that it ends before column 6; 0 is none.
-fn put_position(row: &mut [u8], position: usize) {
-    if position == 0 {
-        return;
-    }
-    let mut digits = [0u8; 20];
-    let n = io::decimal(position as u64, &mut digits);
-    if n <= 6 {
-        room::put(row, 6 - n, &digits[..n]);
-    }
-}
-
-// The row up to where only blanks follow.
-fn trimmed(row: &[u8]) -> &[u8] {
-    let mut n = row.len();
-    while n > 0 {
-        if row[n - 1] != BLANK {
-            break;
-        }
-        n -= 1;
-    }
-    &row[..n]
 }
 
 // The bytes of the row that begins at a place, counted from 0; none past the record's end.
 fn bytes_at(record: &[u8], at: usize) -> &[u8] {
-    if record.len() <= at {
-        return &record[..0];
-    }
-    if record.len() - at < 16 {
-        return &record[at..];
-    }
-    let end = at + 16;
-    &record[at..end]
+    let row = room::behind(record, at);
+    &row[..row.len().min(16)]
 }
 
-// Says a row of a record, behind the position of its first byte.
-fn say_bytes(to: &impl Print, position: usize, name: &[u8], bytes: &[u8]) {
+// Says a row of a record, of whose first byte the position is given, which people count from 1 and which ends before column 6.
+fn say_record(to: &impl Print, position: Option<usize>, name: &str, bytes: &[u8]) {
     let mut row = [BLANK; 52];
-    put_position(&mut row, position);
-    room::put(&mut row, 8, name);
+    if let Some(position) = position {
+        let _ = write!(Cursor::new(&mut row[..6]), "{position:>6}");
+    }
+    room::put(&mut row, 8, name.as_bytes());
     put_bytes(&mut row, bytes);
-    notices::say_bytes(to, trimmed(&row));
+    say_bytes(to, row.trim_ascii_end());
     say(to, "\n");
 }
 
 fn say_carets(to: &impl Print, difference: Difference) {
     let mut row = [BLANK; 52];
-    room::put(
-        &mut row,
-        column(difference.byte),
-        &[difference.high, difference.low],
-    );
-    notices::say_bytes(to, trimmed(&row));
+    let Difference { byte, high, low } = difference;
+    room::put(&mut row, column(byte), &[high, low]);
+    say_bytes(to, row.trim_ascii_end());
     say(to, "\n");
 }
 
 // Says the row at a place of a record, or of two with the carets where they differ in this row.
-fn say_row(to: &impl Print, first: &[u8], second: &[u8], difference: Difference, at: usize)
+fn say_row(to: &impl Print, first: &[u8], second: Option<Second>, at: usize)
     requires { at + 1 < 2 ^ 64 }
 {
-    if second.len() == 0 {
-        say_bytes(to, at + 1, b"", bytes_at(first, at));
+    let bytes = bytes_at(first, at);
+    let Some(Second { record, difference }) = second else {
+        say_record(to, Some(at + 1), "", bytes);
         return;
-    }
-    say_bytes(to, at + 1, b"first", bytes_at(first, at));
-    say_bytes(to, 0, b"second", bytes_at(second, at));
+    };
+    say_record(to, Some(at + 1), "first", bytes);
+    say_record(to, None, "second", bytes_at(record, at));
     if difference.byte / 16 == at / 16 {
         say_carets(to, difference);
     }
@@ -120,50 +95,27 @@ fn say_row(to: &impl Print, first: &[u8], second: &[u8], difference: Difference,
 
 // Whether the row at a place has the bytes of the row above.
 fn repeats(record: &[u8], at: usize) -> bool {
-    if at < 16 {
-        return false;
-    }
-    check::same(bytes_at(record, at), bytes_at(record, at - 16))
+    at >= 16 && bytes_at(record, at) == bytes_at(record, at - 16)
 }
 
 // Says that the rows above, up to a byte, were left out.
 fn say_left_out(to: &impl Print, byte: usize) {
-    say(to, "        the same up to byte ");
-    say(to, byte);
-    say(to, "\n");
-}
-
-// Says the row at a place or leaves it out; answers whether the last row was left out.
-fn step(
-    to: &impl Print,
-    first: &[u8],
-    second: &[u8],
-    difference: Difference,
-    at: usize,
-    is_left_out: bool,
-) -> bool
-    requires { at + 1 < 2 ^ 64 }
-{
-    if repeats(first, at) && repeats(second, at) {
-        return true;
-    }
-    if is_left_out {
-        say_left_out(to, at);
-    }
-    say_row(to, first, second, difference, at);
-    false
+    say(to, format_args!("        the same up to byte {byte}\n"));
 }
 
 // Says the rows of so many bytes.
-fn say_rows(to: &impl Print, first: &[u8], second: &[u8], difference: Difference, length: usize) {
+fn say_rows(to: &impl Print, first: &[u8], second: Option<Second>, length: usize) {
     let mut is_left_out = false;
-    let mut at = 0;
-    while at < length {
-        is_left_out = step(to, first, second, difference, at, is_left_out);
-        if length - at <= 16 {
-            break;
+    for at in (0..length).step_by(16) {
+        let repeats_second = second.is_none_or(|second| repeats(second.record, at));
+        let repeated = repeats(first, at) && repeats_second;
+        if !repeated {
+            if is_left_out {
+                say_left_out(to, at);
+            }
+            say_row(to, first, second, at);
         }
-        at += 16;
+        is_left_out = repeated;
     }
     if is_left_out {
         say_left_out(to, length);
@@ -172,15 +124,14 @@ fn say_rows(to: &impl Print, first: &[u8], second: &[u8], difference: Difference
 
 // Says two records, of which the second is not the shorter.
 pub(crate) fn pair(to: &impl Print, first: &[u8], second: &[u8], difference: Difference) {
-    say_rows(to, first, second, difference, second.len());
+    let below = Second {
+        record: second,
+        difference,
+    };
+    say_rows(to, first, Some(below), second.len());
 }
 
 // Says one record.
 pub(crate) fn single(to: &impl Print, record: &[u8]) {
-    let nowhere = Difference {
-        byte: 0,
-        high: BLANK,
-        low: BLANK,
-    };
-    say_rows(to, record, b"", nowhere, record.len());
+    say_rows(to, record, None, record.len());
 }

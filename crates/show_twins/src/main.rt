@@ -31,31 +31,35 @@ fn refused(rt: &HostRuntime, deck: &[u8], refusal: usize, place: usize, column: 
     notices::refused(&rt.stderr(), deck, refusal, place, column);
 }
 
-// Whether the file that is asked for now holds the bytes of both records. An empty name asks for none.
-fn write_records(rt: &HostRuntime, path: &[u8], bytes: &[u8]) -> bool {
-    if path.len() == 0 {
-        return true;
+// Whether the file, if one is asked for, now holds the bytes of both records.
+fn write_records(rt: &HostRuntime, path: Option<&[u8]>, bytes: &[u8]) -> bool {
+    match path {
+        Some(path) => files::write(rt, path, bytes, None),
+        None => true,
     }
-    files::write(rt, path, bytes, files::NO_MODE)
 }
 
 // The same for their reel, which a run of the deck takes: copies of the first stand in for the records before R.
-fn write_reel(rt: &HostRuntime, path: &[u8], asked: Asked, first: &[u8], second: &[u8]) -> bool {
-    if path.len() == 0 {
+fn write_reel(
+    rt: &HostRuntime,
+    path: Option<&[u8]>,
+    asked: Asked,
+    first: &[u8],
+    second: &[u8],
+) -> bool {
+    let Some(path) = path else {
         return true;
-    }
-    let format = asked.format;
+    };
     let mut room = io::large_buffer();
-    let n = blocks::reel(format, asked.first, first, second, &mut room);
-    if n == 0 {
+    let Some(reel) = blocks::reel(asked.format, asked.first, first, second, &mut room) else {
         files::say_name(&rt.stderr(), path);
         notices::say(
             &rt.stderr(),
             ": not written: with the records before R the reel would have more than 65,536 bytes\n",
         );
         return true;
-    }
-    files::write(rt, path, room::front(&room, n), files::NO_MODE)
+    };
+    files::write(rt, path, reel, None)
 }
 
 // What people see: the records, why they become alike, and what they become.
@@ -87,8 +91,8 @@ fn show(
     reason: usize,
     lost: usize,
     both: &[u8],
-    records: &[u8],
-    reel: &[u8],
+    records: Option<&[u8]>,
+    reel: Option<&[u8]>,
 )
     requires { PlanFair asked fields.now }
 {
@@ -111,7 +115,7 @@ fn show(
 }
 
 // A deck that has twins has a plan, so that its second refusal does not arise.
-fn show_twins(rt: &HostRuntime, deck: &[u8], records: &[u8], reel: &[u8]) {
+fn show_twins(rt: &HostRuntime, deck: &[u8], records: Option<&[u8]>, reel: Option<&[u8]>) {
     let mut room = twins_room();
     let twins = bhexodana::bhx_twins(deck, &mut room);
     if twins.refusal != 0 {
@@ -138,7 +142,7 @@ fn show_twins(rt: &HostRuntime, deck: &[u8], records: &[u8], reel: &[u8]) {
     }
 }
 
-fn show_files(rt: &HostRuntime, deck: &[u8], records: &[u8], reel: &[u8]) {
+fn show_files(rt: &HostRuntime, deck: &[u8], records: Option<&[u8]>, reel: Option<&[u8]>) {
     let mut cards = io::large_buffer();
     let read = files::deck(rt, deck, &mut cards);
     if read.failed {
@@ -154,25 +158,23 @@ fn show_files(rt: &HostRuntime, deck: &[u8], records: &[u8], reel: &[u8]) {
 }
 
 fn show_named(rt: &HostRuntime, wanted: Wanted) {
-    let mut deck = io::buffer();
-    let n = files::name(rt, 1, &mut deck);
-    let mut records = io::buffer();
-    let m = arguments::file(rt, wanted.records, &mut records);
-    let mut reel = io::buffer();
-    let k = arguments::file(rt, wanted.reel, &mut reel);
-    if n > 0 && (m > 0 || wanted.records == 0) && (k > 0 || wanted.reel == 0) {
-        show_files(rt, &deck[..n], &records[..m], &reel[..k]);
+    let mut first = io::buffer();
+    let deck = files::name(rt, 1, &mut first);
+    let mut second = io::buffer();
+    let records = arguments::file(rt, wanted.records, &mut second);
+    let mut third = io::buffer();
+    let reel = arguments::file(rt, wanted.reel, &mut third);
+    if let (Some(deck), Ok(records), Ok(reel)) = (deck, records, reel) {
+        show_files(rt, deck, records, reel);
     }
 }
 
 fn main(rt: HostRuntime) {
-    let wanted = arguments::read(&rt);
-    if wanted.right {
-        show_named(&rt, wanted);
-        return;
+    match arguments::read(&rt) {
+        Some(wanted) => show_named(&rt, wanted),
+        None => notices::say(
+            &rt.stderr(),
+            "usage: show_twins DECK [records FILE] [reel FILE]\n",
+        ),
     }
-    notices::say(
-        &rt.stderr(),
-        "usage: show_twins DECK [records FILE] [reel FILE]\n",
-    );
 }

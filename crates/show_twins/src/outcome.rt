@@ -11,18 +11,14 @@ use terms::{Asked, Format};
 fn from_first(asked: Asked) -> Asked
     ensures { result ≡ asked_from_first asked }
 {
-    let mut whole = asked;
-    whole.first = 1;
-    whole
+    Asked { first: 1, ..asked }
 }
 
 // Where the data of the first record begins in a reel of one block: behind the header, and in FV behind its words.
 fn data_start(format: Format) -> usize {
     match format {
-        Format::FF => 12,
         Format::FV => 20,
-        Format::FU => 12,
-        Format::FS => 12,
+        Format::FF | Format::FU | Format::FS => 12,
     }
 }
 
@@ -32,9 +28,11 @@ pub(crate) fn show(to: &impl Print, asked: Asked, fields: &[u16], record: &[u8])
 {
     let format = asked.format;
     let mut reel = io::large_buffer();
-    let n = blocks::reel(format, 1, record, b"", &mut reel);
+    let Some(reel) = blocks::reel(format, 1, record, b"", &mut reel) else {
+        return;
+    };
     let mut out = io::large_buffer();
-    let ran = runs::run_plan(from_first(asked), fields, room::front(&reel, n), &mut out);
+    let ran = runs::run_plan(from_first(asked), fields, reel, &mut out);
     hex::single(
         to,
         room::behind(room::front(&out, ran.length), data_start(format)),

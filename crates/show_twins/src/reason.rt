@@ -1,64 +1,55 @@
 // Why the twins become alike, in words: the reason is that of the last field that reads the lost half.
 use crate::fields;
-use crate::fields::Side;
-use notices::{half_of_byte, say};
+use crate::fields::Numbered;
+use notices::{half_of_byte, many, say};
 use std::io::Print;
 use terms::Asked;
-
-// The number of the last field that reads a half, or 0.
-fn last_reader(fields: &[u16], half: usize) -> usize {
-    fields::last_over(fields, Side::Input, half / 2 + 1)
-}
 
 fn not_read(to: &impl Print, key: usize, lost: usize) {
     say(to, "no field reads ");
     half_of_byte(to, lost, key);
 }
 
-fn say_digits(to: &impl Print, count: usize) {
-    say(to, count);
-    if count == 1 {
-        say(to, " digit");
-    } else {
-        say(to, " digits");
-    }
-}
-
-fn dropped(to: &impl Print, deck: &[u8], key: usize, fields: &[u16], lost: usize) {
-    let reader = last_reader(fields, lost);
-    fields::say_field(to, deck, key, fields, reader);
+fn dropped(to: &impl Print, deck: &[u8], key: usize, reader: Numbered, lost: usize) {
+    fields::say_field(to, deck, key, reader);
     say(to, ", has room for ");
-    say_digits(to, fields::digits(fields::numbered(fields, reader)));
+    many(to, fields::digits(reader.field), "digit");
     say(to, ": the digit in ");
     half_of_byte(to, lost, key);
     say(to, " is dropped");
 }
 
 // The field that covers the half writes its byte last, so that it comes behind the one that reads it.
-fn covered(to: &impl Print, deck: &[u8], key: usize, fields: &[u16], lost: usize) {
-    let reader = last_reader(fields, lost);
-    let byte = fields::output_byte(fields::numbered(fields, reader), lost);
-    fields::say_field(to, deck, key, fields, reader);
+fn covered(
+    to: &impl Print,
+    deck: &[u8],
+    key: usize,
+    fields: &[u16],
+    reader: Numbered,
+    lost: usize,
+) {
+    let byte = fields::output_byte(reader.field, lost);
+    fields::say_field(to, deck, key, reader);
     say(to, ", is the last that reads ");
     half_of_byte(to, lost, key);
-    say(to, "; it writes it to byte ");
-    say(to, byte);
-    say(to, " of the output, and ");
-    fields::say_field(
+    say(
         to,
-        deck,
-        key,
-        fields,
-        fields::last_over(fields, Side::Output, byte),
+        format_args!("; it writes it to byte {byte} of the output, and "),
     );
+    if let Some(writer) = fields::last_writer(fields, byte) {
+        fields::say_field(to, deck, key, writer);
+    }
     say(to, ", covers that");
 }
 
 fn tail(to: &impl Print, asked: Asked) {
-    let input = asked.input;
-    say(to, "the tail, all data past the first ");
-    say(to, terms::record_length(input));
-    say(to, " bytes, is dropped: CV is not given");
+    let length = terms::record_length(asked.input);
+    say(
+        to,
+        format_args!(
+            "the tail, all data past the first {length} bytes, is dropped: CV is not given"
+        ),
+    );
 }
 
 // Says one of the reasons 1 to 4.
@@ -71,11 +62,12 @@ pub(crate) fn explain(
     lost: usize,
 ) {
     let key = asked.key;
-    match reason {
-        1 => not_read(to, key, lost),
-        2 => dropped(to, deck, key, fields, lost),
-        3 => covered(to, deck, key, fields, lost),
-        _ => tail(to, asked),
+    let reader = fields::last_reader(fields, lost / 2 + 1);
+    match (reason, reader) {
+        (2, Some(reader)) => dropped(to, deck, key, reader, lost),
+        (3, Some(reader)) => covered(to, deck, key, fields, reader, lost),
+        (4, _) => tail(to, asked),
+        _ => not_read(to, key, lost),
     }
     say(to, "\n");
 }

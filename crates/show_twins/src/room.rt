@@ -37,16 +37,10 @@ pub(crate) fn put_length_word(room: &mut [u8], at: usize, size: usize) {
 
 // The first bytes of the room; none where there are not so many.
 pub(crate) fn front(room: &[u8], length: usize) -> &[u8] {
-    if room.len() < length {
-        return &room[..0];
-    }
-    &room[..length]
+    room.get(..length).unwrap_or(&[])
 }
 
 // The bytes of the room from a place on; none where the place is outside.
 pub(crate) fn behind(room: &[u8], from: usize) -> &[u8] {
-    if room.len() < from {
-        return &room[..0];
-    }
-    &room[from..]
+    room.get(from..).unwrap_or(&[])
 }

@@ -1,9 +1,0 @@
--- The fields that are left fall, so the loop ends.
-use Prim.Native.Nat.{◌-◌}
-use Rattle.show_twins.proofs.fields.last_over.Given as goal
-
-abbrev pub invariant-loop-i : goal.invariant-loop-i
-invariant-loop-i l = Unit {0}
-
-abbrev pub decreases-loop-i : goal.decreases-loop-i
-decreases-loop-i l = l.count - l.i
