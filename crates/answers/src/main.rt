@@ -72,12 +72,12 @@ fn deck(to: &impl Print, words: &[u8]) {
     let mut room = room();
     let deck = text::decode(words, &mut room);
     let mut row = [0u16; 320];
-    let read = cards::read_deck(deck, &mut row);
-    shown::refusal(to, read.refusal, read.place, read.column);
-    if read.refusal == 0 {
-        let asked = read.asked;
-        let end = 5 * asked.count;
-        asked::tell(to, deck, asked, &row[..end]);
+    match cards::read_deck(deck, &mut row) {
+        Ok(asked) => {
+            shown::refusal(to, 0, 0, 0);
+            asked::tell(to, deck, asked, &row[..5 * asked.count]);
+        }
+        Err(refusal) => shown::refusal(to, refusal.number, refusal.place, refusal.column),
     }
 }
 
@@ -85,13 +85,13 @@ fn deck_and_reel(to: &impl Print, words: &[u8]) {
     let (deck, reel) = text::cut(words, b' ');
     let mut bytes = room();
     let mut row = [0u16; 320];
-    let read = cards::read_deck(text::decode(deck, &mut bytes), &mut row);
-    if read.refusal != 0 {
-        shown::refusal(to, read.refusal, read.place, read.column);
-        return;
+    match cards::read_deck(text::decode(deck, &mut bytes), &mut row) {
+        Ok(asked) => {
+            let form = tasks::form_of(tasks::task_of(asked));
+            reel::tell(to, form, text::decode(reel, &mut bytes));
+        }
+        Err(refusal) => shown::refusal(to, refusal.number, refusal.place, refusal.column),
     }
-    let form = tasks::form_of(tasks::task_of(read.asked));
-    reel::tell(to, form, text::decode(reel, &mut bytes));
 }
 
 fn deck_and_table(to: &impl Print, words: &[u8]) {

@@ -25,7 +25,8 @@ use Rattle.std.specs.Prelude.{Ok, Err}
 use Rattle.cards.specs.declared.Noted.{Noted}
 use Rattle.cards.specs.declared.CardAt.{CardAt}
 use Rattle.cards.specs.declared.CardAt.TheVariants.{UAt}
-use Rattle.cards.specs.declared.DeckRead.{DeckRead}
+use Rattle.terms.specs.declared.Asked.{Asked}
+use Rattle.cards.specs.declared.CardRefusal.{CardRefusal}
 use Rattle.cards.specs.Selected.{NotedRow, ListSays, with_words}
 use Rattle.cards.specs.Deck.{cards_in, fs_first, OperandAt, Operandless, CardAtSays, FsFine}
 use Rattle.cards.specs.Promise.{Accepts, DeckSays, InOrder, card_of_field}
@@ -204,15 +205,15 @@ module _ (deck : List ℕ) (from field : ℕ) (t : NotedRow) (card at : ℕ) (g 
 
 -- ---- the deck
 
-module _ (deck : List ℕ) (r : DeckRead) (row : List ℕ) (h : DeckSays deck r row) where
+module _ (deck row : List ℕ) where
   -- a refused deck has no card of a field
-  pub refused_card : (r.refusal ≡ 0 → ⊥) → (field : ℕ) → 0 ≡ card_of_field (asked_of deck) field
-  refused_card n field = sym (ap (λ (x : Answer RuleAsked). card_of_field x field) (refused_as deck r row h.reads n))
+  pub refused_card : (v : CardRefusal) → DeckSays deck (Err v) row → (field : ℕ) → 0 ≡ card_of_field (asked_of deck) field
+  refused_card v h field = sym (ap (λ (x : Answer RuleAsked). card_of_field x field) (refused_as deck row v h.reads))
 
   -- what an accepted deck asks for was read of its cards, which are in order
-  module _ (z : r.refusal ≡ 0) where
-    asks : (a : RuleAsked) × (asked_of deck ≡ fine a) × Accepts r row a
-    asks = accepted deck r row h.reads z
+  module _ (asked : Asked) (h : DeckSays deck (Ok asked) row) where
+    asks : (a : RuleAsked) × (asked_of deck ≡ fine a) × Accepts asked row a
+    asks = accepted deck row asked h.reads
 
     order : (fs : ℕ) × InOrder deck fs
     order = asked_order deck asks.0 asks.1

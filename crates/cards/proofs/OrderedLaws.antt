@@ -37,7 +37,7 @@ use Rattle.cards.specs.Selected.{NotedRow, no_selection, with_cards}
 use Rattle.cards.specs.Parameters.{UListed}
 use Rattle.cards.specs.Deck.{cards_in, fs_first, OperandAt, Operandless, CardAtSays, FsRead, FsSaid}
 use Rattle.cards.specs.CardRefusals.{judged_as}
-use Rattle.cards.specs.Promise.{refused_deck, DeckAnswered, DeckReads, InOrder}
+use Rattle.cards.specs.Promise.{card_refusal, refused_deck, DeckAnswered, DeckReads, InOrder}
 use Rattle.cards.proofs.RowLaws.{Fair, Holds, holds_cards}
 use Rattle.cards.proofs.ListedLaws.{words_fair}
 use Rattle.cards.proofs.DeckLaws.{fs_all, cards_ordered}
@@ -72,7 +72,7 @@ order_refused deck number place e row = go (operands_of deck) refl e
   where
     go : (x : Answer Operands) → operands_of deck ≡ x → card_count x ≡ refused number place → DeckReads deck (refused_deck number place 0) row
     go (fine os) q e = absurd (not_fine _ _ (sym e))
-    go (refuse r) q e = let s = refuse_same _ _ (sym e) in rw q (λ i. refused_deck (s i).number (s i).place (s i).column)
+    go (refuse r) q e = let s = refuse_same _ _ (sym e) in rw q (λ i. card_refusal (s i).number (s i).place (s i).column)
 
 -- there are a U card and an END card
 pub order_many : (deck : List ℕ) (n : ℕ) → card_count (operands_of deck) ≡ fine n → 2 ≤ n
@@ -160,10 +160,10 @@ module _ (deck : List ℕ) (fs : ℕ) (order : InOrder deck fs) where
     words s = list_of "," (worded parameter) s
 
     -- what was read of the U card
-    abbrev pub Listed : Result URead ℕ → Type 0
+    abbrev pub Listed : Result URead Unread → Type 0
     Listed r = UListed (start + 1) (slice start end deck) (words (slice start end deck)) r
 
-    listed : (r : Result URead ℕ) → Listed r → UListed (suc operands.before) operands.u (words operands.u) r
+    listed : (r : Result URead Unread) → Listed r → UListed (suc operands.before) operands.u (words operands.u) r
     listed r l = subst (λ (s : List ℕ). UListed (suc operands.before) s (words s) r) u_is (subst (λ (c : ℕ). UListed c (slice start end deck) (words (slice start end deck)) r) before_is l)
 
     u_plain : (x : Read (List (Worded Parameter))) → words operands.u ≡ x → u_operand operands.u ≡ plain_read x
@@ -171,18 +171,18 @@ module _ (deck : List ℕ) (fs : ℕ) (order : InOrder deck fs) where
     u_plain x e = sym (list_plain "," parameter operands.u) ∙ ap plain_read e
 
     -- the U card could not be read
-    pub unread_u : (unread : ℕ) → Listed (Err unread) → (row : List ℕ) → DeckReads deck (refused_deck 3 1 unread) row
+    pub unread_u : (unread : Unread) → Listed (Err unread) → (row : List ℕ) → DeckReads deck (refused_deck 3 unread.card unread.column) row
     unfolding cards_of ◌>>=◌
     unread_u unread l row = go (words operands.u) refl (listed (Err unread) l)
       where
-        go : (x : Read (List (Worded Parameter))) → words operands.u ≡ x → UListed (suc operands.before) operands.u x (Err unread) → DeckReads deck (refused_deck 3 1 unread) row
+        go : (x : Read (List (Worded Parameter))) → words operands.u ≡ x → UListed (suc operands.before) operands.u x (Err unread) → DeckReads deck (refused_deck 3 unread.card unread.column) row
         go (read ws left) e l = absurd l
-        go (stopped left) e (k, m, d, u) =
-            let c : operands.before + suc k ≡ unread = omega arith in
-            let g : grammatical 1 operands.before operands.u (u_operand operands.u) ≡ refused_at 3 1 unread
+        go (stopped left) e (one, (k, m, d, u)) =
+            let c : operands.before + suc k ≡ unread.column = omega arith in
+            let g : grammatical 1 operands.before operands.u (u_operand operands.u) ≡ refused_at 3 1 unread.column
             = grammatical_at 1 operands.before operands.u (u_operand operands.u) k m (u_plain (stopped left) e ∙ ap stopped d) ∙ ap (refused_at 3 1) c in
-            let q : asked_of deck ≡ refused_at 3 1 unread = asked_by ∙ rw g refl in
-            subst (λ (a : Answer RuleAsked). DeckAnswered a (refused_deck 3 1 unread) row) (sym q) refl
+            let q : asked_of deck ≡ refused_at 3 1 unread.column = asked_by ∙ rw g refl in
+            subst (λ (a : Answer RuleAsked). DeckAnswered a (refused_deck 3 unread.card unread.column) row) (sym q) (λ i. card_refusal 3 (one i) unread.column)
 
     module _ (r : URead) (l : Listed (Ok r)) where
       abbrev key : ℕ
@@ -211,7 +211,7 @@ module _ (deck : List ℕ) (fs : ℕ) (order : InOrder deck fs) where
           go (read ws left) e l (refuse x) q w =
               let v : asked_of deck ≡ refuse x = asked_by ∙ rw (read_of ws left e, q) refl in
               subst (λ (a : Answer RuleAsked). DeckAnswered a (refused_deck 3 f.card f.column) row) (sym v)
-              (λ i. refused_deck (sym (items_refused operands.fs x q).0 i) (w.0 i) (w.1 i))
+              (λ i. card_refusal (sym (items_refused operands.fs x q).0 i) (w.0 i) (w.1 i))
 
       -- all could be read
       pub all_read : (noted : Noted) (row : List ℕ) → FsListed (Ok noted) row → DeckReads deck (judged_as r.state r.outside noted fs) row

@@ -223,11 +223,11 @@ module _ (c : ℕ) (low : 1 ≤ c) (s : List ℕ) (st : Parameters) (o : Outside
   abbrev takes : Within 1 (worded parameter)
   takes = within_worded parameter within_parameter
 
-  stopped_at : (k : ℕ) → k ≤ length s → words s ≡ stopped (drop k s) → (unread : ℕ) → unread ≡ c + k → UListed c s (words s) (Err unread)
-  stopped_at k l e unread h = subst (λ (x : Read (List (Worded Parameter))). UListed c s x (Err unread)) (sym e) (k, l, refl, h)
+  stopped_at : (k : ℕ) → k ≤ length s → words s ≡ stopped (drop k s) → (unread : ℕ) → unread ≡ c + k → UListed c s (words s) (Err (record { card = 1; column = unread }))
+  stopped_at k l e unread h = subst (λ (x : Read (List (Worded Parameter))). UListed c s x (Err (record { card = 1; column = unread }))) (sym e) (refl, (k, l, refl, h))
 
   -- it stops
-  pub going_stop : (stop : Stop) → ParameterSays (drop at s) (Err stop) → UListed c s (words s) (Err (c + at + stop.at))
+  pub going_stop : (stop : Stop) → ParameterSays (drop at s) (Err stop) → UListed c s (words s) (Err (record { card = 1; column = c + at + stop.at }))
   going_stop stop e =
       let a = stop.at in
       let m = e.0 in
@@ -291,7 +291,7 @@ module _ (c : ℕ) (low : 1 ≤ c) (s : List ℕ) (st : Parameters) (o : Outside
         (more, more_numbers)
 
     -- another byte than a comma behind it
-    pub going_other : at + n < length s → (get_or s (at + n) 0 ≡ 44 → ⊥) → UListed c s (words s) (Err (c + (at + n)))
+    pub going_other : at + n < length s → (get_or s (at + n) 0 ≡ 44 → ⊥) → UListed c s (words s) (Err (record { card = 1; column = c + (at + n) }))
     going_other l f =
         stopped_at (at + n) (omega arith)
         (g.on

@@ -1,7 +1,10 @@
--- The promise of `read_deck` allows one answer to a deck and one row, and a refusal number of 0 tells that the deck is accepted: what the answer means in the
--- rules determines each of its parts, and no row of the table has number 0. That of `field_card` allows one card, which it names.
+-- The promise of `read_deck` allows one answer to a deck and one row, and no refusal has number 0: what the answer means in the rules determines each of its
+-- parts, and no row of the table has number 0. That of `field_card` allows one card, which it names.
 use mathlib.Core.Path.{◌≡◌, refl, ap, sym, ◌∙◌, subst}
-use mathlib.Core.List.{List}
+use mathlib.Core.Bool.{true, false, true≢false}
+use mathlib.Core.List.{List, []}
+use Rattle.std.specs.Result.{is_err}
+use Rattle.rows.specs.Kept.{row_of}
 use Prim.Native.Nat.{ℕ, zero, suc, ◌≤◌}
 use native.Mathlib.Omega.{arith}
 use Rattle.rules.specs.Answer.{Refusal, Answer, fine, refuse, refused_at}
@@ -18,8 +21,9 @@ use Rattle.terms.specs.declared.Asked.{Asked}
 use Rattle.terms.specs.Meaning.{mode_of, format_of, size_of, utility_of}
 use Rattle.readers.specs.declared.UParameter.TheVariants.{ModeIs, FormatIs, OutputIs}
 use Rattle.readers.proofs.OnlyOne.{parameter_once}
-use Rattle.cards.specs.declared.DeckRead.{DeckRead}
-use Rattle.cards.specs.Promise.{nothing_asked, refused_deck, Accepts, DeckAnswered, DeckReads, DeckSays, card_of_field}
+use Rattle.std.specs.Prelude.{Result, Ok, Err}
+use Rattle.cards.specs.declared.CardRefusal.{CardRefusal}
+use Rattle.cards.specs.Promise.{nothing_asked, Accepts, DeckAnswered, DeckReads, DeckSays, card_of_field}
 
 -- ---- one accepted deck
 
@@ -32,13 +36,7 @@ format_once f g e = let q : FormatIs f ≡ FormatIs g = parameter_once (FormatIs
 size_once : (z y : Size) → size_of z ≡ size_of y → z ≡ y
 size_once z y e = let q : OutputIs z ≡ OutputIs y = parameter_once (OutputIs z) (OutputIs y) (ap (λ x. output_is x) e) in cc
 
-module _ (r q : DeckRead) (one_row other_row : List ℕ) (a : RuleAsked) (x : Accepts r one_row a) (y : Accepts q other_row a) where
-  abbrev one : Asked
-  one = r.asked
-
-  abbrev other : Asked
-  other = q.asked
-
+module _ (one other : Asked) (one_row other_row : List ℕ) (a : RuleAsked) (x : Accepts one one_row a) (y : Accepts other other_row a) where
   utilities : utility_of one ≡ utility_of other
   utilities = x.means.utility ∙ sym y.means.utility
 
@@ -57,12 +55,8 @@ module _ (r q : DeckRead) (one_row other_row : List ℕ) (a : RuleAsked) (x : Ac
       let w : one.keyed ≡ other.keyed = x.means.keyed ∙ sym y.means.keyed in
       λ i. record { mode = m i; format = f i; input = n i; output = o i; first = (u i).first; key = k i; count = c i; fs = s i; cv = v i; keyed = w i }
 
-  accepts_once : (r ≡ q) × (one_row ≡ other_row)
-  accepts_once =
-      let e : r.refusal ≡ q.refusal = x.refusal ∙ sym y.refusal in
-      let f : r.place ≡ q.place = x.place ∙ sym y.place in
-      let g : r.column ≡ q.column = x.column ∙ sym y.column in
-      (λ i. record { refusal = e i; place = f i; column = g i; asked = asked_once i }, x.fields ∙ sym y.fields)
+  accepts_once : (one ≡ other) × (one_row ≡ other_row)
+  accepts_once = (asked_once, x.fields ∙ sym y.fields)
 
 pub nothing_only_one : {r q : Asked} → r ≡ nothing_asked → q ≡ nothing_asked → r ≡ q
 nothing_only_one e f = e ∙ sym f
@@ -78,52 +72,57 @@ some_refusal deck x e =
     go zero h = absurd h
     go (suc n) h = omega arith
 
--- the three numbers of a refused deck
-numbers_of : (x : Refusal) → ((refused_deck x.number x.place x.column).refusal ≡ x.number)
-    × ((refused_deck x.number x.place x.column).place ≡ x.place) × ((refused_deck x.number x.place x.column).column ≡ x.column)
-unfolding refused_deck
-numbers_of x = (refl, refl, refl)
-
-module _ (deck : List ℕ) (r : DeckRead) (row : List ℕ) (h : DeckReads deck r row) where
+module _ (deck row : List ℕ) where
   -- the deck is accepted
-  pub accepted : r.refusal ≡ 0 → (a : RuleAsked) × (asked_of deck ≡ fine a) × Accepts r row a
-  accepted e = go (asked_of deck) refl h
+  pub accepted : (x : Asked) → DeckReads deck (Ok x) row → (a : RuleAsked) × (asked_of deck ≡ fine a) × Accepts x row a
+  accepted x h = go (asked_of deck) refl h
     where
-      go : (x : Answer RuleAsked) → asked_of deck ≡ x → DeckAnswered x r row → (a : RuleAsked) × (asked_of deck ≡ fine a) × Accepts r row a
+      go : (y : Answer RuleAsked) → asked_of deck ≡ y → DeckAnswered y (Ok x) row → (a : RuleAsked) × (asked_of deck ≡ fine a) × Accepts x row a
       go (fine a) q h = (a, q, h)
-      go (refuse x) q h = absurd (omega (arith, some_refusal deck x q, e, ap (λ (d : DeckRead). d.refusal) h, (numbers_of x).0))
+      go (refuse y) q h = absurd h
 
-  -- it is refused, as the answer says
-  pub refused_as : (r.refusal ≡ 0 → ⊥) → asked_of deck ≡ refused_at r.refusal r.place r.column
-  refused_as n = go (asked_of deck) refl h
-    where
-      go : (x : Answer RuleAsked) → asked_of deck ≡ x → DeckAnswered x r row → asked_of deck ≡ refused_at r.refusal r.place r.column
-      go (fine a) q h = absurd (n h.refusal)
-      go (refuse x) q h =
-          let a : x.number ≡ r.refusal = sym (ap (λ (d : DeckRead). d.refusal) h ∙ (numbers_of x).0) in
-          let b : x.place ≡ r.place = sym (ap (λ (d : DeckRead). d.place) h ∙ (numbers_of x).1) in
-          let c : x.column ≡ r.column = sym (ap (λ (d : DeckRead). d.column) h ∙ (numbers_of x).2) in
-          q ∙ (λ i. refused_at (a i) (b i) (c i))
+  module _ (v : CardRefusal) (h : DeckReads deck (Err v) row) where
+    -- it is refused, as the answer says
+    pub refused_as : asked_of deck ≡ refused_at v.number v.place v.column
+    refused_as = go (asked_of deck) refl h
+      where
+        go : (y : Answer RuleAsked) → asked_of deck ≡ y → DeckAnswered y (Err v) row → asked_of deck ≡ refused_at v.number v.place v.column
+        go (fine a) q h = absurd h
+        go (refuse y) q h = q ∙ (λ i. refused_at (sym h i).number (sym h i).place (sym h i).column)
+
+    -- by a number that is not 0
+    pub refused_some : 1 ≤ v.number
+    refused_some = some_refusal deck (record { number = v.number; place = v.place; column = v.column }) refused_as
 
 -- nothing is said of the row of a deck that is refused but that it is cleared
-pub cleared : (deck : List ℕ) (r : DeckRead) (before after : List ℕ) → (r.refusal ≡ 0 → ⊥) → DeckReads deck r before → DeckReads deck r after
-cleared deck r before after n h = go (asked_of deck) h
+pub cleared : (deck : List ℕ) (v : CardRefusal) (before after : List ℕ) → DeckReads deck (Err v) before → DeckReads deck (Err v) after
+cleared deck v before after h = go (asked_of deck) h
   where
-    go : (x : Answer RuleAsked) → DeckAnswered x r before → DeckAnswered x r after
-    go (fine a) h = absurd (n h.refusal)
+    go : (x : Answer RuleAsked) → DeckAnswered x (Err v) before → DeckAnswered x (Err v) after
+    go (fine a) h = h
     go (refuse x) h = h
+
+-- a refused deck's row is cleared, an accepted deck's kept
+pub says_cleared : (deck : List ℕ) (r : Result Asked CardRefusal) (before after : List ℕ) → is_err r ≡ true → DeckReads deck r before → after ≡ row_of [] → DeckSays deck r after
+says_cleared deck (Ok x) before after e h k = absurd (true≢false (sym e))
+says_cleared deck (Err v) before after e h k = record { reads = cleared deck v before after h; none = λ w f. k }
+
+pub says_kept : (deck : List ℕ) (r : Result Asked CardRefusal) (row : List ℕ) → is_err r ≡ false → DeckReads deck r row → DeckSays deck r row
+says_kept deck (Ok x) row e h = record { reads = h; none = λ v f. absurd (true≢false (sym (ap is_err f))) }
+says_kept deck (Err v) row e h = absurd (true≢false e)
 
 -- ---- one outcome
 
-pub only_one : (deck : List ℕ) (r q : DeckRead) (one_row other_row : List ℕ) → DeckSays deck r one_row → DeckSays deck q other_row → (r ≡ q) × (one_row ≡ other_row)
-only_one deck r q one_row other_row e f = go (asked_of deck) refl e.reads f.reads
+pub only_one : (deck : List ℕ) (r q : Result Asked CardRefusal) (one_row other_row : List ℕ) → DeckSays deck r one_row → DeckSays deck q other_row → (r ≡ q) × (one_row ≡ other_row)
+only_one deck r q one_row other_row e f = go (asked_of deck) r q refl refl e.reads f.reads
   where
-    go : (x : Answer RuleAsked) → asked_of deck ≡ x → DeckAnswered x r one_row → DeckAnswered x q other_row → (r ≡ q) × (one_row ≡ other_row)
-    go (fine a) w g h = accepts_once r q one_row other_row a g h
-    go (refuse x) w g h =
-        let some : (d : DeckRead) → d ≡ refused_deck x.number x.place x.column → d.refusal ≡ 0 → ⊥
-        = λ (d : DeckRead) k z. omega (arith, some_refusal deck x w, z, ap (λ (d : DeckRead). d.refusal) k, (numbers_of x).0) in
-        (g ∙ sym h, e.none (some r g) ∙ sym (f.none (some q h)))
+    go : (x : Answer RuleAsked) (s t : Result Asked CardRefusal) → r ≡ s → q ≡ t → DeckAnswered x s one_row → DeckAnswered x t other_row → (r ≡ q) × (one_row ≡ other_row)
+    go (fine a) (Ok x) (Ok y) k l g h = let w = accepts_once x y one_row other_row a g h in (k ∙ ap Ok w.0 ∙ sym l, w.1)
+    go (fine a) (Err v) t k l g h = absurd g
+    go (fine a) (Ok x) (Err v) k l g h = absurd h
+    go (refuse x) (Ok y) t k l g h = absurd g
+    go (refuse x) (Err v) (Ok y) k l g h = absurd h
+    go (refuse x) (Err v) (Err w) k l g h = (k ∙ ap Err (g ∙ sym h) ∙ sym l, e.none v k ∙ sym (f.none w l))
 
 pub card_only_one : (deck : List ℕ) (field : ℕ) {r q : ℕ} → r ≡ card_of_field (asked_of deck) field → q ≡ card_of_field (asked_of deck) field → r ≡ q
 card_only_one deck field e f = e ∙ sym f

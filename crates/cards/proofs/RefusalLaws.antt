@@ -40,8 +40,9 @@ use Rattle.cards.specs.declared.Noted.{Noted}
 use Rattle.cards.specs.declared.CardRefusal.{CardRefusal}
 use Rattle.cards.specs.Selected.{NotedRow, no_selection, with_cards}
 use Rattle.cards.specs.Parameters.{has_seen, given_of, Notes, NotesOutside}
-use Rattle.cards.specs.CardRefusals.{is_complete, utility_in, u_outside, card_refusal, or_noted, or_column, limits_of, card_refusal_of, asked_for, judged_as}
-use Rattle.cards.specs.Promise.{Accepts, DeckAnswered}
+use Rattle.std.specs.Prelude.{Result, Ok, Err}
+use Rattle.cards.specs.CardRefusals.{is_complete, utility_in, u_outside, or_noted, or_column, limits_of, card_refusal_of, asked_for, asked_or, judged_as}
+use Rattle.cards.specs.Promise.{card_refusal, Accepts, DeckAnswered}
 use Rattle.cards.proofs.NotedLaws.{all_fields, many_fields, limited}
 use Rattle.cards.proofs.RowLaws.{Holds}
 use Rattle.cards.proofs.ColumnLaws.{cv_column_lem, number_column}
@@ -66,8 +67,9 @@ complete_given p = go (has_seen p 0) (has_seen p 1) (has_seen p 2) (has_seen p 3
 abbrev pub judging : Operands → Cards → Answer RuleAsked
 judging os c = once os c >> (complete (given c.parameters) >>= λ u. limits os c u >> fine (record { utility = u; cards = c.items }))
 
-abbrev answer_of : {A : Type 0} → CardRefusal → A → Answer A
-answer_of v a = cond (eqb v.number 0) (fine a) (refused_at v.number v.place v.column)
+abbrev answer_of : {A : Type 0} → Result Unit CardRefusal → A → Answer A
+answer_of (Ok u) a = fine a
+answer_of (Err v) a = refused_at v.number v.place v.column
 
 -- a card that was noted, and a column of the U card that was noted, where 0 is none
 abbrev card_noted : ℕ → ℕ → ℕ → Answer Unit
@@ -91,14 +93,14 @@ column_noted_lem number (suc c) false e = refl
 
 -- the tests, each as it was noted
 limits_order : {A : Type 0} (over out beyond column : ℕ) (a : A)
-    → ((noted 6 over >> (column_noted 7 out >> card_noted 7 beyond column)) >> fine a) ≡ answer_of (or_noted 6 over 0 (or_column 7 out (or_noted 7 beyond column (card_refusal 0 0 0)))) a
+    → ((noted 6 over >> (column_noted 7 out >> card_noted 7 beyond column)) >> fine a) ≡ answer_of (or_noted 6 over 0 (or_column 7 out (or_noted 7 beyond column (Ok tt)))) a
 unfolding ◌>>◌
 limits_order (suc k) out beyond column a = rw (ne_eqb (suc k) 0 (λ q. omega arith))
 limits_order zero (suc k) beyond column a = rw (ne_eqb (suc k) 0 (λ q. omega arith))
 limits_order zero zero (suc k) column a = rw (ne_eqb (suc k) 0 (λ q. omega arith))
 limits_order zero zero zero column a = refl
 
-once_order : {A : Type 0} (twice second column : ℕ) (later : Answer A) (v : CardRefusal) (a : A) → (twice ≡ 0 → later ≡ answer_of v a)
+once_order : {A : Type 0} (twice second column : ℕ) (later : Answer A) (v : Result Unit CardRefusal) (a : A) → (twice ≡ 0 → later ≡ answer_of v a)
     → ((column_noted 4 twice >> card_noted 4 second column) >> later) ≡ answer_of (or_column 4 twice (or_noted 4 second column v)) a
 unfolding ◌>>◌
 once_order (suc k) second column later v a h = rw (ne_eqb (suc k) 0 (λ q. omega arith))
@@ -176,14 +178,14 @@ module _ (os : Operands) (p : Parameters) (o : OutsideColumns) (ws : List (Worde
   judging_is =
       (λ i. (twice_is i >> second_is i) >> (complete (given ps) >>= rest))
       ∙ once_order p.twice k.second_cv k.second_column (complete (given ps) >>= rest)
-      (cond (is_complete p) (or_noted 6 k.sixty_fifth 0 (or_column 7 (u_outside (format_of p.format) o) (or_noted 7 k.beyond k.beyond_column (card_refusal 0 0 0)))) (card_refusal 5 1 0)) the_asked
+      (cond (is_complete p) (or_noted 6 k.sixty_fifth 0 (or_column 7 (u_outside (format_of p.format) o) (or_noted 7 k.beyond k.beyond_column (Ok tt)))) (Err (card_refusal 5 1 0))) the_asked
       (λ z. go z (is_complete p) refl)
     where
       rest : Utility → Answer RuleAsked
       rest u = limits os the_cards u >> fine (record { utility = u; cards = cs })
 
       go : p.twice ≡ 0 → (full : Bool) → is_complete p ≡ full → (complete (given ps) >>= rest)
-          ≡ answer_of (cond (is_complete p) (or_noted 6 k.sixty_fifth 0 (or_column 7 (u_outside (format_of p.format) o) (or_noted 7 k.beyond k.beyond_column (card_refusal 0 0 0)))) (card_refusal 5 1 0)) the_asked
+          ≡ answer_of (cond (is_complete p) (or_noted 6 k.sixty_fifth 0 (or_column 7 (u_outside (format_of p.format) o) (or_noted 7 k.beyond k.beyond_column (Ok tt)))) (Err (card_refusal 5 1 0))) the_asked
       go z false e =
           let c : complete (given ps) ≡ refused 5 1 = complete_is ∙ ap (λ (x : Bool). cond x (fine (utility_in p)) (refused 5 1)) e in
           rw (c, e) refl
@@ -220,16 +222,10 @@ module _ (os : Operands) (p : Parameters) (o : OutsideColumns) (ws : List (Worde
           keyed = h.tells.keyed;
         }
 
-    accepts : Accepts (record { refusal = 0; place = 0; column = 0; asked = asked_for p k fs }) s.1 the_asked
+    accepts : Accepts (asked_for p k fs) s.1 the_asked
     unfolding laid_fields utility_in
     accepts =
-        record {
-          refusal = refl;
-          place = refl;
-          column = refl;
-          means = means_asked;
-          fields = h.row right few ∙ ap (λ (key : ℕ). row_of (map (laid key) (all_fields cs))) key_is;
-        }
+        record { means = means_asked; fields = h.row right few ∙ ap (λ (key : ℕ). row_of (map (laid key) (all_fields cs))) key_is }
 
   -- where nothing is refused there are at most 64 fields, with all numbers within their limits
   fair_fields : judging os the_cards ≡ fine the_asked → (length (all_fields cs) ≤ 64) × (every field_limits (all_fields cs) ≡ true) × UtilityWithin (utility_in p)
@@ -248,14 +244,24 @@ module _ (os : Operands) (p : Parameters) (o : OutsideColumns) (ws : List (Worde
 
   pub judged_said : (fs : ℕ) → fs ≡ length cs → DeckAnswered (judging os the_cards) (judged_as p o k fs) s.1
   unfolding judged_as
-  judged_said fs m = go (eqb (card_refusal_of p o k).number 0) refl
+  judged_said fs m = go (card_refusal_of p o k) refl
     where
-      go : (t : Bool) → eqb (card_refusal_of p o k).number 0 ≡ t → DeckAnswered (judging os the_cards) (judged_as p o k fs) s.1
-      go true e =
-          let j : judging os the_cards ≡ fine the_asked = judging_is ∙ ap (λ (t : Bool). cond t (fine the_asked) (refused_at (card_refusal_of p o k).number (card_refusal_of p o k).place (card_refusal_of p o k).column)) e in
+      go : (v : Result Unit CardRefusal) → card_refusal_of p o k ≡ v → DeckAnswered (judging os the_cards) (asked_or (asked_for p k fs) v) s.1
+      go (Ok u) e =
+          let j : judging os the_cards ≡ fine the_asked = judging_is ∙ ap (λ (v : Result Unit CardRefusal). answer_of v the_asked) e in
           let g = fair_fields j in
-          subst (λ (x : Answer RuleAsked). DeckAnswered x (judged_as p o k fs) s.1) (sym j) (rw e (accepts fs m g.0 g.1 g.2))
-      go false e =
-          let j : judging os the_cards ≡ refused_at (card_refusal_of p o k).number (card_refusal_of p o k).place (card_refusal_of p o k).column
-          = judging_is ∙ ap (λ (t : Bool). cond t (fine the_asked) (refused_at (card_refusal_of p o k).number (card_refusal_of p o k).place (card_refusal_of p o k).column)) e in
-          subst (λ (x : Answer RuleAsked). DeckAnswered x (judged_as p o k fs) s.1) (sym j) (rw e)
+          subst (λ (x : Answer RuleAsked). DeckAnswered x (Ok (asked_for p k fs)) s.1) (sym j) (accepts fs m g.0 g.1 g.2)
+      go (Err v) e =
+          let j : judging os the_cards ≡ refused_at v.number v.place v.column = judging_is ∙ ap (λ (v : Result Unit CardRefusal). answer_of v the_asked) e in
+          subst (λ (x : Answer RuleAsked). DeckAnswered x (Err v) s.1) (sym j) refl
+
+-- ---- as it is judged
+
+module _ (p : Parameters) (o : OutsideColumns) (n : Noted) (fs : ℕ) where
+  pub judged_refused : (v : CardRefusal) → Err v ≡ card_refusal_of p o n → judged_as p o n fs ≡ Err v
+  unfolding judged_as
+  judged_refused v e = ap (asked_or (asked_for p n fs)) (sym e)
+
+  pub judged_asked : (u : Unit) → Ok u ≡ card_refusal_of p o n → judged_as p o n fs ≡ Ok (asked_for p n fs)
+  unfolding judged_as
+  judged_asked u e = ap (asked_or (asked_for p n fs)) (sym e)

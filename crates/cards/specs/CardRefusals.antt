@@ -1,5 +1,5 @@
 -- Refusals 4 to 7 as they are told from what was noted of the U card and of the FS cards.
-use Rattle.std.specs.Prelude.{Bool, cond, ◌&&◌, ℕ, eqb}
+use Rattle.std.specs.Prelude.{Bool, cond, ◌&&◌, ℕ, eqb, Result, Ok, Err}
 use Rattle.rules.specs.Grammar.{Format, ff, fv, fu, fsp}
 use Rattle.rules.specs.Asked.{Utility}
 use Rattle.terms.specs.declared.Asked.{Asked}
@@ -9,9 +9,8 @@ use Rattle.cards.specs.declared.Parameters.{Parameters}
 use Rattle.cards.specs.declared.OutsideColumns.{OutsideColumns}
 use Rattle.cards.specs.declared.Noted.{Noted}
 use Rattle.cards.specs.declared.CardRefusal.{CardRefusal}
-use Rattle.cards.specs.declared.DeckRead.{DeckRead}
 use Rattle.cards.specs.Parameters.{has_seen}
-use Rattle.cards.specs.Promise.{refused_deck}
+use Rattle.cards.specs.Promise.{card_refusal}
 
 -- T, F, A and B are given
 abbrev pub is_complete : Parameters → Bool
@@ -28,27 +27,24 @@ u_outside fv o = o.variable
 u_outside fu o = o.plain
 u_outside fsp o = o.variable
 
-abbrev pub card_refusal : ℕ → ℕ → ℕ → CardRefusal
-card_refusal number place column = record { number = number; place = place; column = column }
-
 -- a card that was noted, with a column
-abbrev pub or_noted : ℕ → ℕ → ℕ → CardRefusal → CardRefusal
-or_noted number card column next = cond (eqb card 0) next (card_refusal number card column)
+abbrev pub or_noted : ℕ → ℕ → ℕ → Result Unit CardRefusal → Result Unit CardRefusal
+or_noted number card column next = cond (eqb card 0) next (Err (card_refusal number card column))
 
 -- a column of the U card that was noted
-abbrev pub or_column : ℕ → ℕ → CardRefusal → CardRefusal
-or_column number column next = cond (eqb column 0) next (card_refusal number 1 column)
+abbrev pub or_column : ℕ → ℕ → Result Unit CardRefusal → Result Unit CardRefusal
+or_column number column next = cond (eqb column 0) next (Err (card_refusal number 1 column))
 
 -- refusals 6 and 7
-unfoldable pub limits_of : Format → OutsideColumns → Noted → CardRefusal
-limits_of f o n = or_noted 6 n.sixty_fifth 0 (or_column 7 (u_outside f o) (or_noted 7 n.beyond n.beyond_column (card_refusal 0 0 0)))
+unfoldable pub limits_of : Format → OutsideColumns → Noted → Result Unit CardRefusal
+limits_of f o n = or_noted 6 n.sixty_fifth 0 (or_column 7 (u_outside f o) (or_noted 7 n.beyond n.beyond_column (Ok tt)))
 
 -- the lowest number first, and of one number the U card before the FS cards
-unfoldable pub card_refusal_of : Parameters → OutsideColumns → Noted → CardRefusal
+unfoldable pub card_refusal_of : Parameters → OutsideColumns → Noted → Result Unit CardRefusal
 card_refusal_of p o n =
     or_column 4 p.twice
     (or_noted 4 n.second_cv n.second_column
-    (cond (is_complete p) (limits_of (format_of p.format) o n) (card_refusal 5 1 0)))
+    (cond (is_complete p) (limits_of (format_of p.format) o n) (Err (card_refusal 5 1 0))))
 
 -- what the cards ask for, where they are not refused
 unfoldable pub asked_for : Parameters → Noted → ℕ → Asked
@@ -56,7 +52,9 @@ asked_for p n fs =
     record { mode = p.mode; format = p.format; input = joined_of p.input; output = p.output; first = p.first; key = n.key; count = n.count; fs = fs; cv = n.cv; keyed = n.keyed }
 
 -- the deck whose cards all could be read
-unfoldable pub judged_as : Parameters → OutsideColumns → Noted → ℕ → DeckRead
-judged_as p o n fs =
-    let v = card_refusal_of p o n in
-    cond (eqb v.number 0) (record { refusal = 0; place = 0; column = 0; asked = asked_for p n fs }) (refused_deck v.number v.place v.column)
+abbrev pub asked_or : Asked → Result Unit CardRefusal → Result Asked CardRefusal
+asked_or a (Ok u) = Ok a
+asked_or a (Err v) = Err v
+
+unfoldable pub judged_as : Parameters → OutsideColumns → Noted → ℕ → Result Asked CardRefusal
+judged_as p o n fs = asked_or (asked_for p n fs) (card_refusal_of p o n)

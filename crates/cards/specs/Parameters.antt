@@ -17,6 +17,7 @@ use Rattle.limits.specs.Limits.{parameter_outside}
 use Rattle.cards.specs.declared.Parameters.{Parameters}
 use Rattle.cards.specs.declared.OutsideColumns.{OutsideColumns}
 use Rattle.cards.specs.declared.URead.{URead}
+use Rattle.cards.specs.declared.Unread.{Unread}
 use Rattle.cards.specs.Stops.{StopsAt}
 
 unfoldable pub no_parameter : Parameters
@@ -87,8 +88,8 @@ pub record NotesOutside (column : ℕ) (o : OutsideColumns) (ws : List (Worded P
   pub variable : o.variable ≡ outside_among (parameter_numbers fv) column ws
 
 -- what was read of a U card whose operand begins at this column: its parameters, or where it stopped
-abbrev pub UListed : ℕ → List ℕ → Read (List (Worded Parameter)) → Result URead ℕ → Type 0
+abbrev pub UListed : ℕ → List ℕ → Read (List (Worded Parameter)) → Result URead Unread → Type 0
 UListed column s (read ws left) (Ok u) = Notes column u.state ws × NotesOutside column u.outside ws
 UListed column s (read ws left) (Err unread) = ⊥
 UListed column s (stopped left) (Ok u) = ⊥
-UListed column s (stopped left) (Err unread) = StopsAt column s left unread
+UListed column s (stopped left) (Err unread) = (unread.card ≡ 1) × StopsAt column s left unread.column

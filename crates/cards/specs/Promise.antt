@@ -1,5 +1,5 @@
 -- What `read_deck` promises of its answer and of the lent row, for every deck: the refusal of 1 to 7 that the rules give, or what they say that the cards ask for.
-use Rattle.std.specs.Prelude.{◌≡◌, List, [], ℕ, ◌+◌, get_or}
+use Rattle.std.specs.Prelude.{◌≡◌, List, [], ℕ, ◌+◌, get_or, Result, Ok, Err}
 use Rattle.rules.specs.Answer.{Answer, fine, refuse}
 use Rattle.rules.specs.Order.{operands_of}
 use Rattle.rules.specs.Asked.{Asked as RuleAsked, asked_of}
@@ -10,7 +10,7 @@ use Rattle.terms.specs.declared.Asked.{Asked}
 use Rattle.terms.specs.Meaning.{laid_fields, field_cards, Means}
 use Rattle.rows.specs.Kept.{row_of}
 use Rattle.lines.specs.Ordering.{card_count}
-use Rattle.cards.specs.declared.DeckRead.{DeckRead}
+use Rattle.cards.specs.declared.CardRefusal.{CardRefusal}
 
 unfoldable pub nothing_asked : Asked
 nothing_asked =
@@ -27,29 +27,31 @@ nothing_asked =
       keyed = 0;
     }
 
-unfoldable pub refused_deck : ℕ → ℕ → ℕ → DeckRead
-refused_deck number place column = record { refusal = number; place = place; column = column; asked = nothing_asked }
+abbrev pub card_refusal : ℕ → ℕ → ℕ → CardRefusal
+card_refusal number place column = record { number = number; place = place; column = column }
 
--- the answer says what the cards ask for, and nothing else; the row holds their fields
-pub record Accepts (r : DeckRead) (row : List ℕ) (a : RuleAsked) : Type 0 where
-  pub refusal : r.refusal ≡ 0
-  pub place : r.place ≡ 0
-  pub column : r.column ≡ 0
-  pub means : Means r.asked a
+abbrev pub refused_deck : ℕ → ℕ → ℕ → Result Asked CardRefusal
+refused_deck number place column = Err (card_refusal number place column)
+
+-- this is what the cards ask for, and nothing else; the row holds their fields
+pub record Accepts (x : Asked) (row : List ℕ) (a : RuleAsked) : Type 0 where
+  pub means : Means x a
   pub fields : row ≡ row_of (laid_fields a)
 
--- or its refusal
-abbrev pub DeckAnswered : Answer RuleAsked → DeckRead → List ℕ → Type 0
-DeckAnswered (fine a) r row = Accepts r row a
-DeckAnswered (refuse x) r row = r ≡ refused_deck x.number x.place x.column
+-- or the deck's refusal
+abbrev pub DeckAnswered : Answer RuleAsked → Result Asked CardRefusal → List ℕ → Type 0
+DeckAnswered (fine a) (Ok x) row = Accepts x row a
+DeckAnswered (fine a) (Err v) row = ⊥
+DeckAnswered (refuse x) (Ok y) row = ⊥
+DeckAnswered (refuse x) (Err v) row = v ≡ card_refusal x.number x.place x.column
 
-abbrev pub DeckReads : List ℕ → DeckRead → List ℕ → Type 0
+abbrev pub DeckReads : List ℕ → Result Asked CardRefusal → List ℕ → Type 0
 DeckReads deck r row = DeckAnswered (asked_of deck) r row
 
 -- and a refused deck leaves no field in it
-pub record DeckSays (deck : List ℕ) (r : DeckRead) (row : List ℕ) : Type 0 where
+pub record DeckSays (deck : List ℕ) (r : Result Asked CardRefusal) (row : List ℕ) : Type 0 where
   pub reads : DeckReads deck r row
-  pub none : (r.refusal ≡ 0 → ⊥) → row ≡ row_of []
+  pub none : (v : CardRefusal) → r ≡ Err v → row ≡ row_of []
 
 -- the cards are in order, and so many are FS cards
 abbrev pub InOrder : List ℕ → ℕ → Type 0

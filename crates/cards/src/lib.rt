@@ -16,8 +16,8 @@ ghost use Rattle.lines.specs.Meaning.{IsCard, LineSays};
 ghost use Rattle.cards.specs.Selected.{nothing_noted, field_counted, key_noted, field_noted, cv_noted, Keepable, kept_row, ListSays, no_selection};
 ghost use Rattle.cards.specs.Parameters.{no_parameter, with_part, with_parameter, none_outside, with_numbers, UListed};
 ghost use Rattle.cards.specs.Deck.{cards_in, fs_first, CardAtSays, FsSaid, FsFine};
-ghost use Rattle.cards.specs.CardRefusals.{is_complete, u_outside, limits_of, card_refusal_of, asked_for, judged_as};
-ghost use Rattle.cards.specs.Promise.{refused_deck, nothing_asked, InOrder, DeckReads, DeckSays, card_of_field};
+ghost use Rattle.cards.specs.CardRefusals.{is_complete, u_outside, limits_of, card_refusal_of, asked_for};
+ghost use Rattle.cards.specs.Promise.{card_refusal, nothing_asked, InOrder, DeckReads, DeckSays, card_of_field};
 
 use lines::{CardRead, LineRead};
 use readers::{CardItem, UParameter};
@@ -203,6 +203,13 @@ fn rest(
 
 // ---- the U card
 
+// A card that could not be read, and the column at which it stopped.
+#[derive(Clone, Copy)]
+struct Unread {
+    card: usize,
+    column: usize,
+}
+
 // What the parameters of the U card have said so far: T, F, A, B and R, which of the letters T, F, A, B, I, O and R have stood, and the column of the
 // first parameter whose letter stood before, or 0.
 #[derive(Clone, Copy)]
@@ -321,8 +328,8 @@ struct URead {
     outside: OutsideColumns,
 }
 
-// One or more parameters in any order with commas between, or the column at which they stop. The operand begins at this column.
-fn u_card(operand: &[u8], column: usize) -> Result<URead, usize>
+// One or more parameters in any order with commas between. The operand begins at this column.
+fn u_card(operand: &[u8], column: usize) -> Result<URead, Unread>
     requires { (1 ≤ column) × Reaches column (length operand.now + 5) }
     ensures { UListed column operand.now (list_of "," (worded ruleParameter) operand.now) result }
 {
@@ -331,7 +338,12 @@ fn u_card(operand: &[u8], column: usize) -> Result<URead, usize>
     let mut at: usize = 0;
     loop {
         match readers::parameter(&operand[at..]) {
-            Err(stop) => return Err(column + at + stop.at),
+            Err(stop) => {
+                return Err(Unread {
+                    card: 1,
+                    column: column + at + stop.at,
+                });
+            }
             Ok(found) => {
                 state = with_parameter(state, found.value, column + at);
                 outside = with_numbers(outside, found.value, found.second, column + at);
@@ -342,7 +354,10 @@ fn u_card(operand: &[u8], column: usize) -> Result<URead, usize>
             return Ok(URead { state, outside });
         }
         if operand[at] != COMMA {
-            return Err(column + at);
+            return Err(Unread {
+                card: 1,
+                column: column + at,
+            });
         }
         at += 1;
     }
@@ -400,13 +415,6 @@ fn card_at(deck: &[u8], at: usize) -> CardAt
     }
 }
 
-// The first FS card that could not be read, and the column at which it stopped.
-#[derive(Clone, Copy)]
-struct Unread {
-    card: usize,
-    column: usize,
-}
-
 // The FS cards from the line that begins at `from` on, behind a key of so many bytes. The first of them is card 2, and an operand begins at column 7. Their fields
 // go into the row.
 fn fs_cards(deck: &[u8], from: usize, key: usize, row: &mut [u16; 320]) -> Result<Noted, Unread>
@@ -453,104 +461,98 @@ fn u_outside(format: Format, outside: OutsideColumns) -> usize
     }
 }
 
-// A refusal, its place and its column; number 0 for none.
+// A refusal of 1 to 7, its place and its column.
 #[derive(Clone, Copy)]
-struct CardRefusal {
-    number: usize,
-    place: usize,
-    column: usize,
+pub struct CardRefusal {
+    pub number: usize,
+    pub place: usize,
+    pub column: usize,
+}
+
+impl From<Unread> for CardRefusal {
+    ghost from_gives = { λ u r. r ≡ card_refusal 3 u.card u.column };
+
+    fn from(unread: Unread) -> CardRefusal {
+        CardRefusal {
+            number: 3,
+            place: unread.card,
+            column: unread.column,
+        }
+    }
 }
 
 // Refusal 6, and then 7, the U card before the FS cards.
-fn limits_on(format: Format, outside: OutsideColumns, noted: Noted) -> CardRefusal
+fn limits_on(format: Format, outside: OutsideColumns, noted: Noted) -> Result<(), CardRefusal>
     ensures { result ≡ limits_of (format_of format) outside noted }
 {
-    let sixty_fifth = noted.sixty_fifth;
-    if sixty_fifth != 0 {
-        return CardRefusal {
+    if noted.sixty_fifth != 0 {
+        return Err(CardRefusal {
             number: 6,
-            place: sixty_fifth,
+            place: noted.sixty_fifth,
             column: 0,
-        };
+        });
     }
     let column = u_outside(format, outside);
     if column != 0 {
-        return CardRefusal {
+        return Err(CardRefusal {
             number: 7,
             place: 1,
             column,
-        };
+        });
     }
-    let beyond = noted.beyond;
-    if beyond != 0 {
-        return CardRefusal {
+    if noted.beyond != 0 {
+        return Err(CardRefusal {
             number: 7,
-            place: beyond,
+            place: noted.beyond,
             column: noted.beyond_column,
-        };
+        });
     }
-    CardRefusal {
-        number: 0,
-        place: 0,
-        column: 0,
-    }
+    Ok(())
 }
 
 // Refusal 4, the U card before the FS cards, then 5, and then 6 and 7.
-fn refusal_on(parameters: Parameters, outside: OutsideColumns, noted: Noted) -> CardRefusal
+fn refusal_on(
+    parameters: Parameters,
+    outside: OutsideColumns,
+    noted: Noted,
+) -> Result<(), CardRefusal>
     ensures { result ≡ card_refusal_of parameters outside noted }
 {
-    let twice = parameters.twice;
-    if twice != 0 {
-        return CardRefusal {
+    if parameters.twice != 0 {
+        return Err(CardRefusal {
             number: 4,
             place: 1,
-            column: twice,
-        };
+            column: parameters.twice,
+        });
     }
-    let second_cv = noted.second_cv;
-    if second_cv != 0 {
-        return CardRefusal {
+    if noted.second_cv != 0 {
+        return Err(CardRefusal {
             number: 4,
-            place: second_cv,
+            place: noted.second_cv,
             column: noted.second_column,
-        };
+        });
     }
     if !is_complete(parameters) {
-        return CardRefusal {
+        return Err(CardRefusal {
             number: 5,
             place: 1,
             column: 0,
-        };
+        });
     }
-    let format = parameters.format;
-    limits_on(format, outside, noted)
+    limits_on(parameters.format, outside, noted)
 }
 
 // ---- decks
-
-// What a deck says beside its fields: a refusal of 1 to 7 with its place and column, or 0 and what the cards ask for.
-#[derive(Clone, Copy)]
-pub struct DeckRead {
-    pub refusal: usize,
-    pub place: usize,
-    pub column: usize,
-    pub asked: Asked,
-}
 
 // What the cards ask for, where they are not refused.
 fn asked_for(parameters: Parameters, noted: Noted, fs: usize) -> Asked
     ensures { result ≡ asked_for parameters noted fs }
 {
-    let mode = parameters.mode;
-    let format = parameters.format;
-    let input = parameters.input;
-    let output = parameters.output;
     Asked {
-        mode,
-        format,
-        input: keys::joined(input),
-        output,
+        mode: parameters.mode,
+        format: parameters.format,
+        input: keys::joined(parameters.input),
+        output: parameters.output,
         first: parameters.first,
         key: noted.key,
         count: noted.count,
@@ -560,7 +562,7 @@ fn asked_for(parameters: Parameters, noted: Noted, fs: usize) -> Asked
     }
 }
 
-// What is answered beside a refusal.
+// What a plan holds where nothing is asked for, since its deck is refused.
 pub fn nothing_asked() -> Asked
     ensures { result ≡ nothing_asked }
 {
@@ -578,39 +580,8 @@ pub fn nothing_asked() -> Asked
     }
 }
 
-// A refused deck.
-fn refused(number: usize, place: usize, column: usize) -> DeckRead
-    ensures { result ≡ refused_deck number place column }
-{
-    let asked = nothing_asked();
-    DeckRead {
-        refusal: number,
-        place,
-        column,
-        asked,
-    }
-}
-
-// The deck whose cards all could be read.
-fn judged(parameters: Parameters, outside: OutsideColumns, noted: Noted, fs: usize) -> DeckRead
-    ensures { result ≡ judged_as parameters outside noted fs }
-{
-    let refusal = refusal_on(parameters, outside, noted);
-    let number = refusal.number;
-    if number != 0 {
-        return refused(number, refusal.place, refusal.column);
-    }
-    let asked = asked_for(parameters, noted, fs);
-    DeckRead {
-        refusal: 0,
-        place: 0,
-        column: 0,
-        asked,
-    }
-}
-
 // The deck whose cards are in order, with so many FS cards.
-fn read_ordered(deck: &[u8], fs: usize, row: &mut [u16; 320]) -> DeckRead
+fn read_ordered(deck: &[u8], fs: usize, row: &mut [u16; 320]) -> Result<Asked, CardRefusal>
     requires in_order { InOrder deck.now fs }
     requires row_value { row.old ≡ row_of [] }
     ensures { (length row.new ≡ 320) × DeckReads deck.now result row.new }
@@ -618,37 +589,41 @@ fn read_ordered(deck: &[u8], fs: usize, row: &mut [u16; 320]) -> DeckRead
     let first = card_at(deck, 0);
     let CardAt::UAt { start, end, next } = first else {
         // The first card of a deck in order is a U card.
-        return refused(2, 1, 0);
+        return Err(CardRefusal {
+            number: 2,
+            place: 1,
+            column: 0,
+        });
     };
-    let u = match u_card(&deck[start..end], start + 1) {
-        Ok(u) => u,
-        Err(column) => return refused(3, 1, column),
-    };
-    match fs_cards(deck, next, keys::key_length(u.state.input), row) {
-        Ok(noted) => judged(u.state, u.outside, noted, fs),
-        Err(unread) => refused(3, unread.card, unread.column),
-    }
+    let u = u_card(&deck[start..end], start + 1)?;
+    let noted = fs_cards(deck, next, keys::key_length(u.state.input), row)?;
+    refusal_on(u.state, u.outside, noted)?;
+    Ok(asked_for(u.state, noted, fs))
 }
 
 // Reads a deck into a row that holds no fields yet; of a refused deck it may hold some.
-fn read_cards(deck: &[u8], row: &mut [u16; 320]) -> DeckRead
+fn read_cards(deck: &[u8], row: &mut [u16; 320]) -> Result<Asked, CardRefusal>
     requires { row.old ≡ row_of [] }
     ensures { (length row.new ≡ 320) × DeckReads deck.now result row.new }
 {
     match lines::order(deck) {
         Ok(cards) => read_ordered(deck, cards - 2, row),
-        Err(disorder) => refused(disorder.number(), disorder.place(), 0),
+        Err(disorder) => Err(CardRefusal {
+            number: disorder.number(),
+            place: disorder.place(),
+            column: 0,
+        }),
     }
 }
 
 // Reads a deck. Its refusal is the lowest number that applies, at its first place, and there at its lowest column. The fields go into the lent row, which
 // holds none before; a refused deck leaves none in it.
-pub fn read_deck(deck: &[u8], row: &mut [u16; 320]) -> DeckRead
+pub fn read_deck(deck: &[u8], row: &mut [u16; 320]) -> Result<Asked, CardRefusal>
     requires { row.old ≡ row_of [] }
     ensures { DeckSays deck.now result row.new }
 {
     let read = read_cards(deck, row);
-    if read.refusal != 0 {
+    if read.is_err() {
         rows::clear(row);
     }
     read
@@ -689,10 +664,9 @@ pub fn field_card(deck: &[u8], field: usize) -> usize
     ensures { result ≡ card_of_field (asked_of deck.now) field }
 {
     let mut row = [0u16; 320];
-    let answer = read_deck(deck, &mut row);
-    if answer.refusal != 0 {
+    let Ok(_asked) = read_deck(deck, &mut row) else {
         return 0;
-    }
+    };
     let first = card_at(deck, 0);
     let CardAt::UAt {
         start: _,

@@ -1,7 +1,8 @@
 // What refusals 1 to 10, of a deck, say.
 use crate::{combination, half};
-use cards::DeckRead;
+use cards::CardRefusal;
 use std::io::Print;
+use terms::Asked;
 use words::say;
 
 // What refusal 3 says.
@@ -34,19 +35,17 @@ fn reading(to: &impl Print, deck: &[u8], refusal: usize, place: usize, column: u
 }
 
 // What the cards ask for.
-fn read(deck: &[u8]) -> DeckRead {
+fn read(deck: &[u8]) -> Result<Asked, CardRefusal> {
     let mut row = [0u16; 320];
     cards::read_deck(deck, &mut row)
 }
 
 // What refusals 8 and 9, of cards that could be read, say.
 fn asking(to: &impl Print, deck: &[u8], refusal: usize, place: usize) {
-    let read = read(deck);
-    let asked = read.asked;
-    if read.refusal != 0 {
+    let Ok(asked) = read(deck) else {
         say(to, "the cards do not go together");
         return;
-    }
+    };
     if refusal == 8 {
         combination::broken(to, asked, place);
     } else {
@@ -56,9 +55,10 @@ fn asking(to: &impl Print, deck: &[u8], refusal: usize, place: usize) {
 
 // How long the key is that the cards give, or 0.
 fn key(deck: &[u8]) -> usize {
-    let read = read(deck);
-    let asked = read.asked;
-    asked.key
+    match read(deck) {
+        Ok(asked) => asked.key,
+        Err(_) => 0,
+    }
 }
 
 // A card and a column, a field, a half byte.

@@ -1,6 +1,6 @@
 -- The promises allow one outcome alone: the numbers are the rules', and what is held of a plan is what is read of the deck, which is one.
 use mathlib.Core.Path.{◌≡◌, refl, ap, sym, subst, ◌∙◌}
-use mathlib.Core.Bool.{Bool}
+use mathlib.Core.Bool.{Bool, true≢false}
 use mathlib.Core.List.{List}
 use Prim.Native.Nat.{ℕ}
 use Rattle.rules.specs.Answer.{Answer, fine, refuse}
@@ -13,7 +13,8 @@ use Rattle.terms.specs.declared.Asked.{Asked}
 use Rattle.terms.specs.declared.Format.{Format}
 use Rattle.rows.specs.Kept.{row_of}
 use Rattle.cards.specs.Promise.{DeckAnswered, DeckSays}
-use Rattle.cards.specs.declared.DeckRead.{DeckRead}
+use Rattle.std.specs.Prelude.{Ok}
+use Rattle.std.specs.Result.{is_err}
 use Rattle.cards.proofs.PromiseLaws.{only_one as read_once}
 use Rattle.plans.specs.Verdict.{tail_told}
 use Rattle.plans.specs.Promise.{refused_plan, HoldsPlan, HoldsFor, Plans}
@@ -25,22 +26,22 @@ pub refused_only_one : (number place column : ℕ) (r s : Planned) → r ≡ ref
 refused_only_one number place column r s e q = e ∙ sym q
 
 module _ (deck : List ℕ) (p : Plan) (e : plan deck ≡ fine p) where
-  held_read : (x : Asked) (row : List ℕ) → HoldsPlan deck p x row → DeckSays deck (record { refusal = 0; place = 0; column = 0; asked = x }) row
+  held_read : (x : Asked) (row : List ℕ) → HoldsPlan deck p x row → DeckSays deck (Ok x) row
   unfolding plan plan_of
   held_read x row h =
       let s = bind_fine _ _ p e in
       let same : p.fields ≡ laid_fields s.0 = sym (row_fields deck s.0 s.1 x (h.means s.0 s.1) p s.2) in
       record {
         reads =
-            subst (λ (z : Answer RuleAsked). DeckAnswered z (record { refusal = 0; place = 0; column = 0; asked = x }) row) (sym s.1)
-            (record { refusal = refl; place = refl; column = refl; means = h.means s.0 s.1; fields = h.fields ∙ ap row_of same });
-        none = λ n. absurd (n refl);
+            subst (λ (z : Answer RuleAsked). DeckAnswered z (Ok x) row) (sym s.1)
+            (record { means = h.means s.0 s.1; fields = h.fields ∙ ap row_of same });
+        none = λ v e. absurd (true≢false (sym (ap is_err e)));
       }
 
   held_once : (x y : Asked) (one other : List ℕ) → HoldsPlan deck p x one → HoldsPlan deck p y other → (x ≡ y) × (one ≡ other)
   held_once x y one other h k =
       let w = read_once deck _ _ one other (held_read x one h) (held_read y other k) in
-      (ap (λ (d : DeckRead). d.asked) w.0, w.1)
+      let e = w.0 in (cc, w.1)
 
 pub only_one : (deck : List ℕ) (r s : DeckPlan) (one other : List ℕ) → Plans deck r one → Plans deck s other → (r ≡ s) × (one ≡ other)
 only_one deck r s one other w v =

@@ -87,14 +87,14 @@ pub fn plan_deck(deck: &[u8], row: &mut [u16; 320]) -> DeckPlan
     requires { row.old ≡ row_of [] }
     ensures { Plans deck.now result row.new }
 {
-    let read = cards::read_deck(deck, row);
-    if read.refusal != 0 {
-        return refused_deck(read.refusal, read.place, read.column);
+    match cards::read_deck(deck, row) {
+        Ok(asked) => {
+            let plan = judged(asked, row);
+            if plan.answer.refusal != 0 {
+                rows::clear(row);
+            }
+            plan
+        }
+        Err(refusal) => refused_deck(refusal.number, refusal.place, refusal.column),
     }
-    let asked = read.asked;
-    let plan = judged(asked, row);
-    if plan.answer.refusal != 0 {
-        rows::clear(row);
-    }
-    plan
 }

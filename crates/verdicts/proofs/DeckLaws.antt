@@ -20,7 +20,8 @@ use Rattle.terms.specs.declared.Asked.{Asked}
 use Rattle.rows.specs.Kept.{fields_in}
 use Rattle.rows.specs.Fair.{PlanFair}
 use Rattle.cards.specs.Promise.{DeckSays}
-use Rattle.cards.specs.declared.DeckRead.{DeckRead}
+use Rattle.std.specs.Prelude.{Ok, Err}
+use Rattle.cards.specs.declared.CardRefusal.{CardRefusal}
 use Rattle.cards.proofs.PromiseLaws.{accepted, refused_as}
 use Rattle.plans.specs.Promise.{Plans}
 use Rattle.plans.specs.declared.DeckPlan.{DeckPlan}
@@ -35,14 +36,14 @@ mode_read : (x : Asked) (a : RuleAsked) → Means x a → mode_of x.mode ≡ a.u
 unfolding utility_of through_utility
 mode_read x a m = ap (λ (u : Utility). u.mode) m.utility
 
-module _ (deck : List ℕ) (d : DeckRead) (row : List ℕ) (reads_of : DeckSays deck d row) where
-  pub none_asked : (d.refusal ≡ 0 → ⊥) → false ≡ copies_blocks (asked_of deck)
-  none_asked h = sym (ap copies_blocks (refused_as deck d row reads_of.reads h))
+module _ (deck row : List ℕ) where
+  pub none_asked : (v : CardRefusal) → DeckSays deck (Err v) row → false ≡ copies_blocks (asked_of deck)
+  none_asked v h = sym (ap copies_blocks (refused_as deck row v h.reads))
 
-  pub mode_asked : d.refusal ≡ 0 → (t : Bool) → t ≡ is_filling (mode_of d.asked.mode) → not t ≡ copies_blocks (asked_of deck)
-  mode_asked z t e =
-      let w = accepted deck d row reads_of.reads z in
-      ap not e ∙ ap (λ (m : RuleMode). not (is_filling m)) (mode_read d.asked w.0 w.2.means) ∙ sym (ap copies_blocks w.1)
+  pub mode_asked : (asked : Asked) → DeckSays deck (Ok asked) row → (t : Bool) → t ≡ is_filling (mode_of asked.mode) → not t ≡ copies_blocks (asked_of deck)
+  mode_asked asked h t e =
+      let w = accepted deck row asked h.reads in
+      ap not e ∙ ap (λ (m : RuleMode). not (is_filling m)) (mode_read asked w.0 w.2.means) ∙ sym (ap copies_blocks w.1)
 
 -- the plan's mode is what the cards ask for
 plan_copies : (deck : List ℕ) (p : Plan) → plan_of zone_f deck ≡ fine p → copies_blocks (asked_of deck) ≡ not (is_filling p.mode)

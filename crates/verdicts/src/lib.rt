@@ -152,13 +152,10 @@ fn keeps_blocks(deck: &[u8]) -> bool
     ensures { result ≡ copies_blocks (asked_of deck.now) }
 {
     let mut row = [0u16; 320];
-    let read = cards::read_deck(deck, &mut row);
-    if read.refusal != 0 {
-        return false;
+    match cards::read_deck(deck, &mut row) {
+        Ok(asked) => !fills(asked.mode),
+        Err(_) => false,
     }
-    let asked = read.asked;
-    let mode = asked.mode;
-    !fills(mode)
 }
 
 // A deck that is refused. TC and TF are asked before the other places of 8, and before 9 and 10; 1 to 7 come before them.

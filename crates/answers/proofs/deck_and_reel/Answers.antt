@@ -3,5 +3,5 @@ use mathlib.Core.Path.{sym}
 use Rattle.rows.proofs.RowLaws.{row_none}
 use Rattle.answers.proofs.deck_and_reel.Goals as goal
 
-pub read_deck-read-requires : goal.read_deck-read-requires
-read_deck-read-requires g c = sym row_none
+pub read_deck-requires : goal.read_deck-requires
+read_deck-requires g c = sym row_none

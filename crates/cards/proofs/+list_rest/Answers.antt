@@ -40,7 +40,7 @@ list-keep-requires t c =
       c.requires.0,
       λ z. subst Short (sym c.laid-own.ensures.0)
           (kept_short o g.part g.field g.places n e c.args.noted.key c.args.column c.requires.3 c.requires.1
-          (sym (outside_is o g.part g.field g.places n e c.args.column) ∙ sym c.field_outside-outside.ensures ∙ z)),
+          (rw (← outside_is o g.part g.field g.places n e c.args.column, ← c.field_outside-outside.ensures) z)),
     )
 
 pub list-rest-requires : goal.list-rest-requires

@@ -11,37 +11,37 @@ use Rattle.cards.specs.Deck.{OperandAt, CardAtSays}
 use Rattle.cards.proofs.HolderLaws.{refused_card, accepted_cards, accepted_first, accepted_fine, accepted_card}
 use Rattle.cards.proofs.field_card.Goals as goal
 
-pub read_deck-answer-requires : goal.read_deck-answer-requires
-read_deck-answer-requires c = sym row_none
-
-pub returns-then-answer-ne0 : goal.returns-then-answer-ne0
-returns-then-answer-ne0 c =
-    let d = c.read_deck-answer in
-    let a = c.args in
-    refused_card a.deck.now d.result d.new.row d.ensures c.if-answer-ne0.true a.field
-
-pub card_at-first-requires : goal.card_at-first-requires
-card_at-first-requires c =
-    let d = c.read_deck-answer in
-    accepted_cards c.args.deck.now d.result d.new.row d.ensures c.if-answer-ne0.false
+pub read_deck-requires : goal.read_deck-requires
+read_deck-requires c = sym row_none
 
 pub returns-in_default : goal.returns-in_default
 returns-in_default c =
-    let d = c.read_deck-answer in
-    absurd (accepted_first c.args.deck.now d.result d.new.row d.ensures c.if-answer-ne0.false c.card_at-first.result c.card_at-first.ensures c.in_default.not-UAt)
+    let d = c.read_deck in
+    let a = c.args in
+    refused_card a.deck.now d.new.row _ c.in_default.ensures a.field
+
+pub card_at-first-requires : goal.card_at-first-requires
+card_at-first-requires c =
+    let d = c.read_deck in
+    accepted_cards c.args.deck.now d.new.row c.in-Ok._asked c.in-Ok.ensures
+
+pub returns-in_default-first : goal.returns-in_default-first
+returns-in_default-first c =
+    let d = c.read_deck in
+    absurd (accepted_first c.args.deck.now d.new.row c.in-Ok._asked c.in-Ok.ensures c.card_at-first.result c.card_at-first.ensures c.in_default-first.not-UAt)
 
 -- the first card is a U card
 pub card_over-requires : goal.card_over-requires
 card_over-requires c =
     let is_u : OperandAt (u_card (c.in-UAt.start - 0)) c.args.deck.now 0 c.in-UAt.start c.in-UAt.end c.in-UAt.next = subst (CardAtSays c.args.deck.now 0) c.in-UAt.is c.card_at-first.ensures in
-    let d = c.read_deck-answer in
+    let d = c.read_deck in
     let a = c.args in
-    let g = c.in-UAt in record { all = all_tail (subst (All IsCard) is_u.is (accepted_cards a.deck.now d.result d.new.row d.ensures c.if-answer-ne0.false)); fs_fine = accepted_fine a.deck.now d.result d.new.row d.ensures c.if-answer-ne0.false g.start g.end g.next is_u }
+    let g = c.in-UAt in record { all = all_tail (subst (All IsCard) is_u.is (accepted_cards a.deck.now d.new.row c.in-Ok._asked c.in-Ok.ensures)); fs_fine = accepted_fine a.deck.now d.new.row c.in-Ok._asked c.in-Ok.ensures g.start g.end g.next is_u }
 
 pub returns : goal.returns
 returns c =
     let is_u : OperandAt (u_card (c.in-UAt.start - 0)) c.args.deck.now 0 c.in-UAt.start c.in-UAt.end c.in-UAt.next = subst (CardAtSays c.args.deck.now 0) c.in-UAt.is c.card_at-first.ensures in
-    let d = c.read_deck-answer in
+    let d = c.read_deck in
     let a = c.args in
     let g = c.in-UAt in
-    accepted_card a.deck.now d.result d.new.row d.ensures c.if-answer-ne0.false g.start g.end g.next is_u a.field c.card_over.result c.card_over.ensures
+    accepted_card a.deck.now d.new.row c.in-Ok._asked c.in-Ok.ensures g.start g.end g.next is_u a.field c.card_over.result c.card_over.ensures

@@ -3,18 +3,18 @@ use borrow.Author.Tests.{eq-eqb, ne_eqb}
 use Rattle.cards.specs.CardRefusals.{limits_of}
 use Rattle.cards.proofs.limits_on.Goals as goal
 
-pub returns-then-sixty_fifth-ne0 : goal.returns-then-sixty_fifth-ne0
+pub returns-then-noted-ne0 : goal.returns-then-noted-ne0
 unfolding limits_of
-returns-then-sixty_fifth-ne0 c = rw (ne_eqb _ 0 c.if-sixty_fifth-ne0.true)
+returns-then-noted-ne0 c = rw (ne_eqb _ 0 c.if-noted-ne0.true)
 
 pub returns-then-column-ne0 : goal.returns-then-column-ne0
 unfolding limits_of
-returns-then-column-ne0 c = rw (eq-eqb _ 0 c.if-sixty_fifth-ne0.false, ← c.u_outside-column.ensures, ne_eqb _ 0 c.if-column-ne0.true)
+returns-then-column-ne0 c = rw (eq-eqb _ 0 c.if-noted-ne0.false, ← c.u_outside-column.ensures, ne_eqb _ 0 c.if-column-ne0.true)
 
-pub returns-then-beyond-ne0 : goal.returns-then-beyond-ne0
+pub returns-then-noted-ne0-2 : goal.returns-then-noted-ne0-2
 unfolding limits_of
-returns-then-beyond-ne0 c = rw (eq-eqb _ 0 c.if-sixty_fifth-ne0.false, ← c.u_outside-column.ensures, eq-eqb _ 0 c.if-column-ne0.false, ne_eqb _ 0 c.if-beyond-ne0.true)
+returns-then-noted-ne0-2 c = rw (eq-eqb _ 0 c.if-noted-ne0.false, ← c.u_outside-column.ensures, eq-eqb _ 0 c.if-column-ne0.false, ne_eqb _ 0 c.if-noted-ne0-2.true)
 
 pub returns : goal.returns
 unfolding limits_of
-returns c = rw (eq-eqb _ 0 c.if-sixty_fifth-ne0.false, ← c.u_outside-column.ensures, eq-eqb _ 0 c.if-column-ne0.false, eq-eqb _ 0 c.if-beyond-ne0.false)
+returns c = rw (eq-eqb _ 0 c.if-noted-ne0.false, ← c.u_outside-column.ensures, eq-eqb _ 0 c.if-column-ne0.false, eq-eqb _ 0 c.if-noted-ne0-2.false)

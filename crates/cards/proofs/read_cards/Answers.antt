@@ -1,12 +1,10 @@
 -- `cards::read_cards` meets its contract: the refusal of the order, or what a deck in order says.
-use mathlib.Core.Path.{ap, sym, ◌∙◌, subst}
+use mathlib.Core.Path.{ap, sym, ◌∙◌}
 use mathlib.Core.List.{[]}
 use native.Mathlib.Omega.{arith}
 use lib.ListN.{length}
 use Rattle.rows.proofs.RowLaws.{length_row}
 use Rattle.lines.proofs.PromiseLaws.{answer_refused}
-use Rattle.cards.specs.declared.DeckRead.{DeckRead}
-use Rattle.cards.specs.Promise.{DeckReads}
 use Rattle.cards.proofs.OrderedLaws.{order_refused, order_many, in_order}
 use Rattle.cards.proofs.read_cards.Goals as goal
 
@@ -21,6 +19,5 @@ returns-in-Err c =
     let d = c.in-Err.disorder in
     let row = c.args.row.now in (
       ap length c.requires ∙ length_row [] (omega arith),
-      subst (λ (r : DeckRead). DeckReads c.args.deck.now r row) (sym c.refused.ensures)
-          (rw (c.number.ensures, c.place.ensures) (order_refused c.args.deck.now _ _ (sym c.in-Err.ensures ∙ answer_refused d) row)),
+      rw (c.number.ensures, c.place.ensures) (order_refused c.args.deck.now _ _ (sym c.in-Err.ensures ∙ answer_refused d) row),
     )

@@ -4,16 +4,11 @@ use Rattle.rows.proofs.RowLaws.{row_none}
 use Rattle.verdicts.proofs.DeckLaws.{none_asked, mode_asked}
 use Rattle.verdicts.proofs.keeps_blocks.Goals as goal
 
-pub read_deck-read-requires : goal.read_deck-read-requires
-read_deck-read-requires c =
-    sym row_none
+pub read_deck-requires : goal.read_deck-requires
+read_deck-requires c = sym row_none
 
-pub returns-then-read-ne0 : goal.returns-then-read-ne0
-returns-then-read-ne0 c =
-    let d = c.read_deck-read in
-    none_asked c.args.deck.now d.result d.new.row d.ensures c.if-read-ne0.true
+pub returns-in-Ok : goal.returns-in-Ok
+returns-in-Ok c = mode_asked c.args.deck.now _ c.in-Ok.asked c.in-Ok.ensures _ c.fills.ensures
 
-pub returns : goal.returns
-returns c =
-    let d = c.read_deck-read in
-    mode_asked c.args.deck.now d.result d.new.row d.ensures c.if-read-ne0.false _ c.fills.ensures
+pub returns-in-Err : goal.returns-in-Err
+returns-in-Err c = none_asked c.args.deck.now _ _ c.in-Err.ensures
