@@ -20,12 +20,6 @@ before_a c h = rw (lt-ltb c 58 (omega (arith, h)))
 from_a : (c : ℕ) → 65 ≤ c → digit_of c ≡ c - 55
 from_a c h = rw (le-ltb c 58 (omega (arith, h)))
 
-pub figure : (v : ℕ) → v < 10 → HexadecimalDigit (48 + v) × (digit_of (48 + v) ≡ v)
-figure v h = (inl (omega arith, omega (arith, h)), before_a (48 + v) (omega (arith, h)) ∙ omega arith)
-
-pub letter : (v : ℕ) → 10 ≤ v → v < 16 → HexadecimalDigit (65 + (v - 10)) × (digit_of (65 + (v - 10)) ≡ v)
-letter v h k = (inr (omega arith, omega (arith, h, k)), from_a (65 + (v - 10)) (omega arith) ∙ omega (arith, h))
-
 -- no digit is a blank
 not_blank : (c : ℕ) → HexadecimalDigit c → eqb c 32 ≡ false
 not_blank c (inl d) = ne_eqb c 32 (λ e. omega (arith, e, d.0))

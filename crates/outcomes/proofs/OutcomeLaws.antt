@@ -2,18 +2,18 @@
 use mathlib.Core.Path.{◌≡◌, refl, ap, sym, ◌∙◌}
 use mathlib.Core.Bool.{Bool, true, false}
 use mathlib.Core.List.{List, ◌++◌}
-use Prim.Native.Nat.{ℕ, ◌≤◌, ◌<◌}
+use Prim.Native.Nat.{ℕ, ◌<◌}
 use native.Mathlib.Omega.{arith}
 use lib.Dec.{ltb}
 use lib.ListN.{length, drop}
-use borrow.Author.Tests.{ltb-true, ltb-false, lt-ltb, le-ltb, le-leb, lt-leb}
+use borrow.Author.Tests.{ltb-true, ltb-false, le-leb, lt-leb}
 use Rattle.rules.specs.Answer.{Answer, fine, refuse, ◌>>◌, unless}
 use Rattle.rules.specs.Run.{RunOutput, housed}
 use Rattle.rules.specs.Halves.{over}
 use Rattle.rules.specs.Lent.{RunAnswer, run_answer, output_after}
 use Rattle.rules.proofs.Base.LentParts.{front_over}
 use Rattle.outcomes.specs.declared.Ran.{Ran}
-use Rattle.outcomes.specs.Promise.{ran_struct, run_numbers, refused_run, finished_run, housed_run}
+use Rattle.outcomes.specs.Promise.{ran_struct, run_numbers, refused_run, housed_run}
 
 -- ---- the struct
 
@@ -34,20 +34,6 @@ room_is room x = go (ltb room (length x.reel)) refl (ltb 65536 (length x.reel)) 
     go true t u w = rw (lt-leb (length x.reel) room (ltb-true room (length x.reel) t), t) refl
     go false t true w = rw (le-leb (length x.reel) room (ltb-false room (length x.reel) t), lt-leb (length x.reel) 65536 (ltb-true 65536 (length x.reel) w), t, w) refl
     go false t false w = rw (le-leb (length x.reel) room (ltb-false room (length x.reel) t), le-leb (length x.reel) 65536 (ltb-false 65536 (length x.reel) w), t, w) refl
-
--- as the code asks it
-module _ (room size records blocks : ℕ) (r : Ran) where
-  pub room_over : room < size → r ≡ refused_run 15 size 0 → r ≡ housed_run room size records blocks
-  unfolding housed_run
-  room_over l e = rw (lt-ltb room size l) e
-
-  pub most_over : size ≤ room → 65536 < size → r ≡ refused_run 15 size 0 → r ≡ housed_run room size records blocks
-  unfolding housed_run
-  most_over k l e = rw (le-ltb room size k, lt-ltb 65536 size l) e
-
-pub room_enough : (room size records blocks : ℕ) → size ≤ room → size ≤ 65536 → finished_run size records blocks ≡ housed_run room size records blocks
-unfolding housed_run
-room_enough room size records blocks k l = rw (le-ltb room size k, le-ltb 65536 size l) refl
 
 -- ---- the lent output
 

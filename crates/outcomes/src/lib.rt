@@ -35,13 +35,11 @@ pub fn refused(number: usize, place: usize, column: usize) -> Ran
 }
 
 // Refusal 15: the output reel is longer than the lent room, or than 65,536.
+#[tactic(auto, unfolding(crate::specs::Promise::housed_run))]
 pub fn housed(room: usize, length: usize, records: usize, blocks: usize) -> Ran
     ensures { result ≡ housed_run room length records blocks }
 {
-    if length > room {
-        return refused(15, length, 0);
-    }
-    if length > MOST {
+    if length > room || length > MOST {
         return refused(15, length, 0);
     }
     Ran {

@@ -1,14 +1,14 @@
 -- The two records of a plan that loses, half by half and byte by byte: which value a half has, that a part holds a record once each of its bytes is the
 -- record's, and that the second record, and for the tail a byte 00, stand behind the first. By cases on whether a half is the raised one, and
 -- by where the parts lie.
-use mathlib.Core.Path.{◌≡◌, refl, ap, ap₂, sym, ◌∙◌}
+use mathlib.Core.Path.{◌≡◌, ap, ap₂, sym, ◌∙◌}
 use mathlib.Core.List.{List, [], ◌∷◌, ◌++◌, append-nil, append_assoc}
 use Prim.Native.Nat.{ℕ, suc, ◌+◌, ◌-◌, ◌*◌, ◌≤◌, ◌<◌}
 use native.Mathlib.Decide.{ℕ_discrete}
 use native.Mathlib.Numerals.{add-one}
 use native.Mathlib.Omega.{arith}
-use lib.ListN.{length, take, drop, get_or, set, length-set, length-append}
-use lib.Seq.{length-take-le, length_front, get_or-set_same, get_or-set_other, ext_get_or, take_at, drop_at, drop-drop, drop-cons, set_at, append_snoc}
+use lib.ListN.{length, take, drop, get_or, set, length-append}
+use lib.Seq.{length-take-le, length_front, ext_get_or, take_at, drop_at, drop-drop, drop-cons, set_at, append_snoc}
 use borrow.Author.Tests.{eq-eqb, ne_eqb}
 use borrow.Rule.Slice.PartMut.{put_mid, same_len_mid, mid_len}
 use Rattle.rules.specs.Halves.{bytes}
@@ -41,29 +41,12 @@ fewer_values values h many fewer l ok = record { few = omega (arith, ok.few); ha
 
 -- ---- a record
 
--- the first i bytes of a part are made of these halves; it was old, and is as long
-pub record Filling (half : ℕ → ℕ) (old part : List ℕ) (i : ℕ) : Type 0 where
-  pub same : length part ≡ length old
-  pub low : (j : ℕ) → j < i → get_or part j 0 ≡ 16 * half (2 * j) + half (2 * j + 1)
-
-module _ (half : ℕ → ℕ) (old : List ℕ) where
-  pub fill_start : Filling half old old 0
-  fill_start = record { same = refl; low = λ j l. absurd (omega arith) }
-
-  pub fill_more : (part : List ℕ) (i byte : ℕ) → i < length old → byte ≡ 16 * half (2 * i) + half (2 * i + 1) → Filling half old part i
-      → Filling half old (set part i byte) (i + 1)
-  fill_more part i byte h e f = record { same = length-set part i byte ∙ f.same; low = low }
-    where
-      low : (j : ℕ) → j < i + 1 → get_or (set part i byte) j 0 ≡ 16 * half (2 * j) + half (2 * j + 1)
-      low j l = elim (ℕ_discrete j i) [
-        | yes q ↦ rw q (get_or-set_same part i byte 0 (omega (arith, f.same)) ∙ e)
-        | no q ↦ get_or-set_other part i j byte 0 q ∙ f.low j (omega arith)
-      ]
-
-  pub fill_end : (part : List ℕ) (i : ℕ) → length old ≤ i → Filling half old part i → part ≡ bytes (listed half 0 (2 * length old))
-  fill_end part i h f =
-      ext_get_or 0 part (bytes (listed half 0 (2 * length old))) (f.same ∙ sym (length_bytes_listed half (length old)))
-      (λ j l. f.low j (omega (arith, f.same)) ∙ sym (get_d_bytes_listed half (length old) j (omega (arith, f.same))))
+-- a part each of whose bytes is made of these halves is all of the record
+pub filled : (half : ℕ → ℕ) (old part : List ℕ) → length part ≡ length old → ((j : ℕ) → j < length old → get_or part j 0 ≡ 16 * half (2 * j) + half (2 * j + 1))
+    → part ≡ bytes (listed half 0 (2 * length old))
+filled half old part same each =
+    ext_get_or 0 part (bytes (listed half 0 (2 * length old))) (same ∙ sym (length_bytes_listed half (length old)))
+    (λ j l. each j (omega (arith, same)) ∙ sym (get_d_bytes_listed half (length old) j (omega (arith, same))))
 
 -- ---- both records
 

@@ -1,4 +1,4 @@
--- `hexadecimal::hex` meets its contract: a byte's high half is under 16, so that its own low half is all of it.
+-- The high half of a byte is under 16, so that its own low half is all of it.
 use Rattle.hexadecimal.proofs.DigitLaws.{both}
 use Rattle.hexadecimal.proofs.hex.Goals as goal
 
