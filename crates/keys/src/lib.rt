@@ -11,10 +11,8 @@ use terms::{Field, Input, Part, Size};
 fn together(key: usize, own: usize) -> usize
     ensures { result ≡ together key own }
 {
-    if key <= 4096 {
-        if own <= 4096 {
-            return key + own;
-        }
+    if key <= 4096 && own <= 4096 {
+        return key + own;
     }
     0
 }
@@ -37,13 +35,8 @@ pub fn key_length(input: Input) -> usize
     ensures { result ≡ key_of input }
 {
     match input {
-        Input::Plain(_) => 0,
-        Input::Keyed { key, data: _ } => {
-            if key <= 4096 {
-                return key;
-            }
-            0
-        }
+        Input::Keyed { key, .. } if key <= 4096 => key,
+        _ => 0,
     }
 }
 
@@ -69,7 +62,8 @@ pub fn laid(part: Part, field: Field, key: usize) -> Field
     requires { Layable field.r field.input key }
     ensures { (field_of result ≡ laidField key (card_field part field)) × (result.output ≡ field.output) }
 {
-    let mut next = field;
-    next.r = laid_at(part, field.r, field.input, key);
-    next
+    Field {
+        r: laid_at(part, field.r, field.input, key),
+        ..field
+    }
 }

@@ -11,18 +11,11 @@ ghost use Rattle.limits.specs.Limits.{Reaches, shifted, size_places, input_place
 use readers::{Places, UParameter};
 use terms::{Field, Format, Input, Kind, Part, Size};
 
-// Whether a number is within its limits.
-fn allowed(low: usize, high: usize, number: usize) -> bool
-    ensures { result ≡ within low high number }
-{
-    low <= number && number <= high
-}
-
 // The column of a number that is outside its limits, or 0.
 fn number_outside(low: usize, high: usize, number: usize, column: usize) -> usize
     ensures { result ≡ cond (within low high number) 0 column }
 {
-    if allowed(low, high, number) {
+    if (low..=high).contains(&number) {
         return 0;
     }
     column
@@ -44,8 +37,7 @@ fn most(kind: Kind) -> usize
 {
     match kind {
         Kind::Copy => 4096,
-        Kind::Pack => 16,
-        Kind::Unpack => 16,
+        Kind::Pack | Kind::Unpack => 16,
     }
 }
 
@@ -68,10 +60,8 @@ fn least(format: Format) -> usize
     ensures { result ≡ least (format_of format) }
 {
     match format {
-        Format::FF => 1,
-        Format::FV => 9,
-        Format::FU => 1,
-        Format::FS => 9,
+        Format::FF | Format::FU => 1,
+        Format::FV | Format::FS => 9,
     }
 }
 
@@ -93,10 +83,7 @@ fn size_outside(format: Format, size: Size, second: usize, column: usize) -> usi
 fn left(key: usize) -> usize
     ensures { result ≡ 4096 - key }
 {
-    if key < 4096 {
-        return 4096 - key;
-    }
-    0
+    4096usize.saturating_sub(key)
 }
 
 // The same of what A says.
@@ -124,12 +111,12 @@ pub fn parameter_outside(
     ensures { result ≡ parameter_outside (format_of format) parameter second column }
 {
     match parameter {
-        UParameter::ModeIs(_) => 0,
-        UParameter::FormatIs(_) => 0,
         UParameter::InputIs(input) => input_outside(format, input, second, column),
         UParameter::OutputIs(size) => size_outside(format, size, second, column),
-        UParameter::RewindIn => 0,
-        UParameter::RewindOut => 0,
         UParameter::FirstIs(n) => number_outside(1, 65536, n, column + 1),
+        UParameter::ModeIs(_)
+        | UParameter::FormatIs(_)
+        | UParameter::RewindIn
+        | UParameter::RewindOut => 0,
     }
 }
