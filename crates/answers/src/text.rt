@@ -9,12 +9,15 @@ pub(crate) fn cut(s: &[u8], byte: u8) -> (&[u8], &[u8]) {
     }
 }
 
-// The number that decimal digits say; of another word 0.
+// The number that decimal digits say; it grows no further than some millions.
 pub(crate) fn number(word: &[u8]) -> usize {
-    match str::from_utf8(word) {
-        Ok(digits) => digits.parse().unwrap_or(0),
-        Err(_) => 0,
-    }
+    word.iter().fold(0, |value, byte| {
+        if value < 1000000 {
+            10 * value + usize::from(digit(*byte))
+        } else {
+            value
+        }
+    })
 }
 
 // The first so many bytes, or all where there are no more.
