@@ -82,13 +82,6 @@ barren_first marks n long =
 abbrev pub Kept : List ℕ → List ℕ → ℕ → ℕ → Type 0
 Kept marks sources outputs j = 2 ≤ choices_of (get_or marks j 0) → (i : ℕ) × (i < outputs) × (get_or sources i 0 ≡ j + 1)
 
-pub kept_few : (marks : List ℕ) (sources : List ℕ) (outputs j : ℕ) → choices_of (get_or marks j 0) < 2 → Kept marks sources outputs j
-kept_few marks sources outputs j l t = absurd (omega arith)
-
-pub kept_seen : (marks : List ℕ) (sources : List ℕ) (outputs g j : ℕ) (seen : List Bool) → j < 8192 → g ≤ outputs → Seen sources g seen → get_or seen j false ≡ true
-    → Kept marks sources outputs j
-kept_seen marks sources outputs g j seen l h u e t = let w = u.some j l e in (w.0, omega (arith, w.1), w.2)
-
 module _ (marks : List ℕ) (sources : List ℕ) (n m : ℕ) (ss : List Source) (long : length ss ≡ 2 * m) (stand : Stand sources ss) (outputs : ℕ) (within : outputs ≤ 2 * m) where
   not_missing : (j : ℕ) → Kept marks sources outputs j → missing (permits_in marks) ss j ≡ false
   not_missing j kept = elim (dec_lt (choices (permits_in marks) j) 2) [

@@ -203,7 +203,7 @@ pub fn weigh(fields: &[u16], n: usize, width: usize) -> Result<Option<usize>, Ba
     Ok(lost_half(&marks, &taken, n, width))
 }
 
-// The lowest value that a mark permits; 16 where it permits none.
+// The lowest value that a mark permits; 16 where it permits none, as in the rules: it stands in a lent byte, where an option would have to be unpacked at once.
 fn lowest(mark: u8) -> u8
     ensures { result ≡ lowest_of mark }
 {

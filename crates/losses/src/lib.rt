@@ -19,7 +19,7 @@ use terms::{Asked, Field};
 
 // ---- each loss
 
-// Why half h of records of n bytes is lost, where it is missing; else 0.
+// Why half h of records of n bytes is lost, where it is missing; else 0. Both are bytes: marks give way to reasons in one lent array, which no other would fit in.
 fn loss(fields: &[u16], n: usize, h: usize, missing: u8) -> u8
     requires { RowInside fields.now n 4096 }
     ensures { result ≡ loss_of (fields_in fields.now) n h missing }

@@ -39,7 +39,8 @@ pub fn refused(number: usize, place: usize, column: usize) -> Planned
 
 // ---- the plan of a deck
 
-// What a plan answers, and the plan but for its fields, which stand in a row: what the deck asks for, or nothing where it is refused.
+// What a plan answers, and the plan but for its fields, which stand in a row: what the deck asks for, or nothing where it is refused. No Result: the exports to C
+// return the answer of both cases as it stands here.
 #[derive(Clone, Copy)]
 pub struct DeckPlan {
     pub answer: Planned,

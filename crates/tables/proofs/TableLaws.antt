@@ -41,14 +41,6 @@ entry_is f key k p r e h q one =
     part_said true = refl
     part_said false = refl
 
--- its place on the card is no further on
-pub place_most : (key r : ℕ) → place_on_card key r ≤ r
-place_most key r = go (leb r key)
-  where
-    go : (t : Bool) → cond t r (r - key) ≤ r
-    go true = omega arith
-    go false = omega arith
-
 -- ---- the table while it is filled
 
 pub record Filling (row : List ℕ) (key : ℕ) (out : List Entry) (i : ℕ) : Type 0 where

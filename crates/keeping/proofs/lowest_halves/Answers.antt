@@ -6,17 +6,8 @@ use Rattle.rules.specs.Twins.{lowest}
 use Rattle.rules.specs.Lent.{zone_f}
 use Rattle.rules.proofs.Halves.ListedLaws.{listed_all}
 use Rattle.rows.specs.Kept.{fields_in}
-use Rattle.sources.proofs.Walk.{upto_none, upto_more}
 use Rattle.keeping.proofs.Meets.{lowest_says}
 use Rattle.keeping.proofs.lowest_halves.Goals as goal
-
-pub loop-value-init : goal.loop-value-init
-loop-value-init c = (c.permitted.ensures.0, upto_none _ _ _ _ (λ k a l. absurd (omega arith)))
-
-pub loop-value-preserved : goal.loop-value-preserved
-loop-value-preserved c =
-    let i = c.loop-value.invariant in
-    (i.0, upto_more _ _ _ _ _ _ _ (omega arith) (omega (arith, i.1.len)) c.lowest.ensures i.1)
 
 pub returns : goal.returns
 returns c =

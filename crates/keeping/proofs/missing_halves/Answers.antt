@@ -9,14 +9,10 @@ use Rattle.rules.specs.Plan.{bit}
 use Rattle.rules.specs.Lent.{zone_f}
 use Rattle.rules.proofs.Halves.ListedLaws.{listed_all}
 use Rattle.rows.specs.Kept.{fields_in}
-use Rattle.sources.proofs.Walk.{upto_none, upto_more}
 use Rattle.sources.proofs.AllFields.{sources_many, numbers_few}
 use Rattle.keeping.proofs.Searches.{missing_says}
 use Rattle.keeping.proofs.Weighs.{fair_longest, zeros}
 use Rattle.keeping.proofs.missing_halves.Goals as goal
-
-pub permitted-requires-clause-row_inside : goal.permitted-requires-clause-row_inside
-permitted-requires-clause-row_inside c = fair_longest _ _ _ c.requires.row_inside
 
 pub sources-requires : goal.sources-requires
 sources-requires c = record { row_inside = fair_longest _ _ _ c.requires.row_inside; all_zero = (refl, zeros 8192) }
@@ -25,14 +21,6 @@ pub seen_halves-seen-requires : goal.seen_halves-seen-requires
 seen_halves-seen-requires c =
     let a = c.args in
     (c.requires.row_inside.m_high, numbers_few a.fields.now a.n a.width c.requires.row_inside _ (c.sources.ensures.1 a.n a.width c.requires.row_inside))
-
-pub loop-h-init : goal.loop-h-init
-loop-h-init c = (c.permitted.ensures.0, upto_none _ _ _ _ (λ k a l. absurd (omega arith)))
-
-pub loop-h-preserved : goal.loop-h-preserved
-loop-h-preserved c =
-    let i = c.loop-h.invariant in
-    (i.0, upto_more _ _ _ _ _ _ _ (omega arith) (omega (arith, i.1.len)) c.missing_mark.ensures i.1)
 
 pub returns : goal.returns
 returns c =

@@ -1,12 +1,11 @@
 -- The marks permit what the first k fields permit, and each field lets them permit what it does too.
-use mathlib.Core.Path.{sym, subst}
+use mathlib.Core.Path.{subst}
 use mathlib.Core.List.{List}
 use native.Mathlib.Omega.{arith}
 use lib.ListN.{get_or}
 use Rattle.rules.specs.Permitted.{permitted}
 use Rattle.rules.specs.Lent.{zone_f}
 use Rattle.rules.specs.Halves.{Field as RuleField}
-use Rattle.sources.specs.Promise.{FieldInside}
 use Rattle.sources.proofs.AllFields.{fields_all}
 use Rattle.keeping.specs.Marks.{MarkSays}
 use Rattle.keeping.proofs.FieldMarks.{says_none, says_more}
@@ -14,10 +13,6 @@ use Rattle.keeping.proofs.permitted.Goals as goal
 
 pub loop-k-init : goal.loop-k-init
 loop-k-init c = (c.requires.all_zero.0, λ h l. says_none c.args.fields.now _ h (c.requires.all_zero.1 h))
-
-pub mark_field-requires : goal.mark_field-requires
-mark_field-requires c =
-    record { field_inside = subst (FieldInside 4096 4096) (sym c.field_at.ensures) (c.requires.row_inside.each c.loop-k.k (omega (arith, c.loop-k-test.true))); marks_len = c.loop-k.invariant.0 }
 
 pub loop-k-preserved : goal.loop-k-preserved
 loop-k-preserved c =

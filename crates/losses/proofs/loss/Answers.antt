@@ -1,7 +1,6 @@
 -- By the two tests; the reason is that of the fields in records of n bytes.
 use mathlib.Core.Path.{◌∙◌}
 use native.Mathlib.Omega.{arith}
-use Rattle.keeping.proofs.Weighs.{fair_longest}
 use Rattle.losses.proofs.LossLaws.{loss_none, loss_past, loss_here}
 use Rattle.losses.proofs.loss.Goals as goal
 use Rattle.losses.proofs.loss.Goals.{then-missing-eq0-via-then-missing-eq0, then-missing-eq0-via-else-missing-eq0+then-n-h}
@@ -12,9 +11,6 @@ returns-then-missing-eq0 c =
       | then-missing-eq0-via-then-missing-eq0 w ↦ loss_none _ _ _ _ w.if-missing-eq0.true
       | then-missing-eq0-via-else-missing-eq0+then-n-h w ↦ loss_past _ _ _ _ w.if-missing-eq0.false (omega (arith, w.if-n-h.true))
     ]
-
-pub reason-requires : goal.reason-requires
-reason-requires c = fair_longest _ _ _ c.requires
 
 pub returns : goal.returns
 returns c =

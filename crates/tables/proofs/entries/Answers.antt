@@ -1,16 +1,7 @@
 -- Field by field: the table holds the entries of the fields so far, and nothing behind them.
 use native.Mathlib.Omega.{arith}
-use Rattle.tables.proofs.TableLaws.{fill_start, fill_more, fill_end}
+use Rattle.tables.proofs.TableLaws.{fill_more, fill_end}
 use Rattle.tables.proofs.entries.Goals as goal
-
-pub loop-i-init : goal.loop-i-init
-loop-i-init c = fill_start _ _ _ c.no_entries-out.ensures
-
-pub entry-requires : goal.entry-requires
-entry-requires c = let l = c.loop-i in rw c.field_at-f.ensures (c.requires.0 l.i (omega arith))
-
-pub bounds-out-i : goal.bounds-out-i
-bounds-out-i c = omega (arith, c.requires.1)
 
 pub loop-i-preserved : goal.loop-i-preserved
 loop-i-preserved c =
