@@ -16,11 +16,7 @@ fn store(table: &mut [Entry], entries: [Entry; 64], count: usize)
     requires { (count ≤ 64) × (count ≤ length table.old) }
     ensures { table.new ≡ take count entries ++ drop count table.old }
 {
-    let mut i = 0;
-    while i < count {
-        table[i] = entries[i];
-        i += 1;
-    }
+    table[..count].copy_from_slice(&entries[..count]);
 }
 
 // The plan of a deck.
@@ -37,8 +33,7 @@ pub fn bhx_plan_into(deck: &[u8], table: &mut [Entry]) -> Planned
     ensures { PlannedInto deck.now table.old result table.new }
 {
     let p = tables::plan_for(deck, table.len());
-    let entries = p.entries;
-    store(table, entries, p.store);
+    store(table, p.entries, p.store);
     p.answer
 }
 

@@ -25,17 +25,16 @@ pub fn full(m: usize) -> Tally
 }
 
 // The block that a segment goes into: a new one, with its word, where fewer than 5 bytes are left of the last, which are a segment's word and a byte of data.
+#[tactic(auto, unfolding(crate::specs::Cutting::opened_of))]
 fn opened(m: usize, tally: Tally) -> Tally
     requires { CutSmall m tally 0 }
     ensures { result ≡ opened_of m tally }
 {
     if m - tally.size < 5 {
-        let blocks = tally.blocks + 1;
-        let bytes = tally.bytes + 4;
         return Tally {
-            blocks,
+            blocks: tally.blocks + 1,
             size: 4,
-            bytes,
+            bytes: tally.bytes + 4,
         };
     }
     tally
@@ -49,14 +48,12 @@ pub fn cut(m: usize, tally: Tally, rest: usize) -> CutTaken
     let block = opened(m, tally);
     let size = rest.min(m - block.size - 4);
     let segment = size + 4;
-    let filled = block.size + segment;
-    let bytes = block.bytes + segment;
     CutTaken {
         size,
         tally: Tally {
             blocks: block.blocks,
-            size: filled,
-            bytes,
+            size: block.size + segment,
+            bytes: block.bytes + segment,
         },
     }
 }

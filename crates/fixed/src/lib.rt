@@ -14,6 +14,7 @@ fn put_outputs(fields: &[u16], n: usize, width: usize, data: &[u8], out: &mut [u
     ensures { OutputsPut fields.now n width «data».now out.old out.new }
 {
     let covered = records::covers(fields, width);
+    // Two places go on, each by its own width: what chunks_mut lends, a proof does not see again, and chunks of the data alone leave the other place to count.
     let mut at = 0;
     let mut to = 0;
     while at < data.len() {
@@ -37,12 +38,10 @@ fn put_bytes(task: Task, fields: &[u16], data: &[u8], out: &mut [u8])
     requires { BytesFit task fields.now «data».now (length out.old) }
     ensures { BytesPut task fields.now «data».now out.old out.new }
 {
-    let mode = task.mode;
-    match mode {
-        Mode::TC => copies::copy(data, out),
-        Mode::TF => put_outputs(fields, task.n, task.width, data, out),
-        Mode::TR => copies::copy(data, out),
-        Mode::TRF => put_outputs(fields, task.n, task.width, data, out),
+    if terms::selects(task.mode) {
+        put_outputs(fields, task.n, task.width, data, out);
+    } else {
+        copies::copy(data, out);
     }
 }
 
@@ -53,12 +52,9 @@ fn put_ends(task: Task, reel: &[u8], from: usize, records: usize, base: usize, o
 {
     let step = task.limit / task.width * task.width;
     let end = base + records * task.width;
-    let mode = task.mode;
-    match mode {
-        Mode::TC => offsets::put_steps(step, base, end, out),
+    match task.mode {
         Mode::TF => offsets::put_each(task.n, task.width, reel, from, base, out),
-        Mode::TR => offsets::put_steps(step, base, end, out),
-        Mode::TRF => offsets::put_steps(step, base, end, out),
+        Mode::TC | Mode::TR | Mode::TRF => offsets::put_steps(step, base, end, out),
     }
 }
 

@@ -1,14 +1,14 @@
 -- A run that finishes has what the writers ask, and what they write is what the rules say; a run that is refused leaves the lent output. By the parts of a
 -- finished run, and since no refusal has the number 0.
 use mathlib.Core.Path.{◌≡◌, refl, ap, sym, ◌∙◌, subst}
-use mathlib.Core.Bool.{Bool, true, false}
+use mathlib.Core.Bool.{Bool, true, false, false≢true}
 use mathlib.Core.List.{List}
 use Prim.Native.Nat.{ℕ, ◌≤◌, ◌<◌}
 use native.Mathlib.Omega.{arith}
 use lib.ListN.{length}
 use Rattle.rules.specs.Answer.{Answer, fine, refuse}
 use Rattle.rules.specs.Places.{All, Byte}
-use Rattle.rules.specs.Grammar.{tc}
+use Rattle.rules.specs.Grammar.{Mode, tc, tf, tr, trf}
 use Rattle.rules.specs.Halves.{over}
 use Rattle.rules.specs.Reel.{reel_of}
 use Rattle.rules.specs.Plan.{Plan, is_tc, is_fs, block_length}
@@ -32,6 +32,12 @@ use Rattle.checks.specs.Promise.{PlanGiven, SomePlanGiven, Checked}
 use Rattle.runs.specs.Promise.{Finishes, Finishing, ReelWritten, PlanRanInto}
 
 -- ---- a run that finishes
+
+pub is_copy : (m : Mode) → is_tc m ≡ true → m ≡ tc
+is_copy tc e = refl
+is_copy tf e = absurd (false≢true e)
+is_copy tr e = absurd (false≢true e)
+is_copy trf e = absurd (false≢true e)
 
 module _ {task : Task} {fields s : List ℕ} {blocks room : ℕ} {p : Plan} {x : RunOutput} (y : Finishes task fields s blocks room p x) where
   parts : Finished p room s x

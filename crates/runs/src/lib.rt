@@ -13,19 +13,17 @@ ghost use Rattle.checks.specs.Promise.{SomePlanGiven};
 ghost use Rattle.runs.specs.Promise.{Finishing, ReelWritten, PlanRanInto};
 
 use outcomes::Ran;
-use terms::{Asked, Mode, Task};
+use terms::{Asked, Task};
 
 // Writes the output reel of a run that finishes. The output of TC is its input.
 fn write(task: Task, fields: &[u16], reel: &[u8], blocks: usize, out: &mut [u8])
     requires { Finishing task fields.now reel.now blocks (length out.old) }
     ensures { ReelWritten task fields.now reel.now blocks out.old out.new }
 {
-    let mode = task.mode;
-    match mode {
-        Mode::TC => copies::copy(reel, out),
-        Mode::TF => writers::write_reel(task, fields, reel, blocks, out),
-        Mode::TR => writers::write_reel(task, fields, reel, blocks, out),
-        Mode::TRF => writers::write_reel(task, fields, reel, blocks, out),
+    if terms::is_tc(task.mode) {
+        copies::copy(reel, out);
+    } else {
+        writers::write_reel(task, fields, reel, blocks, out);
     }
 }
 
@@ -36,11 +34,10 @@ fn run(task: Task, fields: &[u16], reel: &[u8], out: &mut [u8]) -> Ran
 {
     let answer = checks::check(task, fields, reel, out.len());
     let refusal = answer.refusal;
-    let blocks = answer.blocks;
     if refusal > 0 {
         return answer;
     }
-    write(task, fields, reel, blocks, out);
+    write(task, fields, reel, answer.blocks, out);
     answer
 }
 
@@ -51,14 +48,10 @@ pub fn run_plan(asked: Asked, fields: &[u16], reel: &[u8], out: &mut [u8]) -> Ra
     ensures answer { result ≡ ran_struct (run_answer (conversion (length out.old) (plan_in zone_f asked (fields_in fields.now)) reel.now)) }
     ensures output { out.new ≡ output_after out.old (conversion (length out.old) (plan_in zone_f asked (fields_in fields.now)) reel.now) }
 {
-    let format = asked.format;
-    if terms::is_fs(format) {
-        let mode = asked.mode;
-        let input = asked.input;
-        let output = asked.output;
-        let copies = terms::is_tc(mode);
-        let g = terms::block_length(input);
-        let m = terms::block_length(output);
+    if terms::is_fs(asked.format) {
+        let copies = terms::is_tc(asked.mode);
+        let g = terms::block_length(asked.input);
+        let m = terms::block_length(asked.output);
         return spans::run_spanned(copies, g, m, asked.first, reel, out);
     }
     let task = tasks::task_of(asked);

@@ -22,12 +22,10 @@ fn measure(m: usize, reel: &[u8], from: Spot, count: usize) -> Tally
 {
     let mut at = from;
     let mut tally = cuts::full(m);
-    let mut number = 0;
-    while number < count {
+    for _number in 0..count {
         let next = segments::ahead(reel, at);
         tally = cuts::behind(m, tally, next.size);
         at = next.behind;
-        number += 1;
     }
     tally
 }
@@ -36,16 +34,12 @@ fn measure(m: usize, reel: &[u8], from: Spot, count: usize) -> Tally
 fn code(first: bool, last: bool) -> u8
     ensures { result ≡ code_of first last }
 {
-    if first {
-        if last {
-            return 0;
-        }
-        return 1;
+    match (first, last) {
+        (true, true) => 0,
+        (true, false) => 1,
+        (false, true) => 2,
+        (false, false) => 3,
     }
-    if last {
-        return 2;
-    }
-    3
 }
 
 // A segment in its place: where it opens a block, the block's offset; then the word of its block, which says the block's size so far; then its own word, and its data.
@@ -109,13 +103,11 @@ fn write(m: usize, reel: &[u8], from: Spot, count: usize, blocks: usize, out: &m
     let base = 4 * blocks + 8;
     let mut at = from;
     let mut tally = cuts::full(m);
-    let mut number = 0;
     pieces::put_word(out, 0, blocks);
-    while number < count {
+    for _number in 0..count {
         let next = segments::ahead(reel, at);
         tally = put_record(m, base, reel, at, next.size, tally, out);
         at = next.behind;
-        number += 1;
     }
     pieces::put_word(out, 4 * blocks + 4, base + tally.bytes);
 }
@@ -126,8 +118,7 @@ fn copied(reel: &[u8], records: usize, blocks: usize, out: &mut [u8]) -> Ran
     ensures { RanAs (ran_in reel.now records blocks) out.old result out.new }
 {
     let answer = outcomes::housed(out.len(), reel.len(), records, blocks);
-    let refusal = answer.refusal;
-    if refusal > 0 {
+    if answer.refusal > 0 {
         return answer;
     }
     copies::copy(reel, out);
@@ -144,8 +135,7 @@ fn filled(m: usize, reel: &[u8], passed: usize, records: usize, out: &mut [u8]) 
     let blocks = tally.blocks;
     let length = 4 * blocks + 8 + tally.bytes;
     let answer = outcomes::housed(out.len(), length, records, blocks);
-    let refusal = answer.refusal;
-    if refusal > 0 {
+    if answer.refusal > 0 {
         return answer;
     }
     write(m, reel, from, records, blocks, out);

@@ -78,9 +78,8 @@ fn in_blocks(task: Task, fields: &[u16], ours: &[u8], theirs: &[u8]) -> Judged
     ensures { OfPlan task fields.now ours.now theirs.now result }
 {
     let ran = checks::check(task, fields, ours, 0);
-    let refusal = ran.refusal;
-    if refusal != 15 {
-        return refused(refusal, ran.place, 0);
+    if ran.refusal != 15 {
+        return refused(ran.refusal, ran.place, 0);
     }
     judge_blocks(task, fields, ours, theirs)
 }
@@ -123,12 +122,9 @@ fn judge_plan(asked: Asked, fields: &[u16], ours: &[u8], theirs: &[u8]) -> Judge
     requires { PlanFair asked fields.now }
     ensures { result ≡ judged_of (judge_answer (judgement (plan_in zone_f asked (fields_in fields.now)) ours.now theirs.now)) }
 {
-    let format = asked.format;
-    if terms::is_fs(format) {
-        let input = asked.input;
-        let output = asked.output;
-        let g = terms::block_length(input);
-        let m = terms::block_length(output);
+    if terms::is_fs(asked.format) {
+        let g = terms::block_length(asked.input);
+        let m = terms::block_length(asked.output);
         return in_spans(g, m, asked.first, ours, theirs);
     }
     let task = tasks::task_of(asked);
@@ -139,12 +135,7 @@ fn judge_plan(asked: Asked, fields: &[u16], ours: &[u8], theirs: &[u8]) -> Judge
 fn fills(mode: Mode) -> bool
     ensures { result ≡ is_filling (mode_of mode) }
 {
-    match mode {
-        Mode::TC => false,
-        Mode::TF => false,
-        Mode::TR => true,
-        Mode::TRF => true,
-    }
+    matches!(mode, Mode::TR | Mode::TRF)
 }
 
 // Whether the cards of a deck ask for TC or TF, which keep the blocks of the input.

@@ -9,11 +9,11 @@ overflow_sub-m c = omega (arith, (block_is c.requires c.opened-block.ensures).ro
 pub overflow_sub-m-2 : goal.overflow_sub-m-2
 overflow_sub-m-2 c = omega (arith, (block_is c.requires c.opened-block.ensures).room)
 
-pub overflow_add-filled : goal.overflow_add-filled
-overflow_add-filled c = omega (arith, (block_is c.requires c.opened-block.ensures).room)
+pub overflow_add-result : goal.overflow_add-result
+overflow_add-result c = omega (arith, (block_is c.requires c.opened-block.ensures).room)
 
-pub overflow_add-bytes : goal.overflow_add-bytes
-overflow_add-bytes c = omega (arith, (block_is c.requires c.opened-block.ensures).most)
+pub overflow_add-result-2 : goal.overflow_add-result-2
+overflow_add-result-2 c = omega (arith, (block_is c.requires c.opened-block.ensures).most)
 
 pub returns : goal.returns
 returns c = cut_as _ _ _ _ c.opened-block.ensures _ c.min-size.ensures

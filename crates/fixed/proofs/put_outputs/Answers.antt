@@ -10,12 +10,6 @@ use Rattle.fixed.proofs.put_outputs.Goals as goal
 pub loop-at-init : goal.loop-at-init
 loop-at-init c = output_start _ _ _ _ _
 
--- a whole record is left, and room for its output
-pub overflow_add-end : goal.overflow_add-end
-overflow_add-end c =
-    let whole : c.loop-at.at + c.args.n ≤ length c.args.«data».now = let y = c.requires in whole_left c.loop-at.invariant (omega arith) y.fielded.fair y.even y.roomy in
-    omega (arith, whole, c.requires.short)
-
 pub slice_bounds-put_record-end : goal.slice_bounds-put_record-end
 slice_bounds-put_record-end c =
     let whole : c.loop-at.at + c.args.n ≤ length c.args.«data».now = let y = c.requires in whole_left c.loop-at.invariant (omega arith) y.fielded.fair y.even y.roomy in
@@ -46,17 +40,11 @@ overflow_add-to c =
     let room : c.loop-at.to + c.args.width ≤ length c.loop-at.out = let y = c.requires in room_left c.loop-at.invariant (omega arith) y.fielded.fair y.even y.roomy in
     omega (arith, room, c.loop-at.invariant.same, c.well_formed.1.1.1.1.0)
 
-pub loop-at-smaller : goal.loop-at-smaller
-loop-at-smaller c = omega (arith, c.requires.some)
-
 pub loop-at-preserved : goal.loop-at-preserved
 loop-at-preserved c =
     let k = c.loop-at in
     let r = c.put_record in
     output_more k.invariant (omega arith) _ r.ensures (same_len_mid k.to (length k.out - k.to) k.out r.new.out r.auto.out)
-
-pub shape_of-out : goal.shape_of-out
-shape_of-out c = c.loop-at.invariant.same
 
 pub returns : goal.returns
 returns c = output_end c.loop-at.invariant c.requires.some (omega arith) c.requires

@@ -7,26 +7,15 @@ use borrow.Rule.Slice.PartMut.{mid_len}
 use Rattle.pieces.specs.declared.Form.{Form}
 use Rattle.walks.specs.Walking.{fixed_start}
 use Rattle.tasks.specs.Promise.{form_of}
-use Rattle.fillings.proofs.FixedLaws.{record_some}
-use Rattle.fixed.proofs.ReadyLaws.{sound, few_blocks}
+use Rattle.fixed.proofs.ReadyLaws.{few_blocks}
 use Rattle.fixed.proofs.FixedWrite.{ends_given, bytes_given, room_behind, body_put}
 use Rattle.fixed.proofs.write.Goals as goal
-
-pub fixed_start-from-requires : goal.fixed_start-from-requires
-fixed_start-from-requires c =
-    let x = c.requires.lent.ready in
-    let w = x.good.accepted.first in
-    record { sound = sound x c.form_of.ensures; le_first = (omega (arith, x.is.first, w.0), omega (arith, x.is.first, w.1)) }
 
 pub overflow_mul-base : goal.overflow_mul-base
 overflow_mul-base c = omega (arith, few_blocks c.requires.lent.ready)
 
 pub overflow_add-base : goal.overflow_add-base
 overflow_add-base c = omega (arith, few_blocks c.requires.lent.ready)
-
--- R starts where the plan's numbers say
-pub nonzero_div-data : goal.nonzero_div-data
-nonzero_div-data c = let x = c.requires.lent.ready in record_some x.is x.good c.requires.format_value
 
 pub put_ends-requires : goal.put_ends-requires
 put_ends-requires c =

@@ -1,4 +1,5 @@
 -- Each turn tallies one record more, by its length alone.
+use native.Mathlib.Omega.{arith}
 use Rattle.spans.proofs.WalkLaws.{passes_start, passes_coming, passes_turn, turn_small, turn_passes, measures}
 use Rattle.spans.proofs.measure.Goals as goal
 
@@ -22,4 +23,4 @@ loop-number-preserved c = λ y.
     (x.more, turn_passes _ y q.1 q.2 x c.behind-tally.ensures)
 
 pub returns : goal.returns
-returns c = measures c.requires.0 c.loop-number.invariant c.loop-number-test.false
+returns c = measures c.requires.0 c.loop-number.invariant (omega arith)

@@ -62,4 +62,4 @@ returns c =
     λ z.
     let y = lent_as (sym c.put_word.auto.out) z in
     c.put_word-2.ensures
-    ∙ writes_end _ y (c.loop-number.invariant y) c.loop-number-test.false _ c.put_word.ensures z.roomy
+    ∙ writes_end _ y (c.loop-number.invariant y) (omega arith) _ c.put_word.ensures z.roomy
