@@ -1,7 +1,7 @@
 // The records of a reel that was read, in any format: how many there are, and the bytes of one of them, in FS its segments joined.
 #![tactic(auto)]
 
-ghost use Rattle.std.specs.Prelude.{◌≡◌, length};
+ghost use Rattle.std.specs.Prelude.{◌≡◌, ◌≤◌, length, IfSome};
 ghost use Rattle.io.specs.Counts.{IsPrefixLen};
 ghost use Rattle.pieces.proofs.PiecesLaws.{further};
 
@@ -15,12 +15,18 @@ pub fn record_room() -> [u8; 32752]
     [0; 32752]
 }
 
-// How many records there are so far, and how many bytes of the one that is wanted are in the room. A length and not a slice: behind the next piece more is put there,
-// and callers whose records have to fit a room know its length from the room.
+// How many records a reel has, and the bytes of the one that was wanted, if it has it.
 #[derive(Clone, Copy)]
-pub struct Gathered {
+pub struct Gathered<'a> {
     pub records: usize,
-    pub length: usize,
+    pub bytes: Option<&'a [u8]>,
+}
+
+// How many records there are so far, and how many bytes of the one that is wanted are in the room.
+#[derive(Clone, Copy)]
+struct Gathering {
+    records: usize,
+    length: usize,
 }
 
 // Where the pieces of a block begin: in FS too behind a word of 4 bytes.
@@ -44,7 +50,7 @@ pub fn piece_at(form: Form, b: &[u8], at: Cursor) -> Result<Option<FoundPiece>, 
 }
 
 // Behind a piece of the next record, which codes 0 and 2 end; its bytes go into the room if that record is the wanted one.
-fn behind(before: Gathered, bytes: &[u8], code: usize, wanted: usize, room: &mut [u8]) -> Gathered
+fn behind(before: Gathering, bytes: &[u8], code: usize, wanted: usize, room: &mut [u8]) -> Gathering
     requires { IsPrefixLen before.length room.old }
     ensures { IsPrefixLen result.length room.new }
 {
@@ -59,11 +65,17 @@ fn behind(before: Gathered, bytes: &[u8], code: usize, wanted: usize, room: &mut
     } else {
         before.length
     };
-    Gathered { records, length }
+    Gathering { records, length }
 }
 
 // Behind a block.
-fn behind_block(form: Form, b: &[u8], before: Gathered, wanted: usize, room: &mut [u8]) -> Gathered
+fn behind_block(
+    form: Form,
+    b: &[u8],
+    before: Gathering,
+    wanted: usize,
+    room: &mut [u8],
+) -> Gathering
     requires { IsPrefixLen before.length room.old }
     ensures { IsPrefixLen result.length room.new }
 {
@@ -76,16 +88,20 @@ fn behind_block(form: Form, b: &[u8], before: Gathered, wanted: usize, room: &mu
     found
 }
 
-// Counts the records of a reel, and puts the wanted one, from 1, into the room, as much of it as goes in. Where there is no such record its length is 0.
-pub fn gather(form: Form, reel: &[u8], wanted: usize, room: &mut [u8]) -> Gathered
-    ensures { IsPrefixLen result.length room.new }
+// Counts the records of a reel, and puts the wanted one, from 1, into the room, as much of it as goes in.
+pub fn gather<'a>(form: Form, reel: &[u8], wanted: usize, room: &'a mut [u8]) -> Gathered<'a>
+    ensures { IfSome result.bytes (λ taken. length taken.now ≤ length room.old) }
 {
-    let mut found = Gathered {
+    let mut found = Gathering {
         records: 0,
         length: 0,
     };
     for i in 0..reels::header(reel).unwrap_or(0) {
         found = behind_block(form, reels::block(reel, i), found, wanted, room);
     }
-    found
+    let is_there = 0 < wanted && wanted <= found.records;
+    Gathered {
+        records: found.records,
+        bytes: is_there.then_some(&room[..found.length]),
+    }
 }

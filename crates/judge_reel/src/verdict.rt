@@ -95,12 +95,9 @@ pub(crate) fn no(
     let found = gathers::gather(tasks::form_under(task), theirs, apart, &mut other);
     say(to, "theirs is no true conversion of ours: ");
     say_record(to, apart, place, place <= taken.records);
-    if taken.records < place || found.records < apart {
-        say_counts(to, left(taken.records, before), found.records);
-    } else {
-        let n = taken.length;
-        let m = found.length;
-        say_pair(to, deck, asked, fields, &room[..n], &other[..m]);
+    match (taken.bytes, found.bytes) {
+        (Some(ours), Some(theirs)) => say_pair(to, deck, asked, fields, ours, theirs),
+        _ => say_counts(to, left(taken.records, before), found.records),
     }
     say(to, "\n");
 }

@@ -143,7 +143,7 @@ fn say_record(
     let form = tasks::form_of(tasks::task_of(asked));
     let mut room = gathers::record_room();
     let found = gathers::gather(form, reel, place, &mut room);
-    match first_refused(fields, &room[..found.length]) {
+    match found.bytes.and_then(|record| first_refused(fields, record)) {
         Some(refused) => say_refused(to, deck, asked.key, refused),
         None => say_wrong(to),
     }
