@@ -34,6 +34,7 @@ const FIELDS: usize = 64;
 
 // What is noted of the FS cards so far: how long the key is; how many fields are kept; the cards of the 65th field, of CV and of the first field that is taken
 // from the key; the card and column of the second CV and of the first number outside its limits. 0 is none.
+// Kept 0 for none, as in Parameters and OutsideColumns: the rules note a card and a column so, and Asked, which C reads, holds them so; Options would be undone.
 #[derive(Clone, Copy)]
 struct Noted {
     key: usize,
@@ -67,27 +68,28 @@ fn nothing_noted(key: usize) -> Noted
 fn counted(noted: Noted, card: usize) -> Noted
     ensures { result ≡ field_counted noted card }
 {
-    let count = noted.count;
-    let mut next = noted;
-    if count < FIELDS {
-        next.count = count + 1;
-        return next;
+    if noted.count < FIELDS {
+        return Noted {
+            count: noted.count + 1,
+            ..noted
+        };
     }
-    next.sixty_fifth = limits::first_of(noted.sixty_fifth, card);
-    next
+    Noted {
+        sixty_fifth: limits::first_of(noted.sixty_fifth, card),
+        ..noted
+    }
 }
 
 // The card of the first field that is taken from the key.
 fn key_noted(noted: Noted, card: usize, part: Part) -> Noted
     ensures { result ≡ key_noted noted card (part_of part) }
 {
-    let mut next = noted;
     match part {
         Part::Data => noted,
-        Part::Key => {
-            next.keyed = limits::first_of(noted.keyed, card);
-            next
-        }
+        Part::Key => Noted {
+            keyed: limits::first_of(noted.keyed, card),
+            ..noted
+        },
     }
 }
 
@@ -110,16 +112,17 @@ fn field_noted(noted: Noted, card: usize, part: Part, outside: usize) -> Noted
 fn cv_noted(noted: Noted, card: usize, column: usize) -> Noted
     ensures { result ≡ cv_noted noted card column }
 {
-    let mut next = noted;
     if noted.cv == 0 {
-        next.cv = card;
-        return next;
+        return Noted { cv: card, ..noted };
     }
     if noted.second_cv == 0 {
-        next.second_cv = card;
-        next.second_column = column;
+        return Noted {
+            second_cv: card,
+            second_column: column,
+            ..noted
+        };
     }
-    next
+    noted
 }
 
 // A field goes into the row behind those before it, while there is room. One with a number outside its limits does not: its deck is refused.
@@ -127,10 +130,8 @@ fn keep(row: &mut [u16; 320], count: usize, field: Field, outside: usize)
     requires { (length row.old ≡ 320) × Keepable field outside }
     ensures { (length row.new ≡ 320) × (row.new ≡ kept_row count outside (field_of field) row.old) }
 {
-    if outside == 0 {
-        if count < FIELDS {
-            rows::put_numbers(row, 5 * count, field);
-        }
+    if outside == 0 && count < FIELDS {
+        rows::put_numbers(row, 5 * count, field);
     }
 }
 
@@ -273,10 +274,11 @@ fn with_parameter(state: Parameters, parameter: UParameter, column: usize) -> Pa
     ensures { result ≡ with_parameter state parameter column }
 {
     let at = letter(parameter);
-    let mut same = state;
-    if same.seen[at] {
-        same.twice = limits::first_of(same.twice, column);
-        return same;
+    if state.seen[at] {
+        return Parameters {
+            twice: limits::first_of(state.twice, column),
+            ..state
+        };
     }
     let mut next = with_part(state, parameter);
     next.seen[at] = true;
@@ -329,6 +331,7 @@ struct URead {
 }
 
 // One or more parameters in any order with commas between. The operand begins at this column.
+// Kept a loop: a parameter takes as many bytes as it is long, so that no range or iterator steps from one to the next.
 fn u_card(operand: &[u8], column: usize) -> Result<URead, Unread>
     requires { (1 ≤ column) × Reaches column (length operand.now + 5) }
     ensures { UListed column operand.now (list_of "," (worded ruleParameter) operand.now) result }
@@ -417,6 +420,7 @@ fn card_at(deck: &[u8], at: usize) -> CardAt
 
 // The FS cards from the line that begins at `from` on, behind a key of so many bytes. The first of them is card 2, and an operand begins at column 7. Their fields
 // go into the row.
+// Kept a loop, here and in card_over: each card says where the next line begins.
 fn fs_cards(deck: &[u8], from: usize, key: usize, row: &mut [u16; 320]) -> Result<Noted, Unread>
     requires all { All IsCard (cards_in (drop from deck.now)) }
     requires row_value { (row.old ≡ row_of []) × (key ≤ 4096) }
@@ -660,6 +664,7 @@ fn card_over(deck: &[u8], from: usize, field: usize) -> usize
 }
 
 // The card on which a field of a deck stands, the first being field 0; 0 where the deck is refused, or has no such field.
+// Kept 0 for none: the programs print the number as it is, and the rules' list of cards answers 0 past its end.
 pub fn field_card(deck: &[u8], field: usize) -> usize
     ensures { result ≡ card_of_field (asked_of deck.now) field }
 {

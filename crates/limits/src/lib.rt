@@ -12,6 +12,7 @@ use readers::{Places, UParameter};
 use terms::{Field, Format, Input, Kind, Part, Size};
 
 // The column of a number that is outside its limits, or 0.
+// Kept 0 for none, here and in all of this file: the rules and the answers to C give a column so, and an Option would be turned back into that number.
 fn number_outside(low: usize, high: usize, number: usize, column: usize) -> usize
     ensures { result ≡ cond (within low high number) 0 column }
 {

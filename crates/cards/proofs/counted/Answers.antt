@@ -3,10 +3,10 @@ use borrow.Author.Tests.{lt-ltb, le-ltb}
 use Rattle.cards.specs.Selected.{field_counted}
 use Rattle.cards.proofs.counted.Goals as goal
 
-pub returns-then-count-lt-FIELDS : goal.returns-then-count-lt-FIELDS
+pub returns-then-noted-lt-FIELDS : goal.returns-then-noted-lt-FIELDS
 unfolding field_counted
-returns-then-count-lt-FIELDS c = rw (lt-ltb _ 64 c.if-count-lt-FIELDS.true)
+returns-then-noted-lt-FIELDS c = rw (lt-ltb _ 64 c.if-noted-lt-FIELDS.true)
 
 pub returns : goal.returns
 unfolding field_counted
-returns c = rw (le-ltb _ 64 c.if-count-lt-FIELDS.false, c.first_of.ensures)
+returns c = rw (le-ltb _ 64 c.if-noted-lt-FIELDS.false, c.first_of.ensures)

@@ -11,6 +11,6 @@ pub returns-then-noted-eq0-2 : goal.returns-then-noted-eq0-2
 unfolding cv_noted
 returns-then-noted-eq0-2 c = rw (ne_eqb _ 0 c.if-noted-eq0.false, eq-eqb _ 0 c.if-noted-eq0-2.true)
 
-pub returns-else-noted-eq0-2 : goal.returns-else-noted-eq0-2
+pub returns : goal.returns
 unfolding cv_noted
-returns-else-noted-eq0-2 c = rw (ne_eqb _ 0 c.if-noted-eq0.false, ne_eqb _ 0 c.if-noted-eq0-2.false)
+returns c = rw (ne_eqb _ 0 c.if-noted-eq0.false, ne_eqb _ 0 c.if-noted-eq0-2.false)

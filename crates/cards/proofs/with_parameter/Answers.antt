@@ -6,16 +6,16 @@ use Rattle.cards.specs.Parameters.{with_second, with_letter, with_parameter}
 use Rattle.cards.proofs.ParameterLaws.{letter_small}
 use Rattle.cards.proofs.with_parameter.Goals as goal
 
-pub bounds-same-at : goal.bounds-same-at
-bounds-same-at c = omega (arith, c.letter-at.ensures, letter_small (parameter_of c.args.parameter))
+pub bounds-state-at : goal.bounds-state-at
+bounds-state-at c = omega (arith, c.letter-at.ensures, letter_small (parameter_of c.args.parameter))
 
-pub returns-then-same-at : goal.returns-then-same-at
+pub returns-then-state-at : goal.returns-then-state-at
 unfolding with_parameter with_second
-returns-then-same-at c = rw (sym c.letter-at.ensures, c.if-same-at.true, c.first_of.ensures)
+returns-then-state-at c = rw (sym c.letter-at.ensures, c.if-state-at.true, c.first_of.ensures)
 
 pub bounds-next-at : goal.bounds-next-at
 bounds-next-at c = omega (arith, c.letter-at.ensures, letter_small (parameter_of c.args.parameter))
 
 pub returns : goal.returns
 unfolding with_parameter with_letter
-returns c = rw (sym c.letter-at.ensures, c.if-same-at.false, c.with_part-next.ensures)
+returns c = rw (sym c.letter-at.ensures, c.if-state-at.false, c.with_part-next.ensures)
