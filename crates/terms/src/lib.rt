@@ -46,7 +46,7 @@ pub enum Part {
     Key,
 }
 
-// What a field does.
+// What a field does, in the order of the numbers that stand for it in a row and in a lent table.
 #[derive(Clone, Copy)]
 pub enum Kind {
     Copy,
