@@ -1,6 +1,8 @@
 // What cards name, as types that every floor above shares, and what their cases say: each floor asks it by the same function.
 #![tactic(auto)]
 
+mod shown;
+
 ghost use Rattle.std.specs.Prelude.{◌≡◌, ◌<◌};
 ghost use Rattle.rules.specs.Plan.{is_tc, selects as ruleSelects, is_ff, is_fv, is_fu, is_fs, record_length, block_length};
 ghost use Rattle.rules.specs.Output.{cost as costOf};
