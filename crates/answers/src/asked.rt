@@ -1,46 +1,13 @@
 // What the cards of a deck ask for, as words of a line.
 use std::io::Print;
-use terms::{Asked, Field, Format, Kind, Mode, Size};
+use terms::{Asked, Field, Size};
 use words::say;
-
-fn mode_letters(mode: Mode) -> &'static str {
-    match mode {
-        Mode::TC => "TC",
-        Mode::TF => "TF",
-        Mode::TR => "TR",
-        Mode::TRF => "TRF",
-    }
-}
-
-fn format_letters(format: Format) -> &'static str {
-    match format {
-        Format::FF => "FF",
-        Format::FV => "FV",
-        Format::FU => "FU",
-        Format::FS => "FS",
-    }
-}
-
-fn kind_letter(kind: Kind) -> char {
-    match kind {
-        Kind::Copy => 'C',
-        Kind::Pack => 'P',
-        Kind::Unpack => 'U',
-    }
-}
-
-fn tell_size(to: &impl Print, label: &str, size: Size) {
-    match size {
-        Size::Two { n, m } => say(to, format_args!("{label}{n},{m}")),
-        Size::One { g } => say(to, format_args!("{label}{g}")),
-    }
-}
 
 // What A says: key and data are told apart again.
 fn tell_input(to: &impl Print, input: Size, key: usize) {
     let n = terms::record_length(input);
     if key == 0 || n < key {
-        tell_size(to, " A=", input);
+        say(to, format_args!(" A={input}"));
     } else {
         say(to, format_args!(" A=K={key},D={}", n - key));
     }
@@ -58,7 +25,7 @@ fn tell_place(to: &impl Print, r: usize, key: usize) {
 }
 
 fn tell_field(to: &impl Print, field: Field, key: usize, card: usize) {
-    say(to, format_args!(" {}", kind_letter(field.kind)));
+    say(to, format_args!(" {}", field.kind));
     tell_place(to, field.r, key);
     say(
         to,
@@ -74,11 +41,9 @@ fn tell_fields(to: &impl Print, deck: &[u8], fields: &[u16], key: usize) {
 }
 
 pub(crate) fn tell(to: &impl Print, deck: &[u8], asked: Asked, fields: &[u16]) {
-    let mode = mode_letters(asked.mode);
-    let format = format_letters(asked.format);
-    say(to, format_args!(" {mode} {format}"));
+    say(to, format_args!(" {} {}", asked.mode, asked.format));
     tell_input(to, asked.input, asked.key);
-    tell_size(to, " B=", asked.output);
+    say(to, format_args!(" B={}", asked.output));
     say(
         to,
         format_args!(

@@ -9,7 +9,7 @@ pub(crate) fn cut(s: &[u8], byte: u8) -> (&[u8], &[u8]) {
     }
 }
 
-// The number that decimal digits say; it grows no further than some millions.
+// The number that decimal digits say; it grows no further than some millions. By hand: `str::parse` answers otherwise where other bytes stand among them.
 pub(crate) fn number(word: &[u8]) -> usize {
     word.iter().fold(0, |value, byte| {
         if value < 1000000 {
@@ -25,7 +25,7 @@ pub(crate) fn first(s: &[u8], count: usize) -> &[u8] {
     &s[..count.min(s.len())]
 }
 
-// The value of a hex digit; of another byte 0.
+// The value of a hex digit; of another byte 0. By hand: small letters are other bytes here, and `char::to_digit` takes them.
 fn digit(byte: u8) -> u8
     ensures { result < 16 }
 {
