@@ -79,6 +79,7 @@ fn first_fixed(task: Task, fields: &[u16], reel: &[u8]) -> Option<usize>
     let first = task.first;
     let from = walks::fixed_start(tasks::form_of(task), reel, first);
     let data = walks::rest(reel, from);
+    // By hand, since chunks asks at each turn whether n bytes are left: that is proved here, and no pass over all records gets a test more.
     let mut at = 0;
     let mut number = first;
     while at < data.len() {
