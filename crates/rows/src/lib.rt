@@ -35,7 +35,7 @@ pub fn put_numbers(row: &mut [u16; 320], at: usize, f: Field)
     row[at + 4] = f.t as u16;
 }
 
-// A number of the row.
+// A number of the row. It stands beside usize::from since it promises too how large the number is, as terms::wide does of a byte.
 pub fn wide(number: u16) -> usize
     ensures { (result ≡ number) × (result < 65536) }
 {

@@ -194,7 +194,7 @@ pub fn kind_number(kind: Kind) -> u8
 
 // ---- numbers
 
-// A byte as a number.
+// A byte as a number. It stands beside usize::from since it promises too how large the number is, which what is reckoned from it needs.
 pub fn wide(byte: u8) -> usize
     ensures { (result ≡ byte) × (result < 256) }
 {
