@@ -3,6 +3,7 @@ ghost use Rattle.io.specs.Counts.{IsPrefixLen};
 
 use std::io::Read;
 
+// An entry stands in a room of a fixed size with its length beside it: names come from outside, and no memory is taken for them.
 // How many bytes the last read brought, how many of these are taken, and how many the entry has. After the end of the list a read brings none.
 #[derive(Clone, Copy)]
 pub(crate) struct Place {

@@ -4,6 +4,7 @@ ghost use Rattle.io.specs.Counts.{IsPrefixLen};
 
 use std::io::Cursor;
 
+// The room is lent and the place a number, since callers put into the middle of a room that they keep.
 // Puts the text into the room from a place on, as much of it as goes in, and answers where it ends.
 pub fn put(room: &mut [u8], from: usize, text: &[u8]) -> usize
     requires { from ≤ length room.old }

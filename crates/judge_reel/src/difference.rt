@@ -1,11 +1,11 @@
 // In which byte a record of theirs differs from what ours gives, and which field writes it, in words.
-ghost use Rattle.std.specs.Prelude.{◌+◌, ◌*◌, ◌≤◌, length, IfSome};
+ghost use Rattle.std.specs.Prelude.{◌≤◌, length};
 ghost use Rattle.rows.specs.Flat.{Fielded};
 ghost use Rattle.rows.specs.Fair.{PlanFair};
 
-use notices::say;
+use notices::{Numbered, say};
 use std::io::Print;
-use terms::{Asked, Field, Task};
+use terms::{Asked, Task};
 
 // A byte, by its position from 1, in which two records differ, and what stands there in each.
 #[derive(Clone, Copy)]
@@ -30,28 +30,11 @@ fn first_difference(ours: &[u8], theirs: &[u8]) -> Option<Difference> {
     None
 }
 
-// Whether a field writes a position, both counted from 1.
-fn writes(f: Field, position: usize) -> bool {
-    f.t <= position && position - f.t < f.output
-}
-
-// The place in the row, from 0, of the last field that writes a position.
-fn last_writer(fields: &[u16], position: usize) -> Option<usize>
-    ensures { IfSome result (λ k. 5 * k + 5 ≤ length fields.now) }
-{
-    for k in (0..fields.len() / 5).rev() {
-        if writes(rows::field_at(fields, k), position) {
-            return Some(k);
-        }
-    }
-    None
-}
-
 // Says what writes a position: a field, or with CV the tail. In TR there is neither.
 fn say_writer(to: &impl Print, deck: &[u8], asked: Asked, fields: &[u16], position: usize) {
-    if let Some(last) = last_writer(fields, position) {
+    if let Some(Numbered { number, field }) = notices::last_writer(fields, position) {
         say(to, "; ");
-        notices::field_on_card(to, deck, asked.key, last + 1, rows::field_at(fields, last));
+        notices::field_on_card(to, deck, asked.key, number, field);
         say(to, ", writes it");
     } else if asked.cv > 0 {
         say(to, "; it is of the tail, which CV carries");

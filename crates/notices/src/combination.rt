@@ -1,101 +1,58 @@
 // What refusal 8 found: the first combination of parameters that is broken, in the order in which they are judged (document 01, "Combinations required"; document
 // 02, orders 5 and 6).
+use std::fmt::Display;
 use std::io::Print;
 use terms::{Asked, Format, Mode, Size};
 use words::say;
 
-// ---- what the deck has
-
-fn mode_name(to: &impl Print, mode: Mode) {
-    match mode {
-        Mode::TC => say(to, "TC"),
-        Mode::TF => say(to, "TF"),
-        Mode::TR => say(to, "TR"),
-        Mode::TRF => say(to, "TRF"),
+// Says what is broken, where it is, and answers whether it is.
+fn said(to: &impl Print, is_broken: bool, what: impl Display + Drop) -> bool {
+    if is_broken {
+        say(to, what);
     }
+    is_broken
 }
 
-fn format_name(to: &impl Print, format: Format) {
-    match format {
-        Format::FF => say(to, "FF"),
-        Format::FV => say(to, "FV"),
-        Format::FU => say(to, "FU"),
-        Format::FS => say(to, "FS"),
-    }
-}
-
-// Says what goes only with another function than the deck has.
-fn not_with_mode(to: &impl Print, rule: &str, mode: Mode) {
-    say(to, rule);
-    say(to, ", and this deck has ");
-    mode_name(to, mode);
-}
-
-// The same of another format.
-fn not_with_format(to: &impl Print, rule: &str, format: Format) {
-    say(to, rule);
-    say(to, ", and this deck has ");
-    format_name(to, format);
-}
-
-// Says A or B as on the card.
-fn size_on_card(to: &impl Print, size: Size) {
-    match size {
-        Size::Two { n, m } => {
-            say(to, "(");
-            say(to, n);
-            say(to, ",");
-            say(to, m);
-            say(to, ")");
-        }
-        Size::One { g } => {
-            say(to, "(");
-            say(to, g);
-            say(to, ")");
-        }
-    }
+// The same of what goes only with another function or format than the deck has.
+fn said_not_with(to: &impl Print, is_broken: bool, rule: &str, has: impl Display + Drop) -> bool {
+    said(
+        to,
+        is_broken,
+        format_args!("{rule}, and this deck has {has}"),
+    )
 }
 
 // ---- the combinations; each says whether it was found broken, and then has said so
 
 // Keys only in FF with TF or TRF.
 fn key_broken(to: &impl Print, mode: Mode, format: Format, key: usize) -> bool {
-    if key == 0 {
-        return false;
-    }
-    if !terms::selects(mode) {
-        not_with_mode(to, "a key in A goes only with TF or TRF", mode);
-        return true;
-    }
-    if !terms::is_ff(format) {
-        not_with_format(to, "a key in A goes only with FF", format);
-        return true;
-    }
-    false
+    let is_keyed = key > 0;
+    said_not_with(
+        to,
+        is_keyed && !terms::selects(mode),
+        "a key in A goes only with TF or TRF",
+        mode,
+    ) || said_not_with(
+        to,
+        is_keyed && !terms::is_ff(format),
+        "a key in A goes only with FF",
+        format,
+    )
 }
 
 // FU only with TC. TC only with R1.
 fn copy_broken(to: &impl Print, mode: Mode, format: Format, first: usize) -> bool {
-    if !terms::is_tc(mode) {
-        if terms::is_fu(format) {
-            not_with_mode(to, "FU goes only with TC", mode);
-            return true;
-        }
-        return false;
-    }
-    if first != 1 {
-        say(to, "TC goes only with R1, and this deck has R");
-        say(to, first);
-        return true;
-    }
-    false
-}
-
-fn has_two(size: Size) -> bool {
-    match size {
-        Size::Two { n: _, m: _ } => true,
-        Size::One { g: _ } => false,
-    }
+    let is_copy = terms::is_tc(mode);
+    said_not_with(
+        to,
+        !is_copy && terms::is_fu(format),
+        "FU goes only with TC",
+        mode,
+    ) || said(
+        to,
+        is_copy && first != 1,
+        format_args!("TC goes only with R1, and this deck has R{first}"),
+    )
 }
 
 // Whether A and B have two numbers: in FF, and in FV with TF or TRF.
@@ -103,180 +60,133 @@ fn wants_two(mode: Mode, format: Format) -> bool {
     match format {
         Format::FF => true,
         Format::FV => terms::selects(mode),
-        Format::FU => false,
-        Format::FS => false,
-    }
-}
-
-// Says how many numbers A or B has, by this format and, in FV, this function.
-fn count_rule(to: &impl Print, mode: Mode, format: Format, name: &str) {
-    say(to, "in ");
-    format_name(to, format);
-    if terms::is_fv(format) {
-        say(to, " with ");
-        mode_name(to, mode);
-    }
-    say(to, " ");
-    say(to, name);
-    if wants_two(mode, format) {
-        say(to, " has two numbers, (n,m), and this deck has one");
-    } else {
-        say(to, " has one number, (g), and this deck has two");
+        Format::FU | Format::FS => false,
     }
 }
 
 // FF: two numbers each. FU and FS: one. FV: two with TF or TRF, else one.
 fn count_broken(to: &impl Print, mode: Mode, format: Format, size: Size, name: &str) -> bool {
-    if has_two(size) == wants_two(mode, format) {
+    let is_two = wants_two(mode, format);
+    if matches!(size, Size::Two { .. }) == is_two {
         return false;
     }
-    count_rule(to, mode, format, name);
+    say(to, format_args!("in {format}"));
+    if terms::is_fv(format) {
+        say(to, format_args!(" with {mode}"));
+    }
+    if is_two {
+        say(
+            to,
+            format_args!(" {name} has two numbers, (n,m), and this deck has one"),
+        );
+    } else {
+        say(
+            to,
+            format_args!(" {name} has one number, (g), and this deck has two"),
+        );
+    }
     true
 }
 
 // TC: A equals B.
 fn copy_differs(to: &impl Print, mode: Mode, a: Size, b: Size) -> bool {
-    if !terms::is_tc(mode) {
-        return false;
-    }
-    if terms::record_length(a) == terms::record_length(b) {
-        if terms::block_length(a) == terms::block_length(b) {
-            return false;
-        }
-    }
-    say(to, "TC wants A equal to B, and here A is ");
-    size_on_card(to, a);
-    say(to, " and B is ");
-    size_on_card(to, b);
-    true
+    let is_equal = terms::record_length(a) == terms::record_length(b)
+        && terms::block_length(a) == terms::block_length(b);
+    said(
+        to,
+        terms::is_tc(mode) && !is_equal,
+        format_args!("TC wants A equal to B, and here A is ({a}) and B is ({b})"),
+    )
 }
 
 // TF and TRF need an FS card.
 fn card_missing(to: &impl Print, mode: Mode, fs: usize) -> bool {
-    if !terms::selects(mode) {
-        return false;
-    }
-    if fs > 0 {
-        return false;
-    }
-    say(to, "TF and TRF need an FS card, and there is none");
-    true
+    said(
+        to,
+        terms::selects(mode) && fs == 0,
+        "TF and TRF need an FS card, and there is none",
+    )
 }
 
 // FF: m a multiple of n.
-fn multiple_broken(to: &impl Print, n: usize, m: usize, name: &str) -> bool {
-    if n == 0 {
-        return false;
-    }
-    if m % n == 0 {
-        return false;
-    }
-    say(to, "in FF m is a multiple of n, and in ");
-    say(to, name);
-    say(to, " ");
-    say(to, m);
-    say(to, " is none of ");
-    say(to, n);
-    true
+fn multiple_broken(to: &impl Print, size: Size, name: &str) -> bool {
+    let n = terms::record_length(size);
+    let m = terms::block_length(size);
+    said(
+        to,
+        n > 0 && m % n > 0,
+        format_args!("in FF m is a multiple of n, and in {name} {m} is none of {n}"),
+    )
 }
 
 // TR with FF: equal record lengths.
 fn lengths_differ(to: &impl Print, n: usize, n2: usize) -> bool {
-    if n == n2 {
-        return false;
-    }
-    say(
+    said(
         to,
-        "with TR the record lengths of A and B are equal, and these are ",
-    );
-    say(to, n);
-    say(to, " and ");
-    say(to, n2);
-    true
+        n != n2,
+        format_args!("with TR the record lengths of A and B are equal, and these are {n} and {n2}"),
+    )
 }
 
 // How many records fill a block.
-fn records(n: usize, m: usize) -> usize {
-    if n == 0 {
-        return 0;
-    }
-    m / n
+fn records(size: Size) -> usize {
+    terms::block_length(size)
+        .checked_div(terms::record_length(size))
+        .unwrap_or(0)
 }
 
 // TF with FF: equal m divided by n.
 fn counts_differ(to: &impl Print, a: usize, b: usize) -> bool {
-    if a == b {
-        return false;
-    }
-    say(
+    said(
         to,
-        "with TF as many records stand in a block of A as in one of B, and these are ",
-    );
-    say(to, a);
-    say(to, " and ");
-    say(to, b);
-    true
+        a != b,
+        format_args!(
+            "with TF as many records stand in a block of A as in one of B, and these are {a} and {b}"
+        ),
+    )
 }
 
-fn fixed_broken(to: &impl Print, mode: Mode, n: usize, m: usize, n2: usize, m2: usize) -> bool {
-    if multiple_broken(to, n, m, "A") {
-        return true;
-    }
-    if multiple_broken(to, n2, m2, "B") {
+fn fixed_broken(to: &impl Print, mode: Mode, a: Size, b: Size) -> bool {
+    if multiple_broken(to, a, "A") || multiple_broken(to, b, "B") {
         return true;
     }
     match mode {
-        Mode::TC => false,
-        Mode::TF => counts_differ(to, records(n, m), records(n2, m2)),
-        Mode::TR => lengths_differ(to, n, n2),
-        Mode::TRF => false,
+        Mode::TC | Mode::TRF => false,
+        Mode::TF => counts_differ(to, records(a), records(b)),
+        Mode::TR => lengths_differ(to, terms::record_length(a), terms::record_length(b)),
     }
 }
 
 // FV with two numbers: n+8 at most m.
-fn room_broken(to: &impl Print, n: usize, m: usize, name: &str) -> bool {
-    if m >= 8 {
-        if n <= m - 8 {
-            return false;
-        }
-    }
-    say(to, "in FV n+8 is at most m, and in ");
-    say(to, name);
-    say(to, " n is ");
-    say(to, n);
-    say(to, " and m is ");
-    say(to, m);
-    true
+fn room_broken(to: &impl Print, size: Size, name: &str) -> bool {
+    let n = terms::record_length(size);
+    let m = terms::block_length(size);
+    said(
+        to,
+        m < 8 || m - 8 < n,
+        format_args!("in FV n+8 is at most m, and in {name} n is {n} and m is {m}"),
+    )
 }
 
-fn variable_broken(to: &impl Print, mode: Mode, n: usize, m: usize, n2: usize, m2: usize) -> bool {
-    if !terms::selects(mode) {
-        return false;
-    }
-    if room_broken(to, n, m, "A") {
-        return true;
-    }
-    room_broken(to, n2, m2, "B")
+fn variable_broken(to: &impl Print, mode: Mode, a: Size, b: Size) -> bool {
+    terms::selects(mode) && (room_broken(to, a, "A") || room_broken(to, b, "B"))
 }
 
 // Format FS only with TC and TR.
 fn spanned_broken(to: &impl Print, mode: Mode) -> bool {
-    if !terms::selects(mode) {
-        return false;
-    }
-    not_with_mode(to, "format FS goes only with TC or TR", mode);
-    true
+    said_not_with(
+        to,
+        terms::selects(mode),
+        "format FS goes only with TC or TR",
+        mode,
+    )
 }
 
 // By the format, where as many numbers stand as are wanted.
 fn format_broken(to: &impl Print, mode: Mode, format: Format, a: Size, b: Size) -> bool {
-    let n = terms::record_length(a);
-    let m = terms::block_length(a);
-    let n2 = terms::record_length(b);
-    let m2 = terms::block_length(b);
     match format {
-        Format::FF => fixed_broken(to, mode, n, m, n2, m2),
-        Format::FV => variable_broken(to, mode, n, m, n2, m2),
+        Format::FF => fixed_broken(to, mode, a, b),
+        Format::FV => variable_broken(to, mode, a, b),
         Format::FU => false,
         Format::FS => spanned_broken(to, mode),
     }
@@ -290,32 +200,21 @@ fn sizes_broken(to: &impl Print, asked: Asked) -> bool {
     let format = asked.format;
     let input = asked.input;
     let output = asked.output;
-    if count_broken(to, mode, format, input, "A") {
-        return true;
-    }
-    if count_broken(to, mode, format, output, "B") {
-        return true;
-    }
-    if copy_differs(to, mode, input, output) {
-        return true;
-    }
-    if card_missing(to, mode, asked.fs) {
-        return true;
-    }
-    format_broken(to, mode, format, input, output)
+    count_broken(to, mode, format, input, "A")
+        || count_broken(to, mode, format, output, "B")
+        || copy_differs(to, mode, input, output)
+        || card_missing(to, mode, asked.fs)
+        || format_broken(to, mode, format, input, output)
 }
 
 // What the U card breaks.
 fn u_card_broken(to: &impl Print, asked: Asked) {
     let mode = asked.mode;
     let format = asked.format;
-    if key_broken(to, mode, format, asked.key) {
-        return;
-    }
-    if copy_broken(to, mode, format, asked.first) {
-        return;
-    }
-    if !sizes_broken(to, asked) {
+    let is_said = key_broken(to, mode, format, asked.key)
+        || copy_broken(to, mode, format, asked.first)
+        || sizes_broken(to, asked);
+    if !is_said {
         say(to, "the parameters do not go together");
     }
 }
@@ -324,18 +223,23 @@ fn u_card_broken(to: &impl Print, asked: Asked) {
 fn fs_card_broken(to: &impl Print, asked: Asked, place: usize) {
     let mode = asked.mode;
     let format = asked.format;
-    if !terms::selects(mode) {
-        not_with_mode(to, "an FS card goes only with TF or TRF", mode);
-        return;
-    }
-    if asked.cv == place && !terms::is_fv(format) {
-        not_with_format(to, "CV goes only with FV", format);
-        return;
-    }
-    say(
+    let is_said = said_not_with(
         to,
-        "(K,r) goes only with a key in A, (K=l,D=l), and this deck has none",
+        !terms::selects(mode),
+        "an FS card goes only with TF or TRF",
+        mode,
+    ) || said_not_with(
+        to,
+        asked.cv == place && !terms::is_fv(format),
+        "CV goes only with FV",
+        format,
     );
+    if !is_said {
+        say(
+            to,
+            "(K,r) goes only with a key in A, (K=l,D=l), and this deck has none",
+        );
+    }
 }
 
 // Says what refusal 8 found at a card of a deck that could be read: at the U card its parameters, elsewhere what an FS card may not be.

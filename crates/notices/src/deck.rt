@@ -1,4 +1,5 @@
-// What refusals 1 to 10, of a deck, say.
+// What refusals 1 to 10, of a deck, say. A refusal's number, place and column stay three numbers: they come from four answers, which C sees as they are, so that a struct
+// would be made at each call just to be taken apart here.
 use crate::{combination, half};
 use cards::CardRefusal;
 use std::io::Print;

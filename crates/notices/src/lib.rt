@@ -6,9 +6,11 @@
 
 mod combination;
 mod deck;
+mod field;
 mod taken;
 
 pub use card_words::field_on_card;
+pub use field::{Numbered, last_reader, last_writer};
 use plans::DeckPlan;
 use std::io::Print;
 pub use taken::{left_out, none_taken};

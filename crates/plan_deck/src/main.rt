@@ -17,7 +17,7 @@ fn refused(rt: &HostRuntime, deck: &[u8], refusal: usize, place: usize, column: 
 fn wants_table(rt: &HostRuntime) -> bool {
     let mut room = io::buffer();
     let n = inputs::argument(rt, 1, &mut room);
-    check::same(&room[..n], b"table")
+    matches!(&room[..n], b"table")
 }
 
 // A deck that is here as a whole.

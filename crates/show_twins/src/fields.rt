@@ -1,46 +1,9 @@
-// The fields of a plan: which is the last over a byte, and what becomes of a half in it.
+// What becomes of a half in a field of a plan.
 ghost use Rattle.std.specs.Prelude.{◌≤◌};
 
+use notices::Numbered;
 use std::io::Print;
 use terms::{Field, Kind};
-
-// A field of a plan by its number, from 1.
-#[derive(Clone, Copy)]
-pub(crate) struct Numbered {
-    pub(crate) number: usize,
-    pub(crate) field: Field,
-}
-
-// Whether a byte is among so many from a position on. Bytes and positions count from 1.
-fn is_among(from: usize, size: usize, byte: usize) -> bool {
-    from <= byte && byte - from < size
-}
-
-// The last field of which this holds.
-fn last<F: Fn(Field) -> bool>(fields: &[u16], holds: F) -> Option<Numbered>
-    requires { F.IsAlwaysCallable holds }
-{
-    for k in (0..fields.len() / 5).rev() {
-        let field = rows::field_at(fields, k);
-        if holds(field) {
-            return Some(Numbered {
-                number: k + 1,
-                field,
-            });
-        }
-    }
-    None
-}
-
-// The last field that reads a byte of the input.
-pub(crate) fn last_reader(fields: &[u16], byte: usize) -> Option<Numbered> {
-    last(fields, |f| is_among(f.r, f.input, byte))
-}
-
-// The last field that writes a byte of the output.
-pub(crate) fn last_writer(fields: &[u16], byte: usize) -> Option<Numbered> {
-    last(fields, |f| is_among(f.t, f.output, byte))
-}
 
 // A number of a field, which on a card is 1 to 4,096: said so that sums of them are seen to fit.
 fn within(n: usize) -> usize

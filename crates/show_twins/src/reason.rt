@@ -1,7 +1,6 @@
 // Why the twins become alike, in words: the reason is that of the last field that reads the lost half.
 use crate::fields;
-use crate::fields::Numbered;
-use notices::{half_of_byte, many, say};
+use notices::{Numbered, half_of_byte, many, say};
 use std::io::Print;
 use terms::Asked;
 
@@ -36,7 +35,7 @@ fn covered(
         to,
         format_args!("; it writes it to byte {byte} of the output, and "),
     );
-    if let Some(writer) = fields::last_writer(fields, byte) {
+    if let Some(writer) = notices::last_writer(fields, byte) {
         fields::say_field(to, deck, key, writer);
     }
     say(to, ", covers that");
@@ -62,7 +61,7 @@ pub(crate) fn explain(
     lost: usize,
 ) {
     let key = asked.key;
-    let reader = fields::last_reader(fields, lost / 2 + 1);
+    let reader = notices::last_reader(fields, lost / 2 + 1);
     match (reason, reader) {
         (2, Some(reader)) => dropped(to, deck, key, reader, lost),
         (3, Some(reader)) => covered(to, deck, key, fields, reader, lost),
