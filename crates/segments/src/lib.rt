@@ -91,6 +91,7 @@ fn passed(v: Spot, n: usize) -> Spot
 }
 
 // The record that begins at a spot: the words of its segments are walked, and nothing is copied.
+// A loop, since the segment that is read says whether it is the last.
 pub fn ahead(reel: &[u8], v: Spot) -> RecordAhead
     requires { Coming reel.now v }
     ensures { Comes reel.now v result }
@@ -148,6 +149,7 @@ fn put(reel: &[u8], v: Spot, n: usize, out: &mut [u8])
 }
 
 // So many bytes of data from a spot on go to the front of out, across segments and blocks; and the spot behind them.
+// A while, since each turn goes on by as much as is left of a segment, which no range counts.
 pub fn copy(reel: &[u8], v: Spot, n: usize, out: &mut [u8]) -> Spot
     requires { Copyable reel.now v n (length out.old) }
     ensures { Copied reel.now v n out.old out.new result }
@@ -177,6 +179,7 @@ fn same_part(reel: &[u8], v: Spot, t: &[u8], u: Spot, n: usize) -> bool
 }
 
 // Whether so many bytes of data from a spot on are those from a spot of another reel on, across segments and blocks of both.
+// A while, as in `copy`.
 pub fn same(reel: &[u8], v: Spot, t: &[u8], u: Spot, n: usize) -> bool
     requires { Streamed reel.now v n × Streamed t.now u n }
     ensures { SameData reel.now v t.now u n result }
