@@ -5,7 +5,6 @@ use mathlib.Core.Bool.{Bool, true, false, cond, not}
 use mathlib.Core.List.{List}
 use Prim.Native.Nat.{ℕ, ◌*◌}
 use lib.ListN.{take}
-use borrow.Author.Tests.{eq-eqb, ne_eqb}
 use Rattle.rules.specs.Answer.{Answer, fine, refuse, ◌>>=◌}
 use Rattle.rules.specs.Grammar.{Mode as RuleMode}
 use Rattle.rules.specs.Asked.{Asked as RuleAsked, Utility, asked_of}
@@ -27,7 +26,7 @@ use Rattle.plans.specs.Promise.{Plans}
 use Rattle.plans.specs.declared.DeckPlan.{DeckPlan}
 use Rattle.plans.proofs.FilledLaws.{refused_plan_lem, accepted_plan, plan_taken}
 use Rattle.verdicts.specs.declared.Judged.{Judged}
-use Rattle.verdicts.specs.Promise.{judged_of, judge_numbers, refused_with, told_as, Spanning, NotJudged}
+use Rattle.verdicts.specs.Promise.{judged_of, judge_numbers, refused_with, Spanning, NotJudged}
 
 -- ---- what the cards ask for
 
@@ -108,14 +107,6 @@ pub spanning : {asked : Asked} {row : List ℕ} → PlanFair asked row → is_fs
     → Spanning g m asked.first (plan_in zone_f asked (fields_in row))
 unfolding plan_in
 spanning ok t g m g_is m_is = record { accepted = ok.accepted; spanned = t; g_is = g_is; m_is = m_is; first_is_lem = refl }
-
--- ---- yes
-
-pub told_yes : (number : ℕ) → number ≡ 0 → record { refusal = 0; place = 0; column = 0; yes = 1; number = number } ≡ told_as number
-told_yes number e = rw (eq-eqb number 0 e)
-
-pub told_no : (number : ℕ) → (number ≡ 0 → ⊥) → record { refusal = 0; place = 0; column = 0; yes = 0; number = number } ≡ told_as number
-told_no number o = rw (ne_eqb number 0 o)
 
 -- ---- the struct
 

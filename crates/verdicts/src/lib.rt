@@ -45,15 +45,11 @@ fn refused(refusal: usize, place: usize, column: usize) -> Judged
 fn told(number: usize) -> Judged
     ensures { result ≡ told_as number }
 {
-    let mut yes = 0;
-    if number == 0 {
-        yes = 1;
-    }
     Judged {
         refusal: 0,
         place: 0,
         column: 0,
-        yes,
+        yes: usize::from(number == 0),
         number,
     }
 }
