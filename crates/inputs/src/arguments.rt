@@ -12,11 +12,7 @@ const INVALID: i32 = 22;
 
 fn is_missing(env: &impl Env, i: usize) -> bool {
     let mut room = [0u8; 1];
-    match env.arg(i, &mut room) {
-        Ok(_) => false,
-        Err(FillError::TooLong) => false,
-        Err(FillError::NotPresent) => true,
-    }
+    matches!(env.arg(i, &mut room), Err(FillError::NotPresent))
 }
 
 // How many there are, the program's own name among them.
@@ -40,7 +36,7 @@ pub fn read_argument(env: &impl Env, i: usize, room: &mut [u8]) -> Result<usize,
     }
 }
 
-// The same, with 0 for one that is missing or longer than the room.
+// The same, with 0 for one that is missing or longer than the room: to those who ask both are as one of no bytes, so an Option would be no plainer.
 pub fn argument(env: &impl Env, i: usize, room: &mut [u8]) -> usize
     ensures { IsPrefixLen result room.new }
 {

@@ -10,7 +10,7 @@ pub const BLANK: u8 = b' ';
 
 pub const COMMA: u8 = b',';
 
-// Says a card, and a column of it where there is one. Kept (a): a column is a number, 0 for none, in the answers that C sees.
+// Says a card, and a column of it where there is one: a number, 0 for none, as in the answers that C sees.
 pub fn spot(to: &impl Print, card: usize, column: usize) {
     say(to, "card ");
     say(to, card);
@@ -44,10 +44,8 @@ pub fn card_at(deck: &[u8], place: usize) -> &[u8] {
 // The card up to where its operand ends: a comment may say anything.
 pub fn uncommented(card: &[u8]) -> &[u8] {
     match lines::card(card) {
-        Some(CardRead::UCard { start: _, end }) => &card[..end],
-        Some(CardRead::FsCard { start: _, end }) => &card[..end],
-        Some(CardRead::EndCard) => &card[..0],
-        None => &card[..0],
+        Some(CardRead::UCard { end, .. } | CardRead::FsCard { end, .. }) => &card[..end],
+        Some(CardRead::EndCard) | None => &card[..0],
     }
 }
 

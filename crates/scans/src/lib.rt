@@ -14,7 +14,7 @@ pub struct Scanner {
     pub seen: LinesSeen,
     // The bytes of the line that is begun.
     pub begun: [u8; 80],
-    // How many there are, or 81 for more than a card has.
+    // How many there are, counted up to 81, which is more than a card has; it is a count in both cases, so an Option would be no plainer.
     pub size: usize,
 }
 
