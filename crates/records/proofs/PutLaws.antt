@@ -22,28 +22,37 @@ use Rattle.terms.specs.Meaning.{kind_of, field_of}
 use Rattle.terms.specs.declared.Field.{Field}
 use Rattle.halves.specs.Promise.{packed_into, unpacked_into}
 use Rattle.halves.proofs.PromiseLaws.{packed_whole, unpacked_whole}
-use Rattle.rows.specs.Flat.{flat_of, field_at, FlatFair, Fielded}
+use Rattle.rows.specs.Flat.{flat_of, kind_at, field_at, FlatFair, Fielded}
 use Rattle.records.specs.Promise.{FieldsWritten, out_bytes, Puts, Covers, ground_of}
 use Rattle.rows.proofs.FlatLaws.{fields_many, field_is, output_of_row, fits_at, sizes_at}
-use Rattle.rows.proofs.ReadLaws.{lent_input, part_input, Reads, reads_inside, length_input}
+use Rattle.rows.proofs.ReadLaws.{kind_copy, kind_pack, kind_unpack, lent_input, part_input, Reads, reads_inside, length_input}
 use Rattle.records.proofs.CoverLaws.{grounded}
 
 -- ---- one field
 
--- what is left in a field's part, by its kind
-module _ (s d : List ℕ) where
-  module _ (fills : length s ≡ length d) where
-    pub copied_size : KindWithin (copy (length s)) → (length s ≤ 65536) × (length s ≤ length d)
-    copied_size w = (omega arith, omega arith)
+-- what is left in a field's part, by the number of its kind
+module _ (k : ℕ) (s d : List ℕ) (sizes : KindWithin (kind_of (kind_at k) (length s) (length d))) where
+  module _ (copies : k ≡ 0) (fills : output_size (kind_of (kind_at k) (length s) (length d)) ≡ length d) where
+    pub copied_size : (length s ≤ 65536) × (length s ≤ length d)
+    copied_size =
+        let w : KindWithin (copy (length s)) = rw (kind_copy k copies) at sizes in
+        let o : length s ≡ length d = rw (kind_copy k copies) at fills in
+        (omega (arith, w.1), omega (arith, o))
 
-    pub copied : over 0 s d ≡ converted_bytes zone_f (copy (length s)) s
-    copied = over_whole s d (omega arith)
+    pub copied : over 0 s d ≡ converted_bytes zone_f (kind_of (kind_at k) (length s) (length d)) s
+    copied =
+        let o : length s ≡ length d = rw (kind_copy k copies) at fills in
+        rw (kind_copy k copies) (over_whole s d (omega (arith, o)))
 
-  pub packed : KindWithin (pack (length s) (length d)) → packed_into s d ≡ converted_bytes zone_f (pack (length s) (length d)) s
-  packed w = packed_whole s d w.0.0 w.0.1 w.1.0 w.1.1
+  pub packed : k ≡ 1 → packed_into s d ≡ converted_bytes zone_f (kind_of (kind_at k) (length s) (length d)) s
+  packed e =
+      let w : KindWithin (pack (length s) (length d)) = rw (kind_pack k e) at sizes in
+      rw (kind_pack k e) (packed_whole s d w.0.0 w.0.1 w.1.0 w.1.1)
 
-  pub unpacked : KindWithin (unpack (length s) (length d)) → unpacked_into s d ≡ converted_bytes zone_f (unpack (length s) (length d)) s
-  unpacked w = unpacked_whole s d w.0.0 w.0.1 w.1.0 w.1.1
+  pub unpacked : (k ≡ 0 → ⊥) → (k ≡ 1 → ⊥) → unpacked_into s d ≡ converted_bytes zone_f (kind_of (kind_at k) (length s) (length d)) s
+  unpacked e g =
+      let w : KindWithin (unpack (length s) (length d)) = rw (kind_unpack k e g) at sizes in
+      rw (kind_unpack k e g) (unpacked_whole s d w.0.0 w.0.1 w.1.0 w.1.1)
 
 -- the part of the output that is lent for a field
 abbrev lent_output : Field → List ℕ → List ℕ

@@ -8,25 +8,29 @@ ghost use Rattle.rules.specs.Lent.{zone_f};
 ghost use Rattle.rules.specs.Rows.{KindWithin};
 ghost use Rattle.rules.specs.RecordParts.{converted_bytes};
 ghost use Rattle.terms.specs.Meaning.{kind_of};
-ghost use Rattle.rows.specs.Flat.{Fielded};
+ghost use Rattle.rows.specs.Flat.{kind_at, Fielded};
 ghost use Rattle.records.specs.Promise.{FieldsWritten, Puts, Covers, farther_of, ground_of};
 
-use terms::{Field, Kind};
+use terms::Field;
 
 // What stands where no field writes.
 const BLANK: u8 = 0x40;
 
-// Writes a field into its own part of the output.
-fn put_field(kind: Kind, input: &[u8], out: &mut [u8])
-    requires kind_within { KindWithin (kind_of kind (length input.now) (length out.old)) }
-    requires out_value { output_size (kind_of kind (length input.now) (length out.old)) ≡ length out.old }
-    ensures { out.new ≡ converted_bytes zone_f (kind_of kind (length input.now) (length out.old)) input.now }
+// Writes a field into its own part of the output. The kind is matched as the number of the row: by the enum, runs with short fields were slower (docs/DECISIONS.md, D180).
+fn put_field(kind: u16, input: &[u8], out: &mut [u8])
+    requires kind_within { KindWithin (kind_of (kind_at kind) (length input.now) (length out.old)) }
+    requires out_value { output_size (kind_of (kind_at kind) (length input.now) (length out.old)) ≡ length out.old }
+    ensures { out.new ≡ converted_bytes zone_f (kind_of (kind_at kind) (length input.now) (length out.old)) input.now }
 {
-    match kind {
-        Kind::Copy => copies::copy(input, out),
-        Kind::Pack => halves::pack(input, out),
-        Kind::Unpack => halves::unpack(input, out),
+    if kind == 0 {
+        copies::copy(input, out);
+        return;
     }
+    if kind == 1 {
+        halves::pack(input, out);
+        return;
+    }
+    halves::unpack(input, out);
 }
 
 // Writes the fields in order, a later one over an earlier one.
@@ -40,7 +44,7 @@ pub fn put_fields(fields: &[u16], record: &[u8], out: &mut [u8])
         let end = from + f.input;
         let to = f.t - 1;
         let past = to + f.output;
-        put_field(f.kind, &record[from..end], &mut out[to..past]);
+        put_field(fields[5 * i], &record[from..end], &mut out[to..past]);
     }
 }
 

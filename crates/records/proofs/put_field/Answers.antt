@@ -1,16 +1,19 @@
--- A copy, pack or unpack leaves what that kind makes of the input.
+-- The number says the kind, and a copy, pack or unpack leaves what that kind makes of the input.
 use mathlib.Core.Path.{◌∙◌}
 use Rattle.records.proofs.PutLaws.{copied_size, copied, packed, unpacked}
 use Rattle.records.proofs.put_field.Goals as goal
 
 pub copy-requires : goal.copy-requires
-copy-requires c = copied_size _ _ (rw c.in-Copy.is at c.requires.out_value) (rw c.in-Copy.is at c.requires.kind_within)
+copy-requires c = copied_size c.args.kind c.args.input.now c.args.out.now c.requires.kind_within c.if-kind-eq0.true c.requires.out_value
 
-pub returns-in-Copy : goal.returns-in-Copy
-returns-in-Copy c = rw c.in-Copy.is (c.copy.ensures ∙ copied _ _ (rw c.in-Copy.is at c.requires.out_value))
+pub returns-then-kind-eq0 : goal.returns-then-kind-eq0
+returns-then-kind-eq0 c =
+    c.copy.ensures ∙ copied c.args.kind c.args.input.now c.args.out.now c.requires.kind_within c.if-kind-eq0.true c.requires.out_value
 
-pub returns-in-Pack : goal.returns-in-Pack
-returns-in-Pack c = rw c.in-Pack.is (c.pack.ensures ∙ packed _ _ (rw c.in-Pack.is at c.requires.kind_within))
+pub returns-then-kind-eq1 : goal.returns-then-kind-eq1
+returns-then-kind-eq1 c =
+    c.pack.ensures ∙ packed c.args.kind c.args.input.now c.args.out.now c.requires.kind_within c.if-kind-eq1.true
 
-pub returns-in-Unpack : goal.returns-in-Unpack
-returns-in-Unpack c = rw c.in-Unpack.is (c.unpack.ensures ∙ unpacked _ _ (rw c.in-Unpack.is at c.requires.kind_within))
+pub returns : goal.returns
+returns c =
+    c.unpack.ensures ∙ unpacked c.args.kind c.args.input.now c.args.out.now c.requires.kind_within c.if-kind-eq0.false c.if-kind-eq1.false
