@@ -24,9 +24,9 @@ use Rattle.terms.specs.Meaning.{kind_of, field_of}
 use Rattle.terms.specs.declared.Kind.{Kind}
 use Rattle.terms.specs.declared.Kind.TheVariants.{Copy, Pack, Unpack}
 use Rattle.terms.specs.declared.Field.{Field}
-use Rattle.rows.specs.Flat.{flat_of, field_at}
+use Rattle.rows.specs.Flat.{flat_of, kind_at, field_at}
 use Rattle.values.specs.Promise.{Passes, Permits, takes_any, FieldsAsk}
-use Rattle.rows.proofs.ReadLaws.{lent_input, part_input, Reads, length_input}
+use Rattle.rows.proofs.ReadLaws.{kind_of_row, lent_input, part_input, Reads, length_input}
 
 -- ---- byte after byte
 
@@ -120,6 +120,13 @@ part_read xs r i f e h =
     ap (λ (n : ℕ). may_be (kind_allows zone_f (kind_of f.kind n f.output)) 0 (halves (lent_input f r))) (length_input f r h)
     ∙ ap (λ (x : List ℕ). may_be (kind_allows zone_f (field_of f).kind) 0 (halves x)) (part_input f r)
     ∙ ap (λ (g : Field). may_read r (field_of g)) e
+
+-- the same by the number of the row, which names the field's kind
+pub part_read_row : (xs r : List ℕ) (i : ℕ) (f : Field) → f ≡ field_at xs i → Reads f r
+    → may_be (kind_allows zone_f (kind_of (kind_at (get_or xs (5 * i) 0)) (length (lent_input f r)) f.output)) 0 (halves (lent_input f r)) ≡ may_read r (field_of (field_at xs i))
+part_read_row xs r i f e h =
+    ap (λ (q : Kind). may_be (kind_allows zone_f (kind_of q (length (lent_input f r)) f.output)) 0 (halves (lent_input f r))) (sym (kind_of_row xs i) ∙ ap (λ (g : Field). g.kind) (sym e))
+    ∙ part_read xs r i f e h
 
 -- a field that takes any halves may read any record
 pub any_read : (r : List ℕ) → All Byte r → (f : RuleField) → takes_any f.kind ≡ true → may_read r f ≡ true

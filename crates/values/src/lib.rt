@@ -7,7 +7,7 @@ ghost use Rattle.rules.specs.Permitted.{digit, sign, kind_allows};
 ghost use Rattle.rules.specs.Output.{may_be};
 ghost use Rattle.rules.specs.Lent.{zone_f};
 ghost use Rattle.terms.specs.Meaning.{kind_of};
-ghost use Rattle.rows.specs.Flat.{Readable};
+ghost use Rattle.rows.specs.Flat.{kind_at, Readable};
 ghost use Rattle.values.specs.Promise.{Passes, Permits, FieldsAsk};
 
 use terms::{Kind, ZONE};
@@ -77,16 +77,19 @@ fn pass<F: Fn(u8) -> bool, G: Fn(u8) -> bool>(input: &[u8], each: F, end: G) -> 
     end(input[last])
 }
 
-// Whether a field of a kind may have this input, whatever its output size. A copy takes any halves, so they are not looked at.
-fn input_permitted(kind: Kind, input: &[u8]) -> bool
+// Whether a field of a kind may have this input, whatever its output size. A copy takes any halves, so they are not looked at. The kind is compared as the number of the
+// row: by the enum, runs with short fields were slower (docs/DECISIONS.md, D180).
+fn input_permitted(kind: u16, input: &[u8]) -> bool
     requires { 1 ≤ length input.now }
-    ensures { (m : ℕ) → result ≡ may_be (kind_allows zone_f (kind_of kind (length input.now) m)) 0 (halves input.now) }
+    ensures { (m : ℕ) → result ≡ may_be (kind_allows zone_f (kind_of (kind_at kind) (length input.now) m)) 0 (halves input.now) }
 {
-    match kind {
-        Kind::Copy => true,
-        Kind::Pack => pass(input, is_zoned, is_zoned_end),
-        Kind::Unpack => pass(input, are_digits, is_packed_end),
+    if kind == 0 {
+        return true;
     }
+    if kind == 1 {
+        return pass(input, is_zoned, is_zoned_end);
+    }
+    pass(input, are_digits, is_packed_end)
 }
 
 // Whether the halves of a record are permitted, field by field: halves that no field reads may be any.
@@ -98,7 +101,7 @@ pub fn permitted(fields: &[u16], record: &[u8]) -> bool
         let f = rows::field_at(fields, i);
         let from = f.r - 1;
         let end = from + f.input;
-        if !input_permitted(f.kind, &record[from..end]) {
+        if !input_permitted(fields[5 * i], &record[from..end]) {
             return false;
         }
     }

@@ -4,7 +4,7 @@ use native.Mathlib.Omega.{arith}
 use Rattle.rules.proofs.Halves.HalfBytes.{all_bytes}
 use Rattle.rows.proofs.ReadLaws.{reads_at, length_input}
 use Rattle.values.proofs.WalkLaws.{left_more, left_fails, left_end}
-use Rattle.values.proofs.CheckLaws.{part_read, permits_not, permits_all}
+use Rattle.values.proofs.CheckLaws.{part_read_row, permits_not, permits_all}
 use Rattle.values.proofs.permitted.Goals as goal
 
 pub overflow_sub-from : goal.overflow_sub-from
@@ -21,12 +21,12 @@ input_permitted-requires c = let reads = reads_at _ _ c.loop-i.i c.requires (ome
 
 pub returns-then-not-input_permitted : goal.returns-then-not-input_permitted
 returns-then-not-input_permitted c =
-    let asked = c.input_permitted.ensures c.field_at-f.result.output ∙ part_read _ _ c.loop-i.i _ c.field_at-f.ensures (reads_at _ _ c.loop-i.i c.requires (omega arith) _ c.field_at-f.ensures) in
+    let asked = c.input_permitted.ensures c.field_at-f.result.output ∙ part_read_row _ _ c.loop-i.i _ c.field_at-f.ensures (reads_at _ _ c.loop-i.i c.requires (omega arith) _ c.field_at-f.ensures) in
     permits_not _ _ (all_bytes _ (λ i. omega (arith, c.type_inv.«record» i))) (left_fails _ _ c.loop-i.i c.loop-i.invariant (omega arith) (sym asked ∙ c.if-not-input_permitted.true))
 
 pub loop-i-preserved : goal.loop-i-preserved
 loop-i-preserved c =
-    let asked = c.input_permitted.ensures c.field_at-f.result.output ∙ part_read _ _ c.loop-i.i _ c.field_at-f.ensures (reads_at _ _ c.loop-i.i c.requires (omega arith) _ c.field_at-f.ensures) in
+    let asked = c.input_permitted.ensures c.field_at-f.result.output ∙ part_read_row _ _ c.loop-i.i _ c.field_at-f.ensures (reads_at _ _ c.loop-i.i c.requires (omega arith) _ c.field_at-f.ensures) in
     left_more _ _ c.loop-i.i c.loop-i.invariant (omega arith) (sym asked ∙ c.if-not-input_permitted.false)
 
 pub returns : goal.returns
