@@ -9,8 +9,8 @@ fn short(src: &[u8], dst: &mut [u8])
     requires { length src.now ≤ length dst.old }
     ensures { dst.new ≡ over 0 src.now dst.old }
 {
-    for (i, byte) in src.iter().enumerate() {
-        dst[i] = *byte;
+    for i in 0..src.len() {
+        dst[i] = src[i];
     }
 }
 

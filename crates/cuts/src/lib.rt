@@ -58,7 +58,7 @@ pub fn cut(m: usize, tally: Tally, rest: usize) -> CutTaken
     }
 }
 
-// The tally behind a record of so many bytes.
+// The tally behind a record of so many bytes. A while, since each turn goes on by what a cut takes, which no range counts.
 pub fn behind(m: usize, tally: Tally, size: usize) -> Tally
     requires { CutSmall m tally size }
     ensures { result ≡ behind_record m tally size }

@@ -67,7 +67,7 @@ fn put_next(
     segments::copy(reel, at, part.size, &mut out[from..])
 }
 
-// A record of so many bytes, segment by segment, and the tally behind it.
+// A record of so many bytes, segment by segment, and the tally behind it. A while, as in `cuts::behind`.
 fn put_record(
     m: usize,
     base: usize,
