@@ -1,3 +1,4 @@
+pub mod Filling
 pub mod PromiseLaws
 mod PackPlaces
 mod UnpackPairs

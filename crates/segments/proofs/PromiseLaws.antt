@@ -3,7 +3,7 @@ use mathlib.Core.Path.{◌≡◌, ap, sym, ◌∙◌}
 use mathlib.Core.Logic.{◌↔◌}
 use mathlib.Core.Bool.{Bool, true}
 use mathlib.Core.List.{List, ◌∷◌, ◌++◌, map}
-use Prim.Native.Nat.{ℕ, ◌≤◌}
+use Prim.Native.Nat.{ℕ, ◌≤◌, min}
 use native.Mathlib.Omega.{arith}
 use lib.ListN.{length, take, length-append}
 use lib.Seq.{take_at}
@@ -80,3 +80,7 @@ same_only_one s v t u n k m {x} {y} a b =
     let p = a.is k.g m.g k.«data» m.«data» k.streams k.enough m.streams m.enough in
     let q = b.is k.g m.g k.«data» m.«data» k.streams k.enough m.streams m.enough in
     same_test x y (λ e. q.1 (p.0 e)) (λ e. p.1 (q.0 e))
+
+-- of the smaller of two numbers, which `usize::min` of std promises
+pub smaller_only_one : (a b : ℕ) {x y : ℕ} → x ≡ min a b → y ≡ min a b → x ≡ y
+smaller_only_one a b p q = p ∙ sym q
