@@ -54,6 +54,7 @@ fn measured(
 }
 
 // Refusals 13, 14 and 15 of a reel whose blocks all keep their rule.
+// Here and in `check` each step ends in the C struct, and nobody looks into it again: an error and `?` would add a type and a conversion.
 fn checked(
     task: Task,
     fields: &[u16],

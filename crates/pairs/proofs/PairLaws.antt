@@ -3,7 +3,7 @@
 use mathlib.Core.Path.{◌≡◌, refl, ap, ap₂, sym, ◌∙◌, subst}
 use mathlib.Core.Bool.{Bool, true, false, cond}
 use mathlib.Core.List.{List, [], ◌∷◌, map}
-use Prim.Native.Nat.{ℕ, suc, ◌+◌, ◌-◌, ◌≤◌}
+use Prim.Native.Nat.{ℕ, zero, suc, ◌+◌, ◌-◌, ◌≤◌}
 use native.Mathlib.Omega.{arith}
 use lib.ListN.{length, take, drop}
 use lib.Seq.{slice}
@@ -19,7 +19,7 @@ use Rattle.terms.specs.declared.Task.{Task}
 use Rattle.pieces.specs.declared.Form.{Form}
 use Rattle.walks.specs.declared.Walk.{Walk}
 use Rattle.walks.specs.declared.RecordRead.{RecordRead}
-use Rattle.std.specs.Prelude.{Some, None}
+use Rattle.std.specs.Prelude.{Option, Some, None}
 use Rattle.walks.specs.Marks.{marked_all, bytes_of}
 use Rattle.walks.specs.Promise.{Good, Walks, Sound, Standing, Passed, bytes_left, RecordTold, WalkTaken}
 use Rattle.walks.proofs.MarksLaws.{all_records}
@@ -27,7 +27,13 @@ use Rattle.walks.proofs.PromiseLaws.{lent, lent_length, passed, ended}
 use Rattle.tasks.specs.Promise.{form_of, form_under}
 use Rattle.tasks.proofs.LengthLaws.{form_given, form_judged}
 use Rattle.checks.specs.Promise.{PlanGiven}
+use Rattle.span_pairs.specs.Promise.{number_of}
 use Rattle.pairs.specs.Promise.{Comparable, AgreesAs, BothRead, Lacks, ApartAt}
+
+-- a number from 1 on is there
+some_number : (n m : ℕ) → 1 ≤ n → n ≡ m → Some n ≡ number_of m
+some_number n zero l e = absurd (omega arith)
+some_number n (suc m) l e = ap Some e
 
 -- ---- the search
 
@@ -42,6 +48,7 @@ record Pairs (p : Plan) (ours theirs : List ℕ) (recs others : List (List (List
       ≡ first_apart (agrees p) number (map (out_record p) (map bytes_of rest)) (map bytes_of rest')
 
 pub record Pairing (task : Task) (fields ours theirs : List ℕ) (w v : Walk) (number : ℕ) : Type 0 where
+  low : 1 ≤ number
   few : number + bytes_left ours w ≤ 1 + length ours
   pairs : (p : Plan) (recs others : List (List (List ℕ))) → PlanGiven task fields p → Good p ours recs → Good (under_b p) theirs others → Pairs p ours theirs recs others w v number
 
@@ -63,6 +70,7 @@ module _ {task : Task} {fields ours theirs : List ℕ} {form under : Form} (f : 
   unfolding bytes_left
   pair_start {w} {v} a b =
       record {
+        low = omega arith;
         few = omega arith;
         pairs = λ p recs others x g h.
             record {
@@ -108,14 +116,14 @@ module _ {task : Task} {fields ours theirs : List ℕ} {form under : Form} (f : 
           }
 
       -- theirs has none
-      pub pair_lacks : RecordTold under theirs v None → ApartAt task fields ours theirs number
+      pub pair_lacks : RecordTold under theirs v None → ApartAt task fields ours theirs (Some number)
       pair_lacks t' =
           record {
             is = λ p recs others x g h.
                 let q = k.pairs p recs others x g h in
                 let a = passed t (form_given x.is f) q.walks in
-                sym (q.same
-                ∙ ap₂ (λ (xs ys : List (Bool × List ℕ)). first_apart (agrees p) number (map (out_record p) (map bytes_of xs)) (map bytes_of ys)) a.is (ended t' (form_judged x.is u) q.walks'));
+                some_number _ _ k.low (sym (q.same
+                ∙ ap₂ (λ (xs ys : List (Bool × List ℕ)). first_apart (agrees p) number (map (out_record p) (map bytes_of xs)) (map bytes_of ys)) a.is (ended t' (form_judged x.is u) q.walks')));
           }
 
       -- theirs has one too
@@ -134,19 +142,21 @@ module _ {task : Task} {fields ours theirs : List ℕ} {form under : Form} (f : 
             ∙ ap₂ (λ (xs ys : List (Bool × List ℕ)). first_apart (agrees p) number (map (out_record p) (map bytes_of xs)) (map bytes_of ys)) g.is h.is
             ∙ ap (λ (c : Bool). cond c (first_apart (agrees p) (suc number) (map (out_record p) (map bytes_of g.more)) (map bytes_of h.more)) number) (sym z)
 
-        pub pair_stop : (b : Bool) → AgreesAs task fields one like b → b ≡ false → ApartAt task fields ours theirs number
+        pub pair_stop : (b : Bool) → AgreesAs task fields one like b → b ≡ false → ApartAt task fields ours theirs (Some number)
         pair_stop b d n =
             record {
               is = λ p recs others x g h.
                   let q = k.pairs p recs others x g h in
                   let a = passed t (form_given x.is f) q.walks in
                   let c = passed t' (form_judged x.is u) q.walks' in
-                  sym (turn b d p recs others x q a c ∙ ap (λ (z : Bool). cond z (first_apart (agrees p) (suc number) (map (out_record p) (map bytes_of a.more)) (map bytes_of c.more)) number) n);
+                  some_number _ _ k.low
+                  (sym (turn b d p recs others x q a c ∙ ap (λ (z : Bool). cond z (first_apart (agrees p) (suc number) (map (out_record p) (map bytes_of a.more)) (map bytes_of c.more)) number) n));
             }
 
         pub pair_more : (b : Bool) → AgreesAs task fields one like b → b ≡ true → Pairing task fields ours theirs mine.next other.next (number + 1)
         pair_more b d n =
             record {
+              low = omega (arith, k.low);
               few = omega (arith, k.few, t.lies.less);
               pairs = λ p recs others x g h.
                   let q = k.pairs p recs others x g h in
@@ -164,30 +174,30 @@ module _ {task : Task} {fields ours theirs : List ℕ} {form under : Form} (f : 
 
     -- ---- ours has none
 
-    pub pair_end : RecordTold form ours w None → (n : ℕ) → Lacks under theirs v number n → ApartAt task fields ours theirs n
+    pub pair_end : RecordTold form ours w None → (n : Option ℕ) → Lacks under theirs v number n → ApartAt task fields ours theirs n
     pair_end t n l =
         record {
           is = λ p recs others x g h.
               let q = k.pairs p recs others x g h in
               l.is (under_b p) q.rest' (form_judged x.is u) q.walks'
               ∙ empty (agrees p) q.rest'
-              ∙ sym (q.same ∙ ap (λ (xs : List (Bool × List ℕ)). first_apart (agrees p) number (map (out_record p) (map bytes_of xs)) (map bytes_of q.rest')) (ended t (form_given x.is f) q.walks));
+              ∙ ap number_of (sym (q.same ∙ ap (λ (xs : List (Bool × List ℕ)). first_apart (agrees p) number (map (out_record p) (map bytes_of xs)) (map bytes_of q.rest')) (ended t (form_given x.is f) q.walks)));
         }
       where
-        empty : (a : List ℕ → List ℕ → Bool) (rest : List (Bool × List ℕ)) → cond (is_empty rest) 0 number ≡ first_apart a number [] (map bytes_of rest)
+        empty : (a : List ℕ → List ℕ → Bool) (rest : List (Bool × List ℕ)) → cond (is_empty rest) None (Some number) ≡ number_of (first_apart a number [] (map bytes_of rest))
         empty a [] = refl
-        empty a (m ∷ rest) = refl
+        empty a (m ∷ rest) = some_number _ _ k.low refl
 
 -- ---- behind our last record
 
 module _ {form : Form} {theirs : List ℕ} {v : Walk} {number : ℕ} where
-  pub lacks_one : {read : RecordRead} → RecordTold form theirs v (Some read) → Lacks form theirs v number number
-  lacks_one t = record { is = λ q rest f w. sym (ap (λ (xs : List (Bool × List ℕ)). cond (is_empty xs) 0 number) (passed t f w).is) }
+  pub lacks_one : {read : RecordRead} → RecordTold form theirs v (Some read) → Lacks form theirs v number (Some number)
+  lacks_one t = record { is = λ q rest f w. sym (ap (λ (xs : List (Bool × List ℕ)). cond (is_empty xs) None (Some number)) (passed t f w).is) }
 
-  pub lacks_none : RecordTold form theirs v None → Lacks form theirs v number 0
-  lacks_none t = record { is = λ q rest f w. sym (ap (λ (xs : List (Bool × List ℕ)). cond (is_empty xs) 0 number) (ended t f w)) }
+  pub lacks_none : RecordTold form theirs v None → Lacks form theirs v number None
+  lacks_none t = record { is = λ q rest f w. sym (ap (λ (xs : List (Bool × List ℕ)). cond (is_empty xs) None (Some number)) (ended t f w)) }
 
 -- ---- one outcome only
 
-pub apart_only_one : (task : Task) (fields ours theirs : List ℕ) → BothRead task fields ours theirs → {n m : ℕ} → ApartAt task fields ours theirs n → ApartAt task fields ours theirs m → n ≡ m
+pub apart_only_one : (task : Task) (fields ours theirs : List ℕ) → BothRead task fields ours theirs → {n m : Option ℕ} → ApartAt task fields ours theirs n → ApartAt task fields ours theirs m → n ≡ m
 apart_only_one task fields ours theirs y a b = a.is y.p y.recs y.others y.given y.good y.good' ∙ sym (b.is y.p y.recs y.others y.given y.good y.good')

@@ -1,5 +1,5 @@
 -- What is promised of records in pairs, for every plan that the numbers may be.
-use Rattle.std.specs.Prelude.{◌≡◌, ◌↔◌, Bool, true, cond, List, map, ℕ, ◌≤◌, length}
+use Rattle.std.specs.Prelude.{◌≡◌, ◌↔◌, Bool, true, cond, List, map, ℕ, ◌≤◌, length, Option, Some, None}
 use Rattle.rules.specs.Base.{is_empty, joined}
 use Rattle.rules.specs.Halves.{Field}
 use Rattle.rules.specs.Plan.{Plan, selects, record_length}
@@ -15,6 +15,7 @@ use Rattle.pieces.specs.Form.{FormIs}
 use Rattle.walks.specs.declared.Walk.{Walk}
 use Rattle.walks.specs.Promise.{Good, Walks}
 use Rattle.checks.specs.Promise.{PlanGiven}
+use Rattle.span_pairs.specs.Promise.{number_of}
 
 -- ---- two records
 
@@ -51,11 +52,11 @@ pub record BothRead (task : Task) (fields ours theirs : List ℕ) : Type 0 where
   pub good' : Good (under_b p) theirs others
 
 -- behind our last record: theirs has a further one, which has this number, or none
-pub record Lacks (form : Form) (theirs : List ℕ) (v : Walk) (number r : ℕ) : Type 0 where
-  pub is : (q : Plan) (rest : List (Bool × List ℕ)) → FormIs form q → Walks q theirs v rest → r ≡ cond (is_empty rest) 0 number
+pub record Lacks (form : Form) (theirs : List ℕ) (v : Walk) (number : ℕ) (r : Option ℕ) : Type 0 where
+  pub is : (q : Plan) (rest : List (Bool × List ℕ)) → FormIs form q → Walks q theirs v rest → r ≡ cond (is_empty rest) None (Some number)
 
--- the number of the first record that disagrees or lacks a partner, or 0
-pub record ApartAt (task : Task) (fields ours theirs : List ℕ) (n : ℕ) : Type 0 where
+-- the number of the first record that disagrees or lacks a partner, if one does
+pub record ApartAt (task : Task) (fields ours theirs : List ℕ) (n : Option ℕ) : Type 0 where
   pub is :
       (p : Plan) (recs others : List (List (List ℕ))) → PlanGiven task fields p → Good p ours recs → Good (under_b p) theirs others
-      → n ≡ first_apart (agrees p) 1 (map (out_record p) (joined (taken_from p.first recs))) (joined others)
+      → n ≡ number_of (first_apart (agrees p) 1 (map (out_record p) (joined (taken_from p.first recs))) (joined others))

@@ -55,18 +55,16 @@ fn agree(task: Task, fields: &[u16], record: &[u8], theirs: &[u8], room: &mut [u
 }
 
 // Where ours has no further record: the next one of theirs lacks a partner, or there is none.
-fn lacking(form: Form, theirs: &[u8], v: Walk, number: usize) -> usize
+fn lacking(form: Form, theirs: &[u8], v: Walk, number: usize) -> Option<usize>
     requires { Standing form theirs.now v }
     ensures { Lacks form theirs.now v number result }
 {
-    match walks::record(form, theirs, v) {
-        Some(_) => number,
-        None => 0,
-    }
+    walks::record(form, theirs, v)?;
+    Some(number)
 }
 
-// The number, from 1 in the output, of the first record that disagrees or lacks a partner, or 0: both reels are walked in step.
-pub fn first_apart(task: Task, fields: &[u16], ours: &[u8], theirs: &[u8]) -> usize
+// The number, from 1 in the output, of the first record that disagrees or lacks a partner, if one does: both reels are walked in step.
+pub fn first_apart(task: Task, fields: &[u16], ours: &[u8], theirs: &[u8]) -> Option<usize>
     requires { BothRead task fields.now ours.now theirs.now }
     ensures { ApartAt task fields.now ours.now theirs.now result }
 {
@@ -78,12 +76,12 @@ pub fn first_apart(task: Task, fields: &[u16], ours: &[u8], theirs: &[u8]) -> us
     let mut number = 1;
     while let Some(mine) = walks::record(form, ours, w) {
         let Some(other) = walks::record(under, theirs, v) else {
-            return number;
+            return Some(number);
         };
         let record = &ours[mine.start..mine.start + mine.length];
         let like = &theirs[other.start..other.start + other.length];
         if !agree(task, fields, record, like, &mut room) {
-            return number;
+            return Some(number);
         }
         w = mine.next;
         v = other.next;

@@ -27,7 +27,7 @@ fn write(task: Task, fields: &[u16], reel: &[u8], blocks: usize, out: &mut [u8])
     }
 }
 
-// A run that is refused writes nothing.
+// A run that is refused writes nothing. The C struct is what is answered, refused or not, so its number is asked: an error and `?` would add a type and a conversion.
 fn run(task: Task, fields: &[u16], reel: &[u8], out: &mut [u8]) -> Ran
     requires { SomePlanGiven task fields.now }
     ensures { PlanRanInto task fields.now reel.now out.old result out.new }

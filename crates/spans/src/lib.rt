@@ -112,7 +112,7 @@ fn write(m: usize, reel: &[u8], from: Spot, count: usize, blocks: usize, out: &m
     pieces::put_word(out, 4 * blocks + 4, base + tally.bytes);
 }
 
-// TC leaves the blocks: its output is its input.
+// TC leaves the blocks: its output is its input. Here and in `filled` the C struct is answered, refused or not, so its number is asked: `?` would add a type and a conversion.
 fn copied(reel: &[u8], records: usize, blocks: usize, out: &mut [u8]) -> Ran
     requires { length reel.now ≤ 65536 }
     ensures { RanAs (ran_in reel.now records blocks) out.old result out.new }

@@ -1,10 +1,11 @@
 -- Judging in FF and FV: what a run with no room is refused with before 15 is at fault with ours; else the reading of theirs tells 17 or 18, or both reels are read and the
 -- number is that of the first pair apart. By the steps of the rules.
 use mathlib.Core.Path.{◌≡◌, refl, ap, sym, ◌∙◌, subst}
+use mathlib.Core.Bool.{Bool}
 use mathlib.Core.List.{List}
-use Prim.Native.Nat.{ℕ}
+use Prim.Native.Nat.{ℕ, zero, suc}
 use Rattle.rules.specs.Answer.{Refusal, Answer, fine, refuse, refused_at}
-use Rattle.rules.specs.Plan.{Plan}
+use Rattle.rules.specs.Plan.{Plan, bit}
 use Rattle.rules.specs.Run.{RunOutput, convert, conversion}
 use Rattle.rules.specs.Lent.{run_answer}
 use Rattle.rules.specs.Judge.{under_b, our_records, judge_answer}
@@ -14,7 +15,8 @@ use Rattle.rules.proofs.Judge.JudgeRead.{ours_refused, ours_reach}
 use Rattle.rules.proofs.Judge.JudgeSteps.{blocks_plain, judged_ours, judged_no_reel, judged_bad, judged_told, plain_run, run_refused, run_reaches}
 use Rattle.terms.specs.declared.Task.{Task}
 use Rattle.pieces.specs.declared.Form.{Form}
-use Rattle.std.specs.Prelude.{Ok, Err}
+use Rattle.std.specs.Prelude.{Option, Ok, Err}
+use Rattle.std.proofs.Math.Dec.{eqb-suc-zero}
 use Rattle.reels.specs.declared.Contents.{Contents}
 use Rattle.reels.specs.declared.ReelError.TheVariants.{NotReel, BadBlock}
 use Rattle.reels.specs.Records.{ReelRead, ReadAs}
@@ -26,6 +28,7 @@ use Rattle.tasks.proofs.LengthLaws.{form_judged}
 use Rattle.outcomes.specs.declared.Ran.{Ran}
 use Rattle.outcomes.specs.Promise.{ran_struct}
 use Rattle.checks.specs.Promise.{PlanGiven, SomePlanGiven, Checked}
+use Rattle.span_pairs.specs.Promise.{number_of}
 use Rattle.pairs.specs.Promise.{BothRead, ApartAt}
 use Rattle.verdicts.specs.declared.Judged.{Judged}
 use Rattle.verdicts.specs.Promise.{judged_of, refused_with, told_as, Ours, OursRead, OfOurs, OfPlan}
@@ -33,6 +36,11 @@ use Rattle.verdicts.specs.Promise.{judged_of, refused_with, told_as, Ours, OursR
 -- the struct of an answer that is known
 pub says : (r : Judged) (x y : Answer ℕ) → r ≡ judged_of (judge_answer y) → x ≡ y → r ≡ judged_of (judge_answer x)
 says r x y e q = e ∙ ap (λ (a : Answer ℕ). judged_of (judge_answer a)) (sym q)
+
+-- a number that the rules answer is told as it is, and 0 for none
+pub told_number : (n : ℕ) → told_as (number_of n) ≡ judged_of (judge_answer (fine n))
+told_number zero = refl
+told_number (suc n) = ap (λ (b : Bool). judged_of (record { refusal = 0; place = 0; column = 0; yes = bit b; number = suc n })) (sym (eqb-suc-zero n))
 
 -- ---- theirs
 
@@ -63,13 +71,13 @@ module _ {task : Task} {fields theirs : List ℕ} (ours : List ℕ) {under : For
         let x = their_good y.p y.ours_are.given in
         record { p = y.p; recs = y.recs; others = x.0; given = y.ours_are.given; good = y.ours_are.good; good' = x.1 }
 
-    pub ends_read : (n : ℕ) → ApartAt task fields ours theirs n → (r : Judged) → r ≡ told_as n → OfOurs task fields ours theirs r
+    pub ends_read : (n : Option ℕ) → ApartAt task fields ours theirs n → (r : Judged) → r ≡ told_as n → OfOurs task fields ours theirs r
     ends_read n a r e =
         record {
           is = λ p recs y.
               let x = their_good p y.given in
-              says r _ (fine n) e
-              (judged_told p ours theirs _ y.outs x.0 x.1.reel (blocks_plain (under_b p) theirs y.given.plain ∙ x.1.records) ∙ ap fine (sym (a.is p recs x.0 y.given y.good x.1)));
+              says r _ (fine _) (e ∙ ap told_as (a.is p recs x.0 y.given y.good x.1) ∙ told_number _)
+              (judged_told p ours theirs _ y.outs x.0 x.1.reel (blocks_plain (under_b p) theirs y.given.plain ∙ x.1.records));
         }
 
 -- ---- ours

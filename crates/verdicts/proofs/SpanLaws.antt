@@ -3,7 +3,7 @@
 use mathlib.Core.Path.{◌≡◌, refl, ap, sym, ◌∙◌, subst}
 use mathlib.Core.List.{List}
 use mathlib.Core.Option.{none}
-use Prim.Native.Nat.{ℕ, zero, suc, ◌-◌, ◌<◌, min}
+use Prim.Native.Nat.{ℕ, ◌-◌, ◌<◌, min}
 use native.Mathlib.Omega.{arith}
 use lib.ListN.{length, drop}
 use Rattle.rules.specs.Base.{joined}
@@ -15,16 +15,16 @@ use Rattle.rules.specs.Judge.{under_b, our_records, agrees}
 use Rattle.rules.proofs.Judge.AgreeBytes.{agrees_same}
 use Rattle.rules.proofs.Spanned.SpannedOut.{not_selects}
 use Rattle.rules.proofs.Judge.JudgeSteps.{blocks_spanned, judged_ours, judged_no_reel, judged_bad, judged_told, drop_few, spanned_no_reel, spanned_bad, spanned_good}
-use Rattle.std.specs.Prelude.{Option, Ok, Err, unwrap_or}
+use Rattle.std.specs.Prelude.{Option, Ok, Err}
 use Rattle.reels.specs.declared.Contents.{Contents}
 use Rattle.reels.specs.declared.ReelError.TheVariants.{NotReel, BadBlock}
 use Rattle.reels.specs.Records.{ReelRead}
 use Rattle.turns.specs.Promise.{SpannedAs}
 use Rattle.turns.proofs.SpannedTold.{Tells, tells}
-use Rattle.span_pairs.specs.Promise.{BothSpanned, number_of, SpannedApartAt}
+use Rattle.span_pairs.specs.Promise.{BothSpanned, SpannedApartAt}
 use Rattle.verdicts.specs.declared.Judged.{Judged}
 use Rattle.verdicts.specs.Promise.{refused_with, told_as, Spanning, OursSpanned, OfSpanned, OfNumbers}
-use Rattle.verdicts.proofs.BlockLaws.{says}
+use Rattle.verdicts.proofs.BlockLaws.{says, told_number}
 
 -- the records of ours that are left
 ours_are : {m : ℕ} {ours : List ℕ} {passed count : ℕ} (y : OursSpanned ours passed count) (p : Plan) → Spanning y.g m y.first p → our_records p ours ≡ fine (drop passed (joined y.recs))
@@ -33,11 +33,6 @@ ours_are {ours = ours} {passed = passed} y p s =
     ∙ ap fine (ap (λ (k : ℕ). drop (k - 1) (joined y.recs)) (sym s.first_is_lem) ∙ sym (drop_few (y.first - 1) (length (joined y.recs)) (joined y.recs) refl) ∙ ap (λ (k : ℕ). drop k (joined y.recs)) (sym y.passes))
 
 -- ---- theirs
-
--- the number that is said of one, 0 for none
-number_back : (n : ℕ) → unwrap_or (number_of n) 0 ≡ n
-number_back zero = refl
-number_back (suc n) = refl
 
 module _ {m : ℕ} (ours : List ℕ) (passed count : ℕ) {theirs : List ℕ} {read : ReelRead} (w : SpannedAs m theirs read) where
   pub ends_no_reel : read ≡ Err NotReel → (r : Judged) → r ≡ refused_with 17 0 0 → OfSpanned m ours passed count theirs r
@@ -68,13 +63,12 @@ module _ {m : ℕ} (ours : List ℕ) (passed count : ℕ) {theirs : List ℕ} {r
           counted' = told.1.3;
         }
 
-    pub ends_read : (n : Option ℕ) → SpannedApartAt ours passed count theirs found.records n → (r : Judged) → r ≡ told_as (unwrap_or n 0) → OfSpanned m ours passed count theirs r
+    pub ends_read : (n : Option ℕ) → SpannedApartAt ours passed count theirs found.records n → (r : Judged) → r ≡ told_as n → OfSpanned m ours passed count theirs r
     ends_read n a r e =
         record {
           is = λ y p s.
-              says r _ (fine (unwrap_or n 0)) e
-              (judged_told p ours theirs _ (ours_are y p s) told.1.0 told.0 (blocks_spanned (under_b p) theirs s.spanned ∙ subst (λ (g : ℕ). spanned_from g 1 none (blocks_of theirs) ≡ fine told.1.0) s.m_is told.1.1)
-              ∙ ap fine (sym (ap (λ (x : Option ℕ). unwrap_or x 0) (a.is (agrees p) (agrees_same p (not_selects p s.accepted s.spanned)) (both_spanned y)) ∙ number_back _)));
+              says r _ (fine _) (e ∙ ap told_as (a.is (agrees p) (agrees_same p (not_selects p s.accepted s.spanned)) (both_spanned y)) ∙ told_number _)
+              (judged_told p ours theirs _ (ours_are y p s) told.1.0 told.0 (blocks_spanned (under_b p) theirs s.spanned ∙ subst (λ (g : ℕ). spanned_from g 1 none (blocks_of theirs) ≡ fine told.1.0) s.m_is told.1.1));
         }
 
 -- ---- ours

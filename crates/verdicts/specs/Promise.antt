@@ -1,9 +1,9 @@
 -- What is promised of judging: the rules' answer as a struct, for every plan that the numbers may be.
-use Rattle.std.specs.Prelude.{◌≡◌, true, cond, List, map, ℕ, ◌+◌, ◌-◌, min, eqb, length}
+use Rattle.std.specs.Prelude.{◌≡◌, true, cond, List, map, ℕ, ◌+◌, ◌-◌, min, length, Option, Some, None}
 use Rattle.rules.specs.Base.{joined}
 use Rattle.rules.specs.Answer.{fine}
 use Rattle.rules.specs.Asked.{asked_of}
-use Rattle.rules.specs.Plan.{Plan, is_fs, block_length, bit}
+use Rattle.rules.specs.Plan.{Plan, is_fs, block_length}
 use Rattle.rules.specs.Accepted.{Accepted}
 use Rattle.rules.specs.Blocks.{taken_from}
 use Rattle.rules.specs.Output.{out_record}
@@ -27,8 +27,9 @@ judge_numbers r = record { refusal = r.refusal; place = r.place; column = r.colu
 abbrev pub refused_with : ℕ → ℕ → ℕ → Judged
 refused_with refusal place column = record { refusal = refusal; place = place; column = column; yes = 0; number = 0 }
 
-abbrev pub told_as : ℕ → Judged
-told_as number = record { refusal = 0; place = 0; column = 0; yes = bit (eqb number 0); number = number }
+abbrev pub told_as : Option ℕ → Judged
+told_as None = record { refusal = 0; place = 0; column = 0; yes = 1; number = 0 }
+told_as (Some number) = record { refusal = 0; place = 0; column = 0; yes = 0; number = number }
 
 -- it says what is judged by a plan
 abbrev pub Judges : Plan → List ℕ → List ℕ → Judged → Type 0

@@ -28,7 +28,7 @@ pub struct Judged {
     pub number: usize,
 }
 
-// Refused, the last two are 0.
+// Refused, the last two are 0. Each step below ends in the C struct, and nobody looks into it again: an error and `?` would add a type and a conversion.
 fn refused(refusal: usize, place: usize, column: usize) -> Judged
     ensures { result ≡ refused_with refusal place column }
 {
@@ -41,16 +41,16 @@ fn refused(refusal: usize, place: usize, column: usize) -> Judged
     }
 }
 
-// Yes where no record disagrees or lacks a partner.
-fn told(number: usize) -> Judged
+// Yes where no record disagrees or lacks a partner. The struct, as C sees it, writes 0 for none.
+fn told(number: Option<usize>) -> Judged
     ensures { result ≡ told_as number }
 {
     Judged {
         refusal: 0,
         place: 0,
         column: 0,
-        yes: usize::from(number == 0),
-        number,
+        yes: usize::from(number.is_none()),
+        number: number.unwrap_or(0),
     }
 }
 
@@ -88,10 +88,7 @@ fn judge_spans(m: usize, ours: &[u8], passed: usize, count: usize, theirs: &[u8]
     ensures { OfSpanned m ours.now passed count theirs.now result }
 {
     match turns::read_spanned(m, theirs) {
-        Ok(found) => {
-            let apart = span_pairs::first_apart(ours, passed, count, theirs, found.records);
-            told(apart.unwrap_or(0))
-        }
+        Ok(found) => told(span_pairs::first_apart(ours, passed, count, theirs, found.records)),
         Err(ReelError::NotReel) => refused(17, 0, 0),
         Err(ReelError::BadBlock { block: bad }) => refused(18, bad, 0),
     }

@@ -1,19 +1,19 @@
 -- The reading of theirs tells 17 or 18; else both reels are read, and the pairs tell the number.
 use mathlib.Core.Path.{ap, ◌∙◌}
 use Rattle.std.specs.Prelude.{Err}
-use Rattle.verdicts.specs.Promise.{refused_with, told_as}
+use Rattle.verdicts.specs.Promise.{refused_with}
 use Rattle.verdicts.proofs.SpanLaws.{ends_no_reel, ends_bad, both_spanned, ends_read}
 use Rattle.verdicts.proofs.judge_spans.Goals as goal
 
-pub first_apart-apart-requires : goal.first_apart-apart-requires
-first_apart-apart-requires c =
+pub first_apart-requires : goal.first_apart-requires
+first_apart-requires c =
     let a = c.args in
     both_spanned a.ours.now a.passed a.count c.read_spanned.ensures c.requires.1 _ c.in-Ok.is c.requires.0
 
 pub returns-in-Ok : goal.returns-in-Ok
 returns-in-Ok c =
     let a = c.args in
-    ends_read a.ours.now a.passed a.count c.read_spanned.ensures c.requires.1 _ c.in-Ok.is _ c.first_apart-apart.ensures _ (c.told.ensures ∙ ap told_as c.unwrap_or.ensures)
+    ends_read a.ours.now a.passed a.count c.read_spanned.ensures c.requires.1 _ c.in-Ok.is _ c.first_apart.ensures _ c.told.ensures
 
 pub returns-in-Err-NotReel : goal.returns-in-Err-NotReel
 returns-in-Err-NotReel c =
