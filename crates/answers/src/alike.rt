@@ -7,8 +7,16 @@ use twins::Twins;
 use words::say;
 
 fn tell_answer(to: &impl Print, answer: Twins) {
-    shown::refusal(to, answer.refusal, answer.place, answer.column);
-    say(to, format_args!(" {} {}", answer.reason, answer.length));
+    shown::numbers(
+        to,
+        &[
+            answer.refusal,
+            answer.place,
+            answer.column,
+            answer.reason,
+            answer.length,
+        ],
+    );
 }
 
 // The twins of a deck into the first bytes of an output that was marked.

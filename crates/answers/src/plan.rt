@@ -53,10 +53,16 @@ fn with_entry(digest: Digest, entry: Entry) -> Digest {
 }
 
 fn tell_answer(to: &impl Print, answer: Planned) {
-    shown::refusal(to, answer.refusal, answer.place, answer.column);
-    say(
+    shown::numbers(
         to,
-        format_args!(" {} {} {}", answer.keeping, answer.lost, answer.fields),
+        &[
+            answer.refusal,
+            answer.place,
+            answer.column,
+            answer.keeping,
+            answer.lost,
+            answer.fields,
+        ],
     );
 }
 

@@ -14,10 +14,16 @@ pub(crate) fn mark(out: &mut [u8]) {
 }
 
 fn tell_answer(to: &impl Print, answer: Ran) {
-    shown::refusal(to, answer.refusal, answer.place, answer.column);
-    say(
+    shown::numbers(
         to,
-        format_args!(" {} {} {}", answer.length, answer.records, answer.blocks),
+        &[
+            answer.refusal,
+            answer.place,
+            answer.column,
+            answer.length,
+            answer.records,
+            answer.blocks,
+        ],
     );
 }
 

@@ -2,8 +2,18 @@
 use std::io::Print;
 use words::say;
 
+// The numbers of an answer, with a blank between.
+pub(crate) fn numbers(to: &impl Print, numbers: &[usize]) {
+    for (i, number) in numbers.iter().enumerate() {
+        if i > 0 {
+            say(to, " ");
+        }
+        say(to, format_args!("{number}"));
+    }
+}
+
 pub(crate) fn refusal(to: &impl Print, refusal: usize, place: usize, column: usize) {
-    say(to, format_args!("{refusal} {place} {column}"));
+    numbers(to, &[refusal, place, column]);
 }
 
 // Bytes in hex; `-` for none.
