@@ -6,6 +6,7 @@ use std::io::Print;
 use words::{many, say, say_bytes};
 
 // The third byte of the word at a place: of a segment its code; 0 where the block has ended.
+// A number, no Option: who asks has found the word whole, so that None would be one more case that never comes.
 pub(crate) fn third(b: &[u8], at: usize) -> u8 {
     match b.get(at..) {
         Some([_, _, third, ..]) => *third,
@@ -14,6 +15,7 @@ pub(crate) fn third(b: &[u8], at: usize) -> u8 {
 }
 
 // The length that the word at a place says; 0 where the block has ended.
+// A number, no Option: 0 is under every length that a word may say, so that a block that has ended is judged and told as one whose word is too short.
 pub(crate) fn length(b: &[u8], at: usize) -> usize
     ensures { result < 65536 }
 {
