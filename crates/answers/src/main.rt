@@ -26,7 +26,6 @@ mod text;
 
 ghost use Rattle.std.specs.Prelude.{◌≡◌, length};
 
-use inputs::Source;
 use std::fs::File;
 use std::io::{Error, ErrorKind, Print, Result};
 use words::{because, say, say_bytes};
@@ -179,7 +178,11 @@ fn open(rt: &HostRuntime, path: &[u8]) -> Result<File> {
 // The cases of a file, as many as its room takes.
 fn cases(rt: &HostRuntime, file: File) {
     let mut all = file_room();
-    let n = inputs::fill(&mut Source::new(file), &mut all).length;
+    let mut from = file;
+    let n = match inputs::fill(&mut from, &mut all) {
+        Ok(n) => n,
+        Err(failure) => failure.length,
+    };
     lines(rt, &all[..n]);
     if n == 262144 {
         say(rt, "a file of cases is too long\n");

@@ -20,6 +20,7 @@ mod one;
 mod series;
 
 use form::Form;
+use inputs::NoDeck;
 
 const USAGE: &str = "\
 usage: convert_reels --check DECK REEL
@@ -61,17 +62,12 @@ fn convert_named(rt: &HostRuntime, form: Form) {
         return;
     };
     let mut cards = io::large_buffer();
-    let read = files::deck(rt, path, &mut cards);
-    if read.failed {
-        return;
+    match files::deck(rt, path, &mut cards) {
+        Ok(n) => convert(rt, form, &cards[..n]),
+        // A deck that is longer than the room is refused without a column, so its cards are not asked for.
+        Err(NoDeck::Refused(refusal)) => refused(rt, form, b"", refusal.number, refusal.place, 0),
+        Err(NoDeck::Failed { .. }) => {}
     }
-    // A deck that is longer than the room is refused without a column, so its cards are not asked for.
-    if read.refusal != 0 {
-        refused(rt, form, b"", read.refusal, read.place, 0);
-        return;
-    }
-    let k = read.length;
-    convert(rt, form, &cards[..k]);
 }
 
 fn main(rt: HostRuntime) {

@@ -1,10 +1,12 @@
 // What the arguments give: names of files, and the deck and the reel that two of them name. What fails is said on standard error.
 ghost use Rattle.std.specs.Prelude.{◌≡◌, ◌≤◌, length, replicate, IfSome};
 ghost use Rattle.io.specs.Counts.{IsPrefixLen};
+ghost use Rattle.inputs.specs.Reading.{known_of, bytes_known};
 
 use crate::{paths, shown};
-use inputs::{DeckBytes, Source};
+use inputs::NoDeck;
 use std::fs::File;
+use std::io::Result as IoResult;
 
 // The name that an argument gives, in the room.
 pub fn name<'a>(rt: &HostRuntime, argument: usize, room: &'a mut [u8]) -> Option<&'a [u8]>
@@ -27,38 +29,25 @@ pub fn name<'a>(rt: &HostRuntime, argument: usize, room: &'a mut [u8]) -> Option
 }
 
 // The file, open to read; where it cannot be opened, that is said.
-fn open(rt: &HostRuntime, path: &[u8]) -> Option<Source<File>> {
-    match paths::open_read(rt, path) {
-        Ok(file) => Some(Source::new(file)),
-        Err(why) => {
-            shown::fail(&rt.stderr(), path, why);
-            None
-        }
-    }
-}
-
-// Says why the last read of the file failed, if one did.
-fn say_failure(rt: &HostRuntime, path: &[u8], from: &Source<File>) {
-    if let Some(why) = from.failure {
+fn open(rt: &HostRuntime, path: &[u8]) -> IoResult<File> {
+    let opened = paths::open_read(rt, path);
+    if let Err(why) = opened {
         shown::fail(&rt.stderr(), path, why);
     }
+    opened
 }
 
-// The deck in a file.
-pub fn deck(rt: &HostRuntime, path: &[u8], room: &mut [u8; 65536]) -> DeckBytes
-    ensures { IsPrefixLen result.length room.new }
+// The deck in a file: how many bytes it has. Where it cannot be read, that is said.
+pub fn deck(rt: &HostRuntime, path: &[u8], room: &mut [u8; 65536]) -> Result<usize, NoDeck>
+    ensures { IsPrefixLen (bytes_known (known_of result)) room.new }
 {
-    let Some(mut from) = open(rt, path) else {
-        return DeckBytes {
-            length: 0,
-            refusal: 0,
-            place: 0,
-            failed: true,
-        };
+    let mut from = match open(rt, path) {
+        Ok(file) => file,
+        Err(why) => return Err(NoDeck::Failed { before: Ok(0), why }),
     };
     let read = inputs::deck(&mut from, room);
-    if read.failed {
-        say_failure(rt, path, &from);
+    if let Err(NoDeck::Failed { why, .. }) = read {
+        shown::fail(&rt.stderr(), path, why);
     }
     read
 }
@@ -71,15 +60,16 @@ pub fn reel_room() -> [u8; 65537]
     [0; 65537]
 }
 
-// The first bytes of a file, as many as the room takes, in the room.
+// The first bytes of a file, as many as the room takes, in the room. Where they cannot be read, that is said.
 pub fn reel<'a>(rt: &HostRuntime, path: &[u8], room: &'a mut [u8]) -> Option<&'a [u8]>
     ensures { IfSome result (λ reel. length reel.now ≤ length room.old) }
 {
-    let mut from = open(rt, path)?;
-    let read = inputs::fill(&mut from, room);
-    if read.failed {
-        say_failure(rt, path, &from);
-        return None;
+    let mut from = open(rt, path).ok()?;
+    match inputs::fill(&mut from, room) {
+        Ok(n) => Some(&room[..n]),
+        Err(failure) => {
+            shown::fail(&rt.stderr(), path, failure.why);
+            None
+        }
     }
-    Some(&room[..read.length])
 }

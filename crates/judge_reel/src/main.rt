@@ -6,6 +6,7 @@
 mod difference;
 mod verdict;
 
+use inputs::NoDeck;
 use std::io::Print;
 
 // Says that TC and TF are refused, where the plan is not refused so by itself.
@@ -78,7 +79,7 @@ fn judge(rt: &HostRuntime, deck: &[u8], ours: &[u8], theirs: &[u8]) {
 fn judge_files(rt: &HostRuntime, deck: &[u8], ours: &[u8], theirs: &[u8]) {
     let mut cards = io::large_buffer();
     let read = files::deck(rt, deck, &mut cards);
-    if read.failed {
+    if let Err(NoDeck::Failed { .. }) = read {
         return;
     }
     let mut blocks = files::reel_room();
@@ -89,14 +90,15 @@ fn judge_files(rt: &HostRuntime, deck: &[u8], ours: &[u8], theirs: &[u8]) {
     let Some(theirs) = files::reel(rt, theirs, &mut others) else {
         return;
     };
-    // A deck that is longer than the room is refused without a column, so its cards are not asked for.
-    if read.refusal != 0 {
-        notices::line(rt, &[read.refusal, read.place, 0, 0, 0]);
-        notices::refused(&rt.stderr(), b"", read.refusal, read.place, 0);
-        return;
+    match read {
+        Ok(n) => judge(rt, &cards[..n], ours, theirs),
+        // A deck that is longer than the room is refused without a column, so its cards are not asked for.
+        Err(NoDeck::Refused(refusal)) => {
+            notices::line(rt, &[refusal.number, refusal.place, 0, 0, 0]);
+            notices::refused(&rt.stderr(), b"", refusal.number, refusal.place, 0);
+        }
+        Err(NoDeck::Failed { .. }) => {}
     }
-    let n = read.length;
-    judge(rt, &cards[..n], ours, theirs);
 }
 
 fn judge_named(rt: &HostRuntime) {

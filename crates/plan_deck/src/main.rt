@@ -5,8 +5,7 @@
 
 mod table;
 
-use inputs::Source;
-use std::io::Stdin;
+use inputs::NoDeck;
 
 fn refused(rt: &HostRuntime, deck: &[u8], refusal: usize, place: usize, column: usize) {
     notices::line(rt, &[refusal, place, 0, 0]);
@@ -38,25 +37,12 @@ fn whole(rt: &HostRuntime, deck: &[u8]) {
     }
 }
 
-fn say_failure(rt: &HostRuntime, from: &Source<Stdin>) {
-    if let Some(why) = from.failure {
-        notices::fail(&rt.stderr(), "standard input", why);
-    }
-}
-
 fn main(rt: HostRuntime) {
     let mut room = io::large_buffer();
-    let mut from = Source::new(rt.stdin());
-    let read = inputs::deck(&mut from, &mut room);
-    if read.failed {
-        say_failure(&rt, &from);
-        return;
+    match inputs::deck(&mut rt.stdin(), &mut room) {
+        Ok(n) => whole(&rt, &room[..n]),
+        // A deck that is longer than the room is refused without a column, so its cards are not asked for.
+        Err(NoDeck::Refused(refusal)) => refused(&rt, b"", refusal.number, refusal.place, 0),
+        Err(NoDeck::Failed { why, .. }) => notices::fail(&rt.stderr(), "standard input", why),
     }
-    // A deck that is longer than the room is refused without a column, so its cards are not asked for.
-    if read.refusal != 0 {
-        refused(&rt, b"", read.refusal, read.place, 0);
-        return;
-    }
-    let n = read.length;
-    whole(&rt, &room[..n]);
 }

@@ -16,6 +16,7 @@ ghost use Rattle.std.specs.Prelude.{◌≡◌, length};
 ghost use Rattle.rows.specs.Fair.{PlanFair};
 
 use arguments::Wanted;
+use inputs::NoDeck;
 use std::io::Print;
 use terms::Asked;
 
@@ -144,17 +145,12 @@ fn show_twins(rt: &HostRuntime, deck: &[u8], records: Option<&[u8]>, reel: Optio
 
 fn show_files(rt: &HostRuntime, deck: &[u8], records: Option<&[u8]>, reel: Option<&[u8]>) {
     let mut cards = io::large_buffer();
-    let read = files::deck(rt, deck, &mut cards);
-    if read.failed {
-        return;
+    match files::deck(rt, deck, &mut cards) {
+        Ok(n) => show_twins(rt, &cards[..n], records, reel),
+        // A deck that is longer than the room is refused without a column, so its cards are not asked for.
+        Err(NoDeck::Refused(refusal)) => refused(rt, b"", refusal.number, refusal.place, 0),
+        Err(NoDeck::Failed { .. }) => {}
     }
-    // A deck that is longer than the room is refused without a column, so its cards are not asked for.
-    if read.refusal != 0 {
-        refused(rt, b"", read.refusal, read.place, 0);
-        return;
-    }
-    let n = read.length;
-    show_twins(rt, &cards[..n], records, reel);
 }
 
 fn show_named(rt: &HostRuntime, wanted: Wanted) {

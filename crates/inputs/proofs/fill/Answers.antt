@@ -1,22 +1,19 @@
--- What was read lies within the room, which keeps its length, and is what the reads so far brought; the room that is left falls at each read that brings
--- a byte.
+-- What was read lies within the room, which keeps its length, and is what the reads so far brought.
+use native.Mathlib.Omega.{arith}
 use borrow.Author.Rules.{rules}
-use Rattle.io.proofs.Counting.{prefix_len_of_le}
-use Rattle.inputs.proofs.ReadingLaws.{left_behind, filled_none, filled_more, filled_last, filled_all}
+use Rattle.inputs.proofs.ReadingLaws.{left_behind, filled_more, filled_failed, filled_all}
 use Rattle.inputs.proofs.fill.Goals as goal
 
-pub loop-at-init : goal.loop-at-init
-loop-at-init g c = (search rules, search rules, filled_none _)
-
-pub returns-then-read-eq0 : goal.returns-then-read-eq0
-returns-then-read-eq0 g c =
-    let l = c.loop-at in
-    record { prefix_len = prefix_len_of_le _ _ (search rules); fill_says = filled_last _ l.at l.invariant.2 _ (left_behind l.room l.at _ l.invariant.1) c.some-read.result c.some-read.ensures.read_says c.if-read-eq0.true }
+pub returns-in-Ok-eq0-clause-fill_says : goal.returns-in-Ok-eq0-clause-fill_says
+returns-in-Ok-eq0-clause-fill_says g c = filled_all _ c.loop-at.at c.loop-at.invariant.2
 
 pub loop-at-preserved : goal.loop-at-preserved
 loop-at-preserved g c =
     let l = c.loop-at in
-    (search rules, search rules, filled_more _ l.at l.invariant.2 _ (left_behind l.room l.at _ l.invariant.1) c.some-read.result c.some-read.ensures.read_says c.if-read-eq0.false)
+    (search rules, search rules, filled_more _ l.at l.invariant.2 c.in-Ok.n c.in-Ok.n-test.1 (omega (arith, c.in-Ok.ensures.bound.0, c.read.auto.buf, left_behind l.room l.at _ l.invariant.1)))
 
-pub returns : goal.returns
-returns g c = record { prefix_len = prefix_len_of_le _ _ (search rules); fill_says = filled_all _ c.loop-at.at c.loop-at.invariant.2 }
+pub returns-in-Err-clause-fill_says : goal.returns-in-Err-clause-fill_says
+returns-in-Err-clause-fill_says g c = filled_failed _ c.loop-at.at c.loop-at.invariant.2 c.in-Err.why
+
+pub returns-clause-fill_says : goal.returns-clause-fill_says
+returns-clause-fill_says g c = filled_all _ c.loop-at.at c.loop-at.invariant.2
