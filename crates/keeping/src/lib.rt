@@ -173,6 +173,9 @@ fn lost_half(marks: &[u8; 8192], sources: &[u16; 8192], n: usize, width: usize) 
     let mut seen = [false; 8192];
     let mut g = 0;
     for h in 0..2 * n {
+        if seen[h] {
+            continue;
+        }
         if is_narrow(marks[h]) {
             continue;
         }
