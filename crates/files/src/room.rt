@@ -16,7 +16,9 @@ pub fn put(room: &mut [u8], from: usize, text: &[u8]) -> usize
 }
 
 // What was written into the room of a cursor.
-pub fn written<const N: usize>(text: &Cursor<[u8; N]>) -> &[u8] {
+pub fn written<const N: usize>(text: &Cursor<[u8; N]>) -> &[u8]
+    ensures { length result.now ≤ N }
+{
     let room = text.get_ref();
     room.get(..text.position() as usize).unwrap_or(room)
 }

@@ -3,6 +3,8 @@
 
 ghost use Rattle.std.specs.Prelude.{◌≡◌, ◌≤◌, length, IfSome};
 ghost use Rattle.io.specs.Counts.{IsPrefixLen};
+ghost use Rattle.rules.specs.Output.{cost};
+ghost use Rattle.terms.specs.Meaning.{format_of};
 ghost use Rattle.pieces.proofs.PiecesLaws.{further};
 
 use pieces::{Cursor, Form, FoundPiece, NoPiece};
@@ -30,7 +32,10 @@ struct Gathering {
 }
 
 // Where the pieces of a block begin: in FS too behind a word of 4 bytes.
-pub fn first_place(format: Format) -> Cursor {
+pub fn first_place(format: Format) -> Cursor
+    ensures spanned { format ≡ Format.FS → result.at ≡ 4 }
+    ensures others { (format ≡ Format.FS → ⊥) → result.at ≡ cost (format_of format) }
+{
     match format {
         Format::FF | Format::FV | Format::FU => Cursor {
             at: terms::cost(format),

@@ -74,7 +74,7 @@ pub fn byte(card: &[u8], column: usize) -> u8 {
 }
 
 // The column of the first byte that passes a test.
-pub fn column_where<F: Fn(u8) -> bool>(bytes: &[u8], passes: F) -> Option<usize>
+pub(crate) fn column_where<F: Fn(u8) -> bool>(bytes: &[u8], passes: F) -> Option<usize>
     requires { F.IsAlwaysCallable passes }
     ensures { IfSome result (λ column. (1 ≤ column) × (column ≤ length bytes.now)) }
 {
