@@ -164,7 +164,7 @@ fn see(sources: &[u16; 8192], g: usize, stop: usize, seen: &mut [bool; 8192])
 }
 
 // The lowest of the 2n input halves with two or more permitted values from which none of the 2m output halves is taken. The walk over the output halves goes
-// on where it last stood, some at a time, so each of them is looked at once in all.
+// on where it last stood, some at a time, so each of them is looked at once in all. A walk within a walk, left by its label with the lost place.
 fn lost_half(marks: &[u8; 8192], sources: &[u16; 8192], n: usize, width: usize) -> Option<usize>
     requires { (n ≤ 4096) × (width ≤ 4096) × ((g : ℕ) → g < 2 * width → get_or sources.now g 0 ≤ 8192) }
     ensures { (ss : List Source) → length ss ≡ 2 * width → Stand sources.now ss → result ≡ place_below (2 * n) (lost_half (permits_in marks.now) ss (2 * n)) }
@@ -172,23 +172,25 @@ fn lost_half(marks: &[u8; 8192], sources: &[u16; 8192], n: usize, width: usize) 
     let outputs = 2 * width;
     let mut seen = [false; 8192];
     let mut g = 0;
-    for h in 0..2 * n {
-        if seen[h] {
-            continue;
-        }
-        if is_narrow(marks[h]) {
-            continue;
-        }
-        while !seen[h] {
-            if outputs <= g {
-                return Some(h);
+    'walk: {
+        for h in 0..2 * n {
+            if seen[h] {
+                continue;
             }
-            let stop = (g + BLOCK).min(outputs);
-            see(sources, g, stop, &mut seen);
-            g = stop;
+            if is_narrow(marks[h]) {
+                continue;
+            }
+            while !seen[h] {
+                if outputs <= g {
+                    break 'walk Some(h);
+                }
+                let stop = (g + BLOCK).min(outputs);
+                see(sources, g, stop, &mut seen);
+                g = stop;
+            }
         }
+        None
     }
-    None
 }
 
 // What the fields of a plan do to records of n bytes, which become m bytes: the lowest half that is lost, or none where every half is kept.

@@ -18,7 +18,7 @@ returns-then-outputs-g c =
     (ltb-false _ 2 (sym c.is_narrow.ensures ∙ c.if-is_narrow.false))
     _ _ c.if-outputs-g.true c.loop-seen.invariant.1 c.loop-seen-test.true)
 
-pub returns : goal.returns
-returns c =
+pub returns-after-loop-h : goal.returns-after-loop-h
+returns-after-loop-h c =
     λ ss long stand.
     place_none _ _ (lost_nowhere_of c.args.marks.now c.args.sources.now _ _ ss long stand _ (omega arith) (λ j l. c.loop-h.invariant.2 j (omega (arith, c.loop-h-test.false))))
