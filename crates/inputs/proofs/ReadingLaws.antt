@@ -8,7 +8,7 @@ use Prim.Native.Nat.{ℕ, min, ◌+◌, ◌-◌, ◌≤◌, ◌<◌}
 use native.Mathlib.Omega.{arith}
 use lib.ListN.{length, take, drop, length-append, length-drop}
 use lib.Seq.{length-take-le}
-use borrow.Author.Tests.{ne_eqb}
+use borrow.Author.Tests.{eq-eqb, ne_eqb}
 use Rattle.std.specs.Prelude.{Option, None, Some, Result, Ok, Err}
 use Rattle.std.specs.declared.io.Error.{Error}
 use Rattle.rules.specs.Answer.{Answer}
@@ -17,7 +17,9 @@ use Rattle.scans.specs.declared.Scanner.{Scanner}
 use Rattle.scans.proofs.DeckLaws.{scan_pieces}
 use Rattle.scans.proofs.LongLaws.{long_refused}
 use Rattle.scans.proofs.SettledLaws.{settled_stays}
-use Rattle.inputs.specs.Reading.{filled_from, FillSays, Went, long_deck, unless_failed, known_of, LongDeckSays}
+use Rattle.inputs.specs.Reading.{bytes_read, filled_from, FillSays, Went, FedSays, long_deck, unless_failed, whole_deck, known_of, deck_of, LongDeckSays}
+use Rattle.inputs.specs.declared.ReadFailure.{ReadFailure}
+use Rattle.inputs.specs.declared.Fed.{Fed}
 use Rattle.inputs.specs.declared.Refusal.{Refusal}
 use Rattle.inputs.specs.declared.NoDeck.{NoDeck}
 
@@ -62,6 +64,16 @@ went_none first = ([], refl)
 pub went_on : (first now next : Scanner) (piece : List ℕ) → Went first now → next ≡ scan_from now piece → Went first next
 went_on first now next piece a e = (a.0 ++ piece, e ∙ ap (λ (s : Scanner). scan_from s piece) a.1 ∙ scan_pieces first a.0 piece)
 
+-- nothing was read yet, and there may be more
+pub fed_none : (first : Scanner) → FedSays first (record { state = first; more = true; failure = None })
+fed_none first = (first, Ok 65536, went_none first, refl)
+
+pub fed_went : (first : Scanner) (fed : Fed) → FedSays first fed → Went first fed.state
+fed_went first fed f = (f.2.0, ap (λ (g : Fed). g.state) f.3 ∙ f.2.1)
+
+pub further : (first : Scanner) (now next : Fed) → FedSays first now → FedSays now.state next → FedSays first next
+further first now next a b = (b.0, b.1, went_on first now.state b.0 b.2.0 (fed_went first now a) b.2.1, b.3)
+
 -- the first bytes, and then what more was read: the answer is what the scan of it all comes to
 pub all_scanned : (bytes : List ℕ) (none begun after : Scanner) (answer : Answer ℕ) (failed : Option Error) (before : Result ℕ Refusal) (r : Result ℕ NoDeck)
     → none ≡ no_bytes → begun ≡ scan_from none bytes → Went begun after → answer ≡ scanned_of after → before ≡ long_deck answer → r ≡ unless_failed failed before
@@ -72,6 +84,15 @@ all_scanned bytes none begun after answer failed before r n b w a l e =
     ∙ ap (λ (s : Scanner). scan_from s w.0) (b ∙ ap (λ (s : Scanner). scan_from s bytes) n)
     ∙ scan_pieces no_bytes bytes w.0 in
     (w.0, failed, e ∙ ap (unless_failed failed) (l ∙ ap long_deck (a ∙ ap scanned_of all)))
+
+module _ (room : List ℕ) (read : Result ℕ ReadFailure) (rest : List ℕ) (failed : Option Error) where
+  -- a room that is full
+  pub deck_long : bytes_read read ≡ 65536 → deck_of room read rest failed ≡ unless_failed failed (long_deck (scanned_of (scan_from no_bytes (room ++ rest))))
+  deck_long e = rw (eq-eqb (bytes_read read) 65536 e)
+
+  -- one that is not
+  pub deck_whole : (bytes_read read ≡ 65536 → ⊥) → deck_of room read rest failed ≡ whole_deck read
+  deck_whole n = rw (ne_eqb (bytes_read read) 65536 n)
 
 -- what is known stays, whether or not a read failed
 pub known_before : (failed : Option Error) (before : Result ℕ Refusal) → known_of (unless_failed failed before) ≡ before

@@ -7,6 +7,7 @@ use Rattle.rules.specs.Answer.{Answer, fine, refuse}
 use Rattle.scans.specs.Scanning.{no_bytes, scan_from, scanned_of}
 use Rattle.scans.specs.declared.Scanner.{Scanner}
 use Rattle.inputs.specs.declared.ReadFailure.{ReadFailure}
+use Rattle.inputs.specs.declared.Fed.{Fed}
 use Rattle.inputs.specs.declared.Refusal.{Refusal}
 use Rattle.inputs.specs.declared.NoDeck.{NoDeck}
 use Rattle.inputs.specs.declared.NoDeck.TheVariants.{Refused, Failed}
@@ -42,6 +43,14 @@ FillSays room r = (gots : List (Result ℕ Error)) × (r ≡ filled_from room 0 
 abbrev pub Went : Scanner → Scanner → Type 0
 Went before after = (bytes : List ℕ) × (after ≡ scan_from before bytes)
 
+-- what is known of a scan that was fed what filling a room came to: where the room was filled there may be more
+abbrev pub fed_of : Scanner → Result ℕ ReadFailure → Fed
+fed_of state read = record { state = state; more = eqb (bytes_read read) 65536; failure = failure_of read }
+
+-- that is known, of a scan that went on
+abbrev pub FedSays : Scanner → Fed → Type 0
+FedSays before fed = (state : Scanner) × (read : Result ℕ ReadFailure) × Went before state × (fed ≡ fed_of state read)
+
 -- ---- what is answered
 
 -- of a deck that fills the room: what the scan of it comes to
@@ -54,6 +63,10 @@ abbrev pub unless_failed : Option Error → Result ℕ Refusal → Result ℕ No
 unless_failed None (Ok n) = Ok n
 unless_failed None (Err refusal) = Err (Refused refusal)
 unless_failed (Some why) before = Err (Failed before why)
+
+-- of a deck that leaves room: all that was read
+abbrev pub whole_deck : Result ℕ ReadFailure → Result ℕ NoDeck
+whole_deck read = unless_failed (failure_of read) (Ok (bytes_read read))
 
 -- what an answer says of what was read, whether or not a read failed
 abbrev pub known_of : Result ℕ NoDeck → Result ℕ Refusal
@@ -71,7 +84,7 @@ abbrev pub deck_of : List ℕ → Result ℕ ReadFailure → List ℕ → Option
 deck_of room read rest failed =
     cond (eqb (bytes_read read) 65536)
     (unless_failed failed (long_deck (scanned_of (scan_from no_bytes (room ++ rest)))))
-    (unless_failed (failure_of read) (Ok (bytes_read read)))
+    (whole_deck read)
 
 -- ---- promises
 

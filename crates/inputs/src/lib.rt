@@ -6,7 +6,7 @@ mod arguments;
 ghost use Rattle.io.specs.Counts.{IsPrefixLen};
 ghost use Rattle.std.specs.Prelude.{◌≡◌, ◌<◌, length, IfErr};
 ghost use Rattle.lines.specs.Ordering.{answer_of};
-ghost use Rattle.inputs.specs.Reading.{bytes_read, FillSays, Went, long_deck, unless_failed, known_of, bytes_known, LongDeckSays, DeckBytesSays};
+ghost use Rattle.inputs.specs.Reading.{bytes_read, failure_of, FillSays, fed_of, FedSays, long_deck, unless_failed, whole_deck, known_of, bytes_known, LongDeckSays, DeckBytesSays};
 
 pub use arguments::{argument, argument_count, read_argument};
 use lines::Disorder;
@@ -37,40 +37,67 @@ pub fn fill<R: Read>(from: &mut R, room: &mut [u8]) -> Result<usize, ReadFailure
     Ok(at)
 }
 
-// A scan that went on over what could be read, and why no more could be, where a read failed.
+fn bytes_read(read: Result<usize, ReadFailure>) -> usize
+    ensures { result ≡ bytes_read read }
+{
+    match read {
+        Ok(n) => n,
+        Err(failed) => failed.length,
+    }
+}
+
+fn failure_of(read: Result<usize, ReadFailure>) -> Option<Error>
+    ensures { result ≡ failure_of read }
+{
+    match read {
+        Ok(_) => None,
+        Err(failed) => Some(failed.why),
+    }
+}
+
+// A scan of a deck that was fed, whether there may be more to read, and why a read failed, if one did.
 #[derive(Clone, Copy)]
-struct ScannedOn {
+struct Fed {
     state: Scanner,
+    more: bool,
     failure: Option<Error>,
+}
+
+// What is known once a scan was fed what was read. A read that left room found the end, or failed.
+fn fed_with(state: Scanner, read: Result<usize, ReadFailure>) -> Fed
+    ensures { result ≡ fed_of state read }
+{
+    Fed {
+        state,
+        more: bytes_read(read) == 65536,
+        failure: failure_of(read),
+    }
 }
 
 // Reads on until the scan is settled, the input ends or a read fails. A proved loop has to end, and nothing says that the input does: it takes at most so many turns,
 // more than any run uses up.
-fn scan_on<R: Read>(from: &mut R, state: Scanner) -> ScannedOn
-    ensures { Went state result.state }
+fn scan_on<R: Read>(from: &mut R, state: Scanner) -> Fed
+    ensures { FedSays state result }
 {
     let mut room = io::large_buffer();
-    let mut now = state;
+    let mut fed = Fed {
+        state,
+        more: true,
+        failure: None,
+    };
     for _ in 0..u64::MAX {
+        let now = fed.state;
         if scans::is_settled(now) {
             break;
         }
-        let (n, failure) = match fill(from, &mut room) {
-            Ok(n) => (n, None),
-            Err(failed) => (failed.length, Some(failed.why)),
-        };
-        now = scans::scan(now, &room[..n]);
-        if n != 65536 {
-            return ScannedOn {
-                state: now,
-                failure,
-            };
+        let read = fill(from, &mut room);
+        let n = bytes_read(read);
+        fed = fed_with(scans::scan(now, &room[..n]), read);
+        if !fed.more {
+            break;
         }
     }
-    ScannedOn {
-        state: now,
-        failure: None,
-    }
+    fed
 }
 
 // By which number a deck is refused, and at which place.
@@ -122,9 +149,16 @@ fn longer<R: Read>(from: &mut R, room: &[u8; 65536]) -> Result<usize, NoDeck>
     ensures prefix_len { IsPrefixLen (bytes_known (known_of result)) room.now }
     ensures long_deck_says { LongDeckSays room.now result }
 {
-    let scanned = scan_on(from, scans::scan(scans::begin(), room));
-    let state = scanned.state;
-    unless_failed(scanned.failure, long_deck(scans::scanned(state)))
+    let fed = scan_on(from, scans::scan(scans::begin(), room));
+    let state = fed.state;
+    unless_failed(fed.failure, long_deck(scans::scanned(state)))
+}
+
+// A deck that left room is here as a whole, and nothing is said against it yet.
+fn whole(read: Result<usize, ReadFailure>) -> Result<usize, NoDeck>
+    ensures { result ≡ whole_deck read }
+{
+    unless_failed(failure_of(read), Ok(bytes_read(read)))
 }
 
 // A deck of any length: how many bytes it has at the start of the room.
@@ -134,10 +168,6 @@ pub fn deck<R: Read>(from: &mut R, room: &mut [u8; 65536]) -> Result<usize, NoDe
 {
     match fill(from, room) {
         Ok(65536) => longer(from, room),
-        Ok(n) => Ok(n),
-        Err(failed) => Err(NoDeck::Failed {
-            before: Ok(failed.length),
-            why: failed.why,
-        }),
+        read => whole(read),
     }
 }

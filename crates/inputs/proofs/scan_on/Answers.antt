@@ -1,10 +1,13 @@
--- Each turn goes on where the last one stopped, over what was read.
+-- Nothing was read yet where it begins; and each turn goes on where the last one stopped, over what was read.
 use lib.ListN.{take}
-use Rattle.inputs.proofs.ReadingLaws.{went_on}
+use Rattle.inputs.proofs.ReadingLaws.{fed_none, further}
 use Rattle.inputs.proofs.scan_on.Goals as goal
 
-pub returns-then-n-ne65536 : goal.returns-then-n-ne65536
-returns-then-n-ne65536 g c = went_on _ _ _ (take c.match-fill.n.0 c.fill.new.room) c.loop.invariant c.scan-now.ensures
+pub loop-init : goal.loop-init
+loop-init g c = fed_none _
+
+pub returns-then-not-fed : goal.returns-then-not-fed
+returns-then-not-fed g c = further _ _ _ c.loop.invariant (_, _, (take c.bytes_read-n.result c.fill-read.new.room, c.scan.ensures), c.fed_with-fed.ensures)
 
 pub loop-preserved : goal.loop-preserved
-loop-preserved g c = went_on _ _ _ (take c.match-fill.n.0 c.fill.new.room) c.loop.invariant c.scan-now.ensures
+loop-preserved g c = further _ _ _ c.loop.invariant (_, _, (take c.bytes_read-n.result c.fill-read.new.room, c.scan.ensures), c.fed_with-fed.ensures)
