@@ -4,7 +4,7 @@ ghost use Rattle.std.specs.Prelude.{◌≤◌, length};
 use crate::{digest, shown, text};
 use std::io::Print;
 use twins::Twins;
-use words::say;
+use words::phrase;
 
 fn tell_answer(to: &impl Print, answer: Twins) {
     shown::numbers(
@@ -25,6 +25,6 @@ pub(crate) fn tell(to: &impl Print, deck: &[u8], out: &mut [u8], lent: usize)
 {
     let answer = bhexodana::bhx_twins(deck, &mut out[..lent]);
     tell_answer(to, answer);
-    say(to, format_args!(" {} ", digest::of_bytes(out).number));
+    phrase(to, format_args!(" {} ", digest::of_bytes(out).number));
     shown::written(to, answer.refusal, text::first(out, answer.length));
 }

@@ -1,33 +1,33 @@
 // What the cards of a deck ask for, as words of a line.
 use std::io::Print;
 use terms::{Asked, Field, Size};
-use words::say;
+use words::phrase;
 
 // What A says: key and data are told apart again.
 fn tell_input(to: &impl Print, input: Size, key: usize) {
     let n = terms::record_length(input);
     if key == 0 || n < key {
-        say(to, format_args!(" A={input}"));
+        phrase(to, format_args!(" A={input}"));
     } else {
-        say(to, format_args!(" A=K={key},D={}", n - key));
+        phrase(to, format_args!(" A=K={key},D={}", n - key));
     }
 }
 
 // Where a field begins, as on its card; one that is taken from the key and runs past it stands past every record.
 fn tell_place(to: &impl Print, r: usize, key: usize) {
     if r == 8192 {
-        say(to, ":past");
+        phrase(to, ":past");
     } else if r <= key {
-        say(to, format_args!(":K{r}"));
+        phrase(to, format_args!(":K{r}"));
     } else {
-        say(to, format_args!(":{}", r - key));
+        phrase(to, format_args!(":{}", r - key));
     }
 }
 
 fn tell_field(to: &impl Print, field: Field, key: usize, card: usize) {
-    say(to, format_args!(" {}", field.kind));
+    phrase(to, format_args!(" {}", field.kind));
     tell_place(to, field.r, key);
-    say(
+    phrase(
         to,
         format_args!(",{},{},{}@{card}", field.input, field.output, field.t),
     );
@@ -41,10 +41,10 @@ fn tell_fields(to: &impl Print, deck: &[u8], fields: &[u16], key: usize) {
 }
 
 pub(crate) fn tell(to: &impl Print, deck: &[u8], asked: Asked, fields: &[u16]) {
-    say(to, format_args!(" {} {}", asked.mode, asked.format));
+    phrase(to, format_args!(" {} {}", asked.mode, asked.format));
     tell_input(to, asked.input, asked.key);
-    say(to, format_args!(" B={}", asked.output));
-    say(
+    phrase(to, format_args!(" B={}", asked.output));
+    phrase(
         to,
         format_args!(
             " R={} fs={} cv={} {}",

@@ -28,7 +28,7 @@ ghost use Rattle.std.specs.Prelude.{◌≡◌, length};
 
 use std::fs::File;
 use std::io::{Error, ErrorKind, Print, Result};
-use words::{because, say, say_bytes};
+use words::{fail, phrase, say};
 
 // Room for a whole file of cases.
 fn file_room() -> [u8; 262144]
@@ -141,8 +141,8 @@ fn deck_and_two_reels(to: &impl Print, words: &[u8]) {
 fn case(to: &impl Print, line: &[u8]) {
     let (name, rest) = text::cut(line, b' ');
     let (subject, words) = text::cut(rest, b' ');
-    say_bytes(to, name);
-    say(to, " ");
+    say(to, name);
+    phrase(to, " ");
     match subject {
         b"half" => half(to, words),
         b"deck" => deck(to, words),
@@ -151,9 +151,9 @@ fn case(to: &impl Print, line: &[u8]) {
         b"run" => deck_and_output(to, words),
         b"twins" => deck_and_records(to, words),
         b"judge" => deck_and_two_reels(to, words),
-        _ => say(to, "is no case"),
+        _ => phrase(to, "is no case"),
     }
-    say(to, "\n");
+    phrase(to, "\n");
 }
 
 // An empty line is a comment too.
@@ -185,7 +185,7 @@ fn cases(rt: &HostRuntime, file: File) {
     };
     lines(rt, &all[..n]);
     if n == 262144 {
-        say(rt, "a file of cases is too long\n");
+        phrase(rt, "a file of cases is too long\n");
     }
 }
 
@@ -194,10 +194,7 @@ fn file(rt: &HostRuntime, argument: usize) {
     let length = inputs::argument(rt, argument, &mut path);
     match open(rt, &path[..length]) {
         Ok(file) => cases(rt, file),
-        Err(why) => {
-            say_bytes(&rt.stderr(), &path[..length]);
-            because(&rt.stderr(), why);
-        }
+        Err(why) => fail(&rt.stderr(), &path[..length], why),
     }
 }
 

@@ -8,7 +8,7 @@ use plans::Planned;
 use std::array;
 use std::io::Print;
 use terms::Entry;
-use words::say;
+use words::phrase;
 
 // What a plan answers, and the whole table after it.
 #[derive(Clone, Copy)]
@@ -69,7 +69,7 @@ fn tell_answer(to: &impl Print, answer: Planned) {
 // The plan of a deck with no table.
 pub(crate) fn tell(to: &impl Print, deck: &[u8]) {
     tell_answer(to, bhexodana::bhx_plan(deck));
-    say(to, " -");
+    phrase(to, " -");
 }
 
 // The plan of a deck into a table of so many entries.
@@ -83,5 +83,5 @@ pub(crate) fn tell_into(to: &impl Print, deck: &[u8], entries: usize)
         .table
         .iter()
         .fold(Digest::new(), |digest, entry| with_entry(digest, *entry));
-    say(to, format_args!(" {}", digest.number));
+    phrase(to, format_args!(" {}", digest.number));
 }

@@ -4,7 +4,7 @@ use pieces::{Form, FoundPiece};
 use reels::{Contents, ReelError};
 use std::io::Print;
 use terms::Format;
-use words::say;
+use words::phrase;
 
 // What was told of records: whether of any, and how many bytes of the next were read.
 #[derive(Clone, Copy)]
@@ -21,9 +21,9 @@ fn with_piece(to: &impl Print, told: Told, piece: FoundPiece) -> Told {
         return Told { held, ..told };
     }
     if told.any {
-        say(to, ",");
+        phrase(to, ",");
     }
-    say(to, held);
+    phrase(to, held);
     Told { any: true, held: 0 }
 }
 
@@ -41,7 +41,7 @@ fn in_block(to: &impl Print, form: Form, block: &[u8], before: Told) -> Told {
 // The length of each record, block after block; `-` for none.
 fn lengths(to: &impl Print, form: Form, reel: &[u8], contents: Contents) {
     if contents.records == 0 {
-        say(to, "-");
+        phrase(to, "-");
     }
     let mut told = Told {
         any: false,
@@ -63,7 +63,7 @@ pub(crate) fn tell(to: &impl Print, form: Form, reel: &[u8]) {
     match read(form, reel) {
         Ok(contents) => {
             shown::refusal(to, 0, 0, 0);
-            say(
+            phrase(
                 to,
                 format_args!(" {} {} ", contents.blocks, contents.records),
             );

@@ -4,7 +4,7 @@ ghost use Rattle.std.specs.Prelude.{◌≤◌, length};
 use crate::{digest, shown, text};
 use outcomes::Ran;
 use std::io::Print;
-use words::say;
+use words::phrase;
 
 // Fills all of an output with a pattern, against which it is seen which bytes a run changes.
 pub(crate) fn mark(out: &mut [u8]) {
@@ -33,6 +33,6 @@ pub(crate) fn tell(to: &impl Print, deck: &[u8], reel: &[u8], out: &mut [u8], le
 {
     let answer = bhexodana::bhx_run(deck, reel, &mut out[..lent]);
     tell_answer(to, answer);
-    say(to, format_args!(" {} ", digest::of_bytes(out).number));
+    phrase(to, format_args!(" {} ", digest::of_bytes(out).number));
     shown::written(to, answer.refusal, text::first(out, answer.length));
 }

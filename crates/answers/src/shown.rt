@@ -1,14 +1,14 @@
 // What every answer shows alike.
 use std::io::Print;
-use words::say;
+use words::phrase;
 
 // The numbers of an answer, with a blank between.
 pub(crate) fn numbers(to: &impl Print, numbers: &[usize]) {
     for (i, number) in numbers.iter().enumerate() {
         if i > 0 {
-            say(to, " ");
+            phrase(to, " ");
         }
-        say(to, format_args!("{number}"));
+        phrase(to, format_args!("{number}"));
     }
 }
 
@@ -19,19 +19,19 @@ pub(crate) fn refusal(to: &impl Print, refusal: usize, place: usize, column: usi
 // Bytes in hex; `-` for none.
 pub(crate) fn bytes(to: &impl Print, s: &[u8]) {
     if s.is_empty() {
-        say(to, "-");
+        phrase(to, "-");
     }
     for byte in s {
-        say(to, format_args!("{byte:02X}"));
+        phrase(to, format_args!("{byte:02X}"));
     }
 }
 
 // What a call wrote, in hex where it is short; `-` where it was refused.
 pub(crate) fn written(to: &impl Print, refusal: usize, s: &[u8]) {
     if refusal != 0 {
-        say(to, "-");
+        phrase(to, "-");
     } else if s.len() > 64 {
-        say(to, "..");
+        phrase(to, "..");
     } else {
         bytes(to, s);
     }

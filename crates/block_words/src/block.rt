@@ -4,7 +4,7 @@ use pieces::{Cursor, Form};
 use std::fmt;
 use std::io::Print;
 use terms::Format;
-use words::{many, say};
+use words::{many, phrase};
 
 // Whose numbers are asked of blocks: A's of the input, or B's of a reel from elsewhere.
 #[derive(Clone, Copy)]
@@ -35,15 +35,15 @@ impl fmt::Display for Whose {
 // What is said where nothing else was found.
 fn say_wrong(to: &impl Print, asks: Asks) {
     let whose = asks.whose;
-    say(
+    phrase(
         to,
         format_args!("this block is not one that the U card's F and {whose} allow"),
     );
 }
 
 fn say_size(to: &impl Print, b: &[u8]) {
-    say(to, "it has ");
-    many(to, b.len(), "byte");
+    phrase(to, "it has ");
+    many(to, b.len(), b"byte");
 }
 
 // Whether a block is longer than m, or g, which is then said.
@@ -53,7 +53,7 @@ fn said_too_long(to: &impl Print, asks: Asks, b: &[u8]) -> bool {
     if is_longer {
         let letter = if asks.is_single { 'g' } else { 'm' };
         say_size(to, b);
-        say(
+        phrase(
             to,
             format_args!(", more than {}'s {letter}, {m}", asks.whose),
         );
@@ -66,10 +66,10 @@ fn fixed(to: &impl Print, asks: Asks, b: &[u8]) {
     let n = asks.form.n;
     if asks.is_keyed {
         say_size(to, b);
-        say(to, format_args!(", and key and data have {n}"));
+        phrase(to, format_args!(", and key and data have {n}"));
     } else if !said_too_long(to, asks, b) {
         say_size(to, b);
-        say(
+        phrase(
             to,
             format_args!(", which is no multiple of the record length, {n}"),
         );
@@ -98,9 +98,9 @@ fn first_wrong(form: Form, b: &[u8]) -> usize {
 fn say_few(to: &impl Print, asks: Asks, b: &[u8], at: usize) {
     let length = word::length(b, at);
     if length >= 4 {
-        say(to, "it has ");
-        many(to, length - 4, "byte");
-        say(
+        phrase(to, "it has ");
+        many(to, length - 4, b"byte");
+        phrase(
             to,
             format_args!(" of data, fewer than {}'s n, {}", asks.whose, asks.form.n),
         );
@@ -127,7 +127,7 @@ fn said_wrong(to: &impl Print, asks: Asks, name: &str, b: &[u8]) -> bool {
     }
     if b.len() < 5 {
         say_size(to, b);
-        say(
+        phrase(
             to,
             format_args!(", and a block has at least 9: its word, that of a {name}, and a byte"),
         );
@@ -159,8 +159,8 @@ fn spanned(to: &impl Print, asks: Asks, reel: &[u8], i: usize) {
 // Says the first thing by which the block of a place, from 1, breaks its rule.
 pub fn wrong_block(to: &impl Print, asks: Asks, reel: &[u8], place: usize) {
     match asks.whose {
-        Whose::A => say(to, format_args!(", at block {place} of the input: ")),
-        Whose::B => say(to, format_args!(", at block {place} of theirs: ")),
+        Whose::A => phrase(to, format_args!(", at block {place} of the input: ")),
+        Whose::B => phrase(to, format_args!(", at block {place} of theirs: ")),
     }
     if place == 0 {
         say_wrong(to, asks);

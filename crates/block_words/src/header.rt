@@ -2,7 +2,7 @@
 ghost use Rattle.std.specs.Prelude.{◌+◌, ◌*◌, ◌≤◌, ◌<◌, length, IfSome};
 
 use std::io::Print;
-use words::{many, say};
+use words::{many, phrase, say};
 
 // An offset of a reel, from 0: behind those of its blocks stands its end.
 fn offset(reel: &[u8], i: usize) -> usize
@@ -30,12 +30,12 @@ fn say_offset(to: &impl Print, reel: &[u8], count: usize, i: usize)
 {
     let offset = offset(reel, i);
     if i >= count {
-        say(
+        phrase(
             to,
             format_args!("the last offset, the reel's end, is {offset}"),
         );
     } else {
-        say(
+        phrase(
             to,
             format_args!("the offset of block {} is {offset}", i + 1),
         );
@@ -49,7 +49,7 @@ fn say_fallen(to: &impl Print, reel: &[u8], count: usize, i: usize)
 {
     say_offset(to, reel, count, i);
     let before = offset(reel, i - 1);
-    say(
+    phrase(
         to,
         format_args!(", not greater than that of block {i}, {before}"),
     );
@@ -62,15 +62,15 @@ fn offsets(to: &impl Print, reel: &[u8], count: usize)
     let first = offset(reel, 0);
     let behind = 4 * count + 8;
     if first != behind {
-        say(to, format_args!("the first offset is {first}, and with "));
-        many(to, count, "block");
-        say(to, format_args!(" it has to be {behind}"));
+        phrase(to, format_args!("the first offset is {first}, and with "));
+        many(to, count, b"block");
+        phrase(to, format_args!(" it has to be {behind}"));
     } else if let Some(fallen) = first_fallen(reel, count) {
         say_fallen(to, reel, count, fallen);
     } else {
         say_offset(to, reel, count, count);
-        say(to, ", and the file has ");
-        many(to, reel.len(), "byte");
+        phrase(to, ", and the file has ");
+        many(to, reel.len(), b"byte");
     }
 }
 
@@ -85,24 +85,26 @@ fn counted(to: &impl Print, reel: &[u8])
         return;
     }
     let needed = 4 * count + 8;
-    say(to, "its block count says ");
-    many(to, count, "block");
-    say(
+    phrase(to, "its block count says ");
+    many(to, count, b"block");
+    phrase(
         to,
         format_args!(", for whose offsets {needed} bytes are needed, and it has {end}"),
     );
 }
 
 // Says the first thing by which a file of this name is no reel.
-pub fn no_reel(to: &impl Print, name: &str, reel: &[u8]) {
-    say(to, format_args!(": {name} is no reel: "));
+pub fn no_reel(to: &impl Print, name: &[u8], reel: &[u8]) {
+    phrase(to, ": ");
+    say(to, name);
+    phrase(to, " is no reel: ");
     let end = reel.len();
     if end > 65536 {
-        say(to, "it has more than 65,536 bytes");
+        phrase(to, "it has more than 65,536 bytes");
     } else if end < 8 {
-        say(to, "it has ");
-        many(to, end, "byte");
-        say(to, ", and a reel has at least 8");
+        phrase(to, "it has ");
+        many(to, end, b"byte");
+        phrase(to, ", and a reel has at least 8");
     } else {
         counted(to, reel);
     }

@@ -2,7 +2,7 @@
 use crate::word;
 use pieces::Cursor;
 use std::io::Print;
-use words::say;
+use words::phrase;
 
 // The highest length of a record.
 const LONGEST: usize = 32752;
@@ -60,12 +60,12 @@ fn held_before(reel: &[u8], block: usize) -> Option<usize> {
 }
 
 fn say_code(to: &impl Print, code: u8) {
-    say(to, "its code is ");
+    phrase(to, "its code is ");
     match code {
-        0 => say(to, "0, for a whole record"),
-        1 => say(to, "1, for the first segment of a record"),
-        2 => say(to, "2, for the last segment of a record"),
-        _ => say(to, "3, for a segment between the first and the last"),
+        0 => phrase(to, "0, for a whole record"),
+        1 => phrase(to, "1, for the first segment of a record"),
+        2 => phrase(to, "2, for the last segment of a record"),
+        _ => phrase(to, "3, for a segment between the first and the last"),
     }
 }
 
@@ -73,7 +73,7 @@ fn say_code(to: &impl Print, code: u8) {
 fn say_long(to: &impl Print, held: Option<usize>, length: usize) {
     if length >= 4 {
         let all = joined(held, length - 4);
-        say(
+        phrase(
             to,
             format_args!("with it its record has {all} bytes, and a record has at most 32,752"),
         );
@@ -86,11 +86,11 @@ fn say_turn(to: &impl Print, b: &[u8], open: Open) {
     match (begins(terms::wide(code)), open.held) {
         (true, Some(_)) => {
             say_code(to, code);
-            say(to, ", and the record before it is not finished");
+            phrase(to, ", and the record before it is not finished");
         }
         (false, None) => {
             say_code(to, code);
-            say(to, ", and no record is begun");
+            phrase(to, ", and no record is begun");
         }
         (_, held) => say_long(to, held, word::length(b, open.at)),
     }
@@ -101,7 +101,7 @@ pub(crate) fn explain(to: &impl Print, reel: &[u8], block: usize) {
     let b = reels::block(reel, block);
     let open = first_wrong(b, held_before(reel, block));
     if b.len() <= open.at {
-        say(
+        phrase(
             to,
             "the reel ends here, and its last record is not finished: a segment of code 2 has to follow",
         );

@@ -3,7 +3,7 @@
 ghost use Rattle.std.specs.Prelude.{◌+◌, ◌^◌, ◌<◌, ◌≤◌, length};
 
 use std::io::Print;
-use words::{many, say, say_bytes};
+use words::{many, phrase, say};
 
 // The third byte of the word at a place: of a segment its code; 0 where the block has ended.
 // A number, no Option: who asks has found the word whole, so that None would be one more case that never comes.
@@ -29,11 +29,11 @@ pub(crate) fn length(b: &[u8], at: usize) -> usize
 fn say_byte(to: &impl Print, at: usize, byte: u8)
     requires { at + 1 < 2 ^ 64 }
 {
-    say(
+    phrase(
         to,
         format_args!("byte {} of the block, in its word, is hex ", at + 1),
     );
-    say_bytes(to, &hexadecimal::hex(byte));
+    say(to, &hexadecimal::hex(byte));
 }
 
 // Whether the third byte of the word at a place, which is at most top, or the fourth is wrong, which is then said.
@@ -44,15 +44,15 @@ fn said_flags(to: &impl Print, b: &[u8], at: usize, top: u8) -> bool
         [_, _, third, ..] if *third > top => {
             say_byte(to, at + 2, *third);
             if top == 0 {
-                say(to, ", and has to be 00");
+                phrase(to, ", and has to be 00");
             } else {
-                say(to, ", and a code is 00 to 03");
+                phrase(to, ", and a code is 00 to 03");
             }
             true
         }
         [_, _, _, last, ..] if *last != 0 => {
             say_byte(to, at + 3, *last);
-            say(to, ", and has to be 00");
+            phrase(to, ", and has to be 00");
             true
         }
         _ => false,
@@ -61,9 +61,9 @@ fn said_flags(to: &impl Print, b: &[u8], at: usize, top: u8) -> bool
 
 // Says that the word of a block says another length than it has.
 fn say_length(to: &impl Print, b: &[u8], said: usize) {
-    say(to, "its word says ");
-    many(to, said, "byte");
-    say(to, format_args!(", and it has {}", b.len()));
+    phrase(to, "its word says ");
+    many(to, said, b"byte");
+    phrase(to, format_args!(", and it has {}", b.len()));
 }
 
 // Whether the word of a block is wrong, which is then said, in the order in which `pieces` looks at it.
@@ -87,7 +87,7 @@ pub(crate) fn said_wrong(to: &impl Print, b: &[u8]) -> bool {
 pub(crate) fn say_piece(to: &impl Print, name: &str, at: usize)
     requires { at + 1 < 2 ^ 64 }
 {
-    say(
+    phrase(
         to,
         format_args!("the {name} at byte {} of the block: ", at + 1),
     );
@@ -96,20 +96,20 @@ pub(crate) fn say_piece(to: &impl Print, name: &str, at: usize)
 // Whether the length in the word of a piece is wrong, where so many bytes of the block are left; that is then said.
 fn said_length(to: &impl Print, name: &str, said: usize, left: usize) -> bool {
     if left < 4 {
-        say(to, "the block has ");
-        many(to, left, "byte");
-        say(to, " left, and a word has 4");
+        phrase(to, "the block has ");
+        many(to, left, b"byte");
+        phrase(to, " left, and a word has 4");
         return true;
     }
     if said > 4 && said <= left {
         return false;
     }
-    say(to, "its word says ");
-    many(to, said, "byte");
+    phrase(to, "its word says ");
+    many(to, said, b"byte");
     if said > left {
-        say(to, format_args!(", and the block has {left} left"));
+        phrase(to, format_args!(", and the block has {left} left"));
     } else {
-        say(
+        phrase(
             to,
             format_args!(", and a {name} has at least 5 with its word"),
         );

@@ -3,7 +3,7 @@ use line_words::{BLANK, COMMA};
 use readers::{Placed, UParameter};
 use std::io::Print;
 use terms::Input;
-use words::{say, say_bytes};
+use words::{phrase, say};
 
 // The byte behind the digits with which a part begins; a blank where there is none.
 fn behind_digits(part: &[u8]) -> u8 {
@@ -30,22 +30,22 @@ fn is_open(part: &[u8]) -> bool {
 // or behind.
 fn size_limits(to: &impl Print, card: &[u8], part: &[u8]) {
     if behind_digits(part) == COMMA {
-        say(to, "1 to 4,096");
+        phrase(to, "1 to 4,096");
     } else if line_words::column_of(card, b'V').is_some()
         || line_words::column_of(card, b'S').is_some()
     {
-        say(to, "9 to 32,760");
+        phrase(to, "9 to 32,760");
     } else {
-        say(to, "1 to 32,760");
+        phrase(to, "1 to 32,760");
     }
 }
 
 // Says the limits of a number of the U card: of R, of the key or of the data, of the second of two in A or B, or of another in A or B.
 fn u_limits(to: &impl Print, card: &[u8], before: u8, part: &[u8]) {
     match before {
-        b'R' => say(to, "1 to 65,536"),
-        b'=' => say(to, "1 to 4,096"),
-        COMMA => say(to, "1 to 32,760"),
+        b'R' => phrase(to, "1 to 65,536"),
+        b'=' => phrase(to, "1 to 4,096"),
+        COMMA => phrase(to, "1 to 32,760"),
         _ => size_limits(to, card, part),
     }
 }
@@ -58,9 +58,9 @@ fn is_of_key(before: &[u8]) -> bool {
 // Says the limits of a number of an FS card, before which stands this: in parentheses are sizes to pack or unpack, or a place in the key.
 fn fs_limits(to: &impl Print, before: &[u8]) {
     if is_open(before) && !is_of_key(before) {
-        say(to, "1 to 16");
+        phrase(to, "1 to 16");
     } else {
-        say(to, "1 to 4,096");
+        phrase(to, "1 to 4,096");
     }
 }
 
@@ -102,21 +102,21 @@ fn together(to: &impl Print, lengths: Lengths) -> bool {
     if key == 0 || data == 0 || key > 4096 || data > 4096 {
         return false;
     }
-    say(to, "key and data have ");
-    say(to, key);
-    say(to, " and ");
-    say(to, data);
-    say(to, " bytes, which are ");
-    say(to, key + data);
-    say(to, " together; at most 4,096 are allowed");
+    phrase(to, "key and data have ");
+    phrase(to, key);
+    phrase(to, " and ");
+    phrase(to, data);
+    phrase(to, " bytes, which are ");
+    phrase(to, key + data);
+    phrase(to, " together; at most 4,096 are allowed");
     true
 }
 
 // Says the limits of a number, which begins a part of its card, before which stands this.
 fn limits(to: &impl Print, card: &[u8], place: usize, before: &[u8], part: &[u8]) {
-    say(to, "this number, ");
-    say_bytes(to, digits(part));
-    say(to, ", is outside its limits, which are ");
+    phrase(to, "this number, ");
+    say(to, digits(part));
+    phrase(to, ", is outside its limits, which are ");
     if place > 1 {
         fs_limits(to, before);
     } else {

@@ -4,7 +4,7 @@ use crate::field;
 use readers::CardItem;
 use std::io::Print;
 use terms::{Asked, Field, Part};
-use words::say;
+use words::phrase;
 
 const SLASH: u8 = b'/';
 
@@ -56,43 +56,43 @@ fn last(from: usize, size: usize) -> usize {
 
 fn bytes(to: &impl Print, from: usize, last: usize) {
     if from == last {
-        say(to, " byte ");
-        say(to, from);
+        phrase(to, " byte ");
+        phrase(to, from);
         return;
     }
-    say(to, " bytes ");
-    say(to, from);
-    say(to, " to ");
-    say(to, last);
+    phrase(to, " bytes ");
+    phrase(to, from);
+    phrase(to, " to ");
+    phrase(to, last);
 }
 
 fn length(to: &impl Print, size: usize) {
-    say(to, size);
+    phrase(to, size);
     if size == 1 {
-        say(to, " byte");
+        phrase(to, " byte");
     } else {
-        say(to, " bytes");
+        phrase(to, " bytes");
     }
 }
 
 // Says how long a record is, or in FV the part of it that each record has.
 fn record(to: &impl Print, asked: Asked, name: &str, size: usize) {
-    say(to, ", and the ");
+    phrase(to, ", and the ");
     if terms::is_fv(asked.format) {
-        say(to, "fixed part of the ");
+        phrase(to, "fixed part of the ");
     }
-    say(to, name);
-    say(to, " record has ");
+    phrase(to, name);
+    phrase(to, " record has ");
     length(to, size);
 }
 
 fn key_part(to: &impl Print, size: usize) {
-    say(to, " of the key, and the key has ");
+    phrase(to, " of the key, and the key has ");
     length(to, size);
 }
 
 fn data_part(to: &impl Print, size: usize) {
-    say(to, " of the data, and the data have ");
+    phrase(to, " of the data, and the data have ");
     length(to, size);
 }
 
@@ -119,13 +119,13 @@ fn part_size(to: &impl Print, asked: Asked, part: Part, size: usize) {
 }
 
 fn reads(to: &impl Print, asked: Asked, part: Part, f: Field) {
-    say(to, ", reads");
+    phrase(to, ", reads");
     bytes(to, f.r, last(f.r, f.input));
     part_size(to, asked, part, room(asked, part));
 }
 
 fn writes(to: &impl Print, asked: Asked, f: Field) {
-    say(to, ", writes");
+    phrase(to, ", writes");
     bytes(to, f.t, last(f.t, f.output));
     record(to, asked, "output", terms::record_length(asked.output));
 }
@@ -141,7 +141,7 @@ fn named(to: &impl Print, deck: &[u8], place: usize, part: Part, f: Field) {
 // Says what refusal 9 found of a field, from 1, of a deck that could be read.
 pub fn outside_records(to: &impl Print, deck: &[u8], asked: Asked, place: usize) {
     let Some(CardItem::Field { part, field, .. }) = item_of(deck, place) else {
-        say(to, "this field reaches outside its records");
+        phrase(to, "this field reaches outside its records");
         return;
     };
     named(to, deck, place, part, field);

@@ -22,7 +22,7 @@ fn argument_mode(rt: &HostRuntime, argument: usize) -> Result<Option<u32>, NoMod
         digits => mode::read(digits),
     };
     if mode.is_err() {
-        notices::say(
+        notices::phrase(
             &rt.stderr(),
             "the mode has to be digits in octal, at most 7777, or -\n",
         );

@@ -36,7 +36,7 @@ fn mode(form: Form, digits: &[u8], given: Option<u32>) -> Result<Option<u32>, No
 fn say_no_blank(to: &impl Print, entry: &[u8]) {
     if !entry.is_empty() {
         files::say_name(to, files::front(entry, 60));
-        notices::say(
+        notices::phrase(
             to,
             ": before a name its mode, in octal, or nothing, and a blank have to stand\n",
         );
@@ -59,7 +59,7 @@ pub(crate) fn read<'a>(
     }
     if LONGEST < name.len() {
         files::say_name(to, files::front(name, 60));
-        notices::say(
+        notices::phrase(
             to,
             "..: this name has more than 4,095 bytes, and no file has such a one\n",
         );
@@ -67,7 +67,7 @@ pub(crate) fn read<'a>(
     }
     let Ok(mode) = mode(form, digits, given) else {
         files::say_name(to, name);
-        notices::say(
+        notices::phrase(
             to,
             ": the mode before this name has to be digits in octal, at most 7777, or nothing\n",
         );

@@ -22,6 +22,6 @@ pub(crate) fn print(rt: &HostRuntime, ran: Ran, name: &[u8], end: u8) {
     }
     let _ = line.write_all(&[end]);
     if let Err(why) = rt.write_all(files::written(&line)) {
-        notices::fail(&rt.stderr(), "standard output", why);
+        notices::fail(&rt.stderr(), b"standard output", why);
     }
 }

@@ -19,7 +19,7 @@ fn read_some(rt: &HostRuntime, room: &mut [u8]) -> usize
     match rt.stdin().read(room) {
         Ok(n) => n,
         Err(why) => {
-            notices::fail(&rt.stderr(), "standard input", why);
+            notices::fail(&rt.stderr(), b"standard input", why);
             0
         }
     }

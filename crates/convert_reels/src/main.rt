@@ -73,6 +73,6 @@ fn convert_named(rt: &HostRuntime, form: Form) {
 fn main(rt: HostRuntime) {
     match form::read(&rt) {
         Some(form) => convert_named(&rt, form),
-        None => notices::say(&rt.stderr(), USAGE),
+        None => notices::phrase(&rt.stderr(), USAGE),
     }
 }

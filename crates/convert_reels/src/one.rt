@@ -22,7 +22,7 @@ fn told(form: Form, name: &[u8]) -> &[u8] {
 fn head(to: &impl Print, name: &[u8]) {
     if name.len() > 0 {
         files::say_name(to, name);
-        notices::say(to, ": ");
+        notices::phrase(to, ": ");
     }
 }
 

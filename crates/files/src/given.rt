@@ -14,7 +14,7 @@ pub fn name<'a>(rt: &HostRuntime, argument: usize, room: &'a mut [u8]) -> Option
 {
     match inputs::read_argument(rt, argument, room) {
         Ok(0) => {
-            notices::say(
+            notices::phrase(
                 &rt.stderr(),
                 "an argument is empty; it has to name a file\n",
             );
@@ -22,7 +22,7 @@ pub fn name<'a>(rt: &HostRuntime, argument: usize, room: &'a mut [u8]) -> Option
         }
         Ok(n) => Some(&room[..n]),
         Err(why) => {
-            notices::fail(&rt.stderr(), "an argument", why);
+            notices::fail(&rt.stderr(), b"an argument", why);
             None
         }
     }

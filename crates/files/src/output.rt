@@ -102,7 +102,7 @@ fn is_special(rt: &HostRuntime, path: &[u8]) -> bool {
 pub fn write(rt: &HostRuntime, path: &[u8], bytes: &[u8], mode: Option<u32>) -> bool {
     if is_special(rt, path) {
         shown::say_name(&rt.stderr(), path);
-        notices::say(
+        notices::phrase(
             &rt.stderr(),
             ": is a device or a pipe, and no file takes its place\n",
         );

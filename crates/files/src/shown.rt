@@ -55,12 +55,12 @@ fn write_name(to: &mut impl Write, name: &[u8]) {
 // Says a name, which has at most 4,096 bytes.
 pub fn say_name(to: &impl Print, name: &[u8]) {
     if !is_odd(name) {
-        notices::say_bytes(to, name);
+        notices::say(to, name);
         return;
     }
     let mut shown = Cursor::new([0; 16384]);
     write_name(&mut shown, name);
-    notices::say_bytes(to, room::written(&shown));
+    notices::say(to, room::written(&shown));
 }
 
 // Says what failed with the file of this name, and why.

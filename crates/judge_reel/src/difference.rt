@@ -3,7 +3,7 @@ ghost use Rattle.std.specs.Prelude.{◌≤◌, length};
 ghost use Rattle.rows.specs.Flat.{Fielded};
 ghost use Rattle.rows.specs.Fair.{PlanFair};
 
-use notices::{Numbered, say};
+use notices::{Numbered, phrase};
 use std::io::Print;
 use terms::{Asked, Task};
 
@@ -33,11 +33,11 @@ fn first_difference(ours: &[u8], theirs: &[u8]) -> Option<Difference> {
 // Says what writes a position: a field, or with CV the tail. In TR there is neither.
 fn say_writer(to: &impl Print, deck: &[u8], asked: Asked, fields: &[u16], position: usize) {
     if let Some(Numbered { number, field }) = notices::last_writer(fields, position) {
-        say(to, "; ");
+        phrase(to, "; ");
         notices::field_on_card(to, deck, asked.key, number, field);
-        say(to, ", writes it");
+        phrase(to, ", writes it");
     } else if asked.cv > 0 {
-        say(to, "; it is of the tail, which CV carries");
+        phrase(to, "; it is of the tail, which CV carries");
     }
 }
 
@@ -60,7 +60,7 @@ fn say_byte(
     else {
         return;
     };
-    say(
+    phrase(
         to,
         format_args!(" in byte {position}: ours gives {ours:02X}, theirs has {theirs:02X}"),
     );
@@ -131,7 +131,7 @@ pub(crate) fn explain(
 )
     requires { PlanFair asked fields.now }
 {
-    say(to, "differs");
+    phrase(to, "differs");
     let mode = asked.mode;
     if terms::selects(mode) {
         say_selected(to, deck, asked, fields, ours, theirs);

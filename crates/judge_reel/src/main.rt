@@ -21,7 +21,7 @@ fn say_refused(
     let mut row = [0u16; 320];
     let plan = plans::plan_deck(deck, &mut row);
     if refusal == 8 && (plan.answer.refusal != 8 || plan.answer.place != place) {
-        notices::say(
+        notices::phrase(
             to,
             "refused by 8, at card 1: a reel from elsewhere is judged with TR or TRF alone, and this deck has TC or TF\n",
         );
@@ -118,5 +118,5 @@ fn main(rt: HostRuntime) {
         judge_named(&rt);
         return;
     }
-    notices::say(&rt.stderr(), "usage: judge_reel DECK OURS THEIRS\n");
+    notices::phrase(&rt.stderr(), "usage: judge_reel DECK OURS THEIRS\n");
 }

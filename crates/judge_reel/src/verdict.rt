@@ -3,7 +3,7 @@ ghost use Rattle.std.specs.Prelude.{◌≤◌, length};
 ghost use Rattle.rows.specs.Fair.{PlanFair};
 
 use crate::difference;
-use notices::say;
+use notices::phrase;
 use plans::DeckPlan;
 use reports::many;
 use std::io::Print;
@@ -15,9 +15,9 @@ pub(crate) fn yes(to: &impl Print, plan: DeckPlan, theirs: &[u8]) {
     let task = tasks::task_of(asked);
     let mut nothing = gathers::record_room();
     let found = gathers::gather(tasks::form_under(task), theirs, 0, &mut nothing);
-    say(to, "theirs is a true conversion of ours, of ");
-    many(to, found.records, "record");
-    say(to, "\n");
+    phrase(to, "theirs is a true conversion of ours, of ");
+    many(to, found.records, b"record");
+    phrase(to, "\n");
     notices::loss(to, plan);
 }
 
@@ -42,22 +42,22 @@ fn left(records: usize, passed: usize) -> usize {
 
 // Says which record of the output is apart, and which one it is in our input; where ours has none, theirs has it.
 fn say_record(to: &impl Print, apart: usize, place: usize, is_ours: bool) {
-    say(to, format_args!("record {apart} of "));
+    phrase(to, format_args!("record {apart} of "));
     if is_ours {
-        say(
+        phrase(
             to,
             format_args!("the output, record {place} of our input, "),
         );
     } else {
-        say(to, "theirs ");
+        phrase(to, "theirs ");
     }
 }
 
 // Says that a record has no partner, by the counts of both sides.
 fn say_counts(to: &impl Print, ours: usize, theirs: usize) {
-    say(to, "lacks a partner: ours gives ");
-    many(to, ours, "record");
-    say(to, format_args!(", theirs has {theirs}"));
+    phrase(to, "lacks a partner: ours gives ");
+    many(to, ours, b"record");
+    phrase(to, format_args!(", theirs has {theirs}"));
 }
 
 // Says how a record of theirs is apart from one of ours: by its length, or by a byte.
@@ -69,9 +69,9 @@ fn say_pair(to: &impl Print, deck: &[u8], asked: Asked, fields: &[u16], ours: &[
         difference::explain(to, deck, asked, fields, ours, theirs);
         return;
     }
-    say(to, "has another length: ours gives ");
-    many(to, n, "byte");
-    say(to, format_args!(", theirs has {}", theirs.len()));
+    phrase(to, "has another length: ours gives ");
+    many(to, n, b"byte");
+    phrase(to, format_args!(", theirs has {}", theirs.len()));
 }
 
 // Says which record is apart, by its number in the output, and why.
@@ -93,11 +93,11 @@ pub(crate) fn no(
     let taken = gathers::gather(tasks::form_of(task), ours, place, &mut room);
     let mut other = gathers::record_room();
     let found = gathers::gather(tasks::form_under(task), theirs, apart, &mut other);
-    say(to, "theirs is no true conversion of ours: ");
+    phrase(to, "theirs is no true conversion of ours: ");
     say_record(to, apart, place, place <= taken.records);
     match (taken.bytes, found.bytes) {
         (Some(ours), Some(theirs)) => say_pair(to, deck, asked, fields, ours, theirs),
         _ => say_counts(to, left(taken.records, before), found.records),
     }
-    say(to, "\n");
+    phrase(to, "\n");
 }

@@ -4,7 +4,7 @@ ghost use Rattle.std.specs.Prelude.{◌≤◌, length, IfSome};
 
 use lines::CardRead;
 use std::io::Print;
-use words::{say, say_bytes};
+use words::{phrase, say};
 
 pub const BLANK: u8 = b' ';
 
@@ -12,11 +12,11 @@ pub const COMMA: u8 = b',';
 
 // Says a card, and a column of it where there is one: a number, 0 for none, as in the answers that C sees.
 pub fn spot(to: &impl Print, card: usize, column: usize) {
-    say(to, "card ");
-    say(to, card);
+    phrase(to, "card ");
+    phrase(to, card);
     if column > 0 {
-        say(to, ", column ");
-        say(to, column);
+        phrase(to, ", column ");
+        phrase(to, column);
     }
 }
 
@@ -54,12 +54,12 @@ pub fn show(to: &impl Print, deck: &[u8], place: usize, column: usize) {
     if column == 0 || column > 81 {
         return;
     }
-    say_bytes(to, card_at(deck, place));
-    say(to, "\n");
+    say(to, card_at(deck, place));
+    phrase(to, "\n");
     let blanks = [BLANK; 80];
     let n = column - 1;
-    say_bytes(to, &blanks[..n]);
-    say(to, "^\n");
+    say(to, &blanks[..n]);
+    phrase(to, "^\n");
 }
 
 // The byte in a column; a blank where there is none.

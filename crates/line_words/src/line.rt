@@ -3,7 +3,7 @@
 use crate::card;
 use crate::card::BLANK;
 use std::io::Print;
-use words::{say, say_bytes};
+use words::{phrase, say};
 
 const TAB: u8 = 0x09;
 
@@ -54,26 +54,26 @@ fn is_card_in_capitals(line: &[u8]) -> bool {
 
 // Says that no blank follows where one has to.
 fn no_blank(to: &impl Print, text: &str) {
-    say(to, "a blank is missing behind '");
-    say(to, text);
-    say(to, "'");
+    phrase(to, "a blank is missing behind '");
+    phrase(to, text);
+    phrase(to, "'");
 }
 
 // Says what follows END.
 fn behind_end(to: &impl Print, byte: u8) {
-    say(
+    phrase(
         to,
         "'// END' stands alone or has a blank behind it, and column 7 has '",
     );
-    say_bytes(to, &[byte]);
-    say(to, "'");
+    say(to, &[byte]);
+    phrase(to, "'");
 }
 
 // Says which program's card a U card with two letters behind the U is: they are its initials (document 001).
 fn initials(to: &impl Print, first: u8, second: u8) {
-    say(to, "the initials ");
-    say_bytes(to, &[first, second]);
-    say(
+    phrase(to, "the initials ");
+    say(to, &[first, second]);
+    phrase(
         to,
         " are not those of tape to tape, whose card begins with '// U ' or '// UTT '",
     );
@@ -101,9 +101,9 @@ fn u_shape(to: &impl Print, line: &[u8]) {
 // Says what is wrong with the shape of a line of 1 to 80 printable bytes. UPSI is of job control, and no U card.
 fn shape(to: &impl Print, line: &[u8]) {
     if is_card_in_capitals(line) {
-        say(to, "cards are in capital letters, and column ");
-        say(to, small(line).unwrap_or(0));
-        say(to, " has a small one");
+        phrase(to, "cards are in capital letters, and column ");
+        phrase(to, small(line).unwrap_or(0));
+        phrase(to, " has a small one");
         return;
     }
     if line.starts_with(b"// U") && !line.starts_with(b"// UPSI ") {
@@ -118,7 +118,7 @@ fn shape(to: &impl Print, line: &[u8]) {
         behind_end(to, card::byte(line, 7));
         return;
     }
-    say(
+    phrase(
         to,
         "this line begins with none of '// U ', '// UTT ', '// FS ' and is not '// END'",
     );
@@ -128,17 +128,17 @@ fn shape(to: &impl Print, line: &[u8]) {
 
 // Says which byte is not printable.
 fn byte_in(to: &impl Print, line: &[u8], column: usize) {
-    say(to, "column ");
-    say(to, column);
-    say(to, " has the byte hex ");
-    say_bytes(to, &hexadecimal::hex(card::byte(line, column)));
-    say(to, ", which is no printable one of ASCII");
+    phrase(to, "column ");
+    phrase(to, column);
+    phrase(to, " has the byte hex ");
+    say(to, &hexadecimal::hex(card::byte(line, column)));
+    phrase(to, ", which is no printable one of ASCII");
 }
 
 // Says what is wrong with the bytes of a line, how many they are, or their shape.
 fn written(to: &impl Print, line: &[u8]) {
     if line.len() == 0 {
-        say(to, "this line is empty");
+        phrase(to, "this line is empty");
         return;
     }
     if let Some(column) = unprintable(line) {
@@ -146,9 +146,9 @@ fn written(to: &impl Print, line: &[u8]) {
         return;
     }
     if line.len() > lines::LONGEST {
-        say(to, "this line has ");
-        say(to, line.len());
-        say(to, " bytes; a card has at most 80");
+        phrase(to, "this line has ");
+        phrase(to, line.len());
+        phrase(to, " bytes; a card has at most 80");
         return;
     }
     shape(to, line);
@@ -157,23 +157,23 @@ fn written(to: &impl Print, line: &[u8]) {
 // Says why a line is no card.
 fn explain(to: &impl Print, line: &[u8]) {
     if line.starts_with(&EBCDIC) {
-        say(
+        phrase(
             to,
             "the deck is in EBCDIC: this line begins with hex 61 61 40, which is '// ' there; a deck is in ASCII",
         );
         return;
     }
     if card::byte(line, line.len()) == RETURN {
-        say(
+        phrase(
             to,
             "this line ends with a carriage return, as lines of Windows do (CRLF); a card's line ends with a line feed alone",
         );
         return;
     }
     if let Some(column) = card::column_of(line, TAB) {
-        say(to, "there is a tab in column ");
-        say(to, column);
-        say(to, "; a card has blanks");
+        phrase(to, "there is a tab in column ");
+        phrase(to, column);
+        phrase(to, "; a card has blanks");
         return;
     }
     written(to, line);
@@ -182,7 +182,7 @@ fn explain(to: &impl Print, line: &[u8]) {
 // Says what refusal 1 found in the line of a place. A deck that is longer than the room is not at hand.
 pub fn no_card(to: &impl Print, deck: &[u8], place: usize) {
     if deck.len() == 0 {
-        say(
+        phrase(
             to,
             "this line is none of the cards: '// U ', '// UTT ', '// FS ' or '// END', 1 to 80 printable bytes, no tab and no carriage return",
         );

@@ -1,7 +1,7 @@
 // What refusal 5 found: which of T, F, A and B are missing on the U card.
 use crate::card;
 use std::io::Print;
-use words::say;
+use words::phrase;
 
 // Whether no parameter of the card has this letter.
 fn is_missing(card: &[u8], letter: u8) -> bool {
@@ -15,12 +15,12 @@ fn name(to: &impl Print, letter: &str, missing: bool, after: bool, before: bool)
     }
     if after {
         if before {
-            say(to, ", ");
+            phrase(to, ", ");
         } else {
-            say(to, " and ");
+            phrase(to, " and ");
         }
     }
-    say(to, letter);
+    phrase(to, letter);
 }
 
 // Says what refusal 5 found on the U card, the first of the deck.
@@ -30,7 +30,7 @@ pub fn lacking(to: &impl Print, deck: &[u8]) {
     let f = is_missing(card, b'F');
     let a = is_missing(card, b'A');
     let b = is_missing(card, b'B');
-    say(to, "the U card lacks ");
+    phrase(to, "the U card lacks ");
     name(to, "T", t, false, false);
     name(to, "F", f, t, a || b);
     name(to, "A", a, t || f, b);

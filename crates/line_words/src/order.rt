@@ -2,7 +2,7 @@
 use crate::card;
 use lines::CardKind;
 use std::io::Print;
-use words::say;
+use words::phrase;
 
 // Whether the card of a place is an END card.
 fn is_end(deck: &[u8], place: usize) -> bool {
@@ -11,43 +11,43 @@ fn is_end(deck: &[u8], place: usize) -> bool {
 
 // Says which card stands first in place of the U card.
 fn first_card(to: &impl Print, kind: Option<CardKind>) {
-    say(to, "the first card is the U card, and this is an ");
+    phrase(to, "the first card is the U card, and this is an ");
     match kind {
-        Some(CardKind::End) => say(to, "END card"),
-        _ => say(to, "FS card"),
+        Some(CardKind::End) => phrase(to, "END card"),
+        _ => phrase(to, "FS card"),
     }
 }
 
 fn too_many(to: &impl Print, place: usize) {
-    say(to, "this is card ");
-    say(to, place);
-    say(to, "; a deck has at most 64");
+    phrase(to, "this is card ");
+    phrase(to, place);
+    phrase(to, "; a deck has at most 64");
 }
 
 // Says why a card is at fault behind one that is not the END card. An FS or END card is so past the 64th alone.
 fn before_end(to: &impl Print, kind: CardKind, place: usize) {
     match kind {
-        CardKind::Utility => say(to, "this is a second U card; a deck has one"),
+        CardKind::Utility => phrase(to, "this is a second U card; a deck has one"),
         _ => too_many(to, place),
     }
 }
 
 // Says that there is no card where END should stand, behind the last.
 fn no_end(to: &impl Print, last: usize) {
-    say(
+    phrase(
         to,
         "the END card is missing; the last card of the deck is card ",
     );
-    say(to, last);
+    phrase(to, last);
 }
 
 // Says why a card is at fault that is not the first. It is the first at fault, so that an END card before it is the one just before. Where no card is at fault
 // there is none at the place.
 fn later_card(to: &impl Print, kind: Option<CardKind>, deck: &[u8], place: usize, before: usize) {
     if is_end(deck, before) {
-        say(to, "card ");
-        say(to, before);
-        say(to, " is the END card, and nothing stands behind it");
+        phrase(to, "card ");
+        phrase(to, before);
+        phrase(to, " is the END card, and nothing stands behind it");
         return;
     }
     match kind {
@@ -59,7 +59,7 @@ fn later_card(to: &impl Print, kind: Option<CardKind>, deck: &[u8], place: usize
 // Says what can be at fault at a place of a deck that is not at hand. One that is longer than the room has far more than 64 cards, so none is missing.
 fn unseen(to: &impl Print, place: usize) {
     if place < 2 {
-        say(
+        phrase(
             to,
             "the deck is empty, or is longer than 65,536 bytes and begins with no U card",
         );
@@ -69,7 +69,7 @@ fn unseen(to: &impl Print, place: usize) {
         too_many(to, place);
         return;
     }
-    say(to, "this is a second U card, or a card behind the END card");
+    phrase(to, "this is a second U card, or a card behind the END card");
 }
 
 // Says what refusal 2 found at a place.

@@ -3,12 +3,12 @@
 use std::fmt::Display;
 use std::io::Print;
 use terms::{Asked, Format, Mode, Size};
-use words::say;
+use words::phrase;
 
 // Says what is broken, where it is, and answers whether it is.
 fn said(to: &impl Print, is_broken: bool, what: impl Display + Drop) -> bool {
     if is_broken {
-        say(to, what);
+        phrase(to, what);
     }
     is_broken
 }
@@ -70,17 +70,17 @@ fn count_broken(to: &impl Print, mode: Mode, format: Format, size: Size, name: &
     if matches!(size, Size::Two { .. }) == is_two {
         return false;
     }
-    say(to, format_args!("in {format}"));
+    phrase(to, format_args!("in {format}"));
     if terms::is_fv(format) {
-        say(to, format_args!(" with {mode}"));
+        phrase(to, format_args!(" with {mode}"));
     }
     if is_two {
-        say(
+        phrase(
             to,
             format_args!(" {name} has two numbers, (n,m), and this deck has one"),
         );
     } else {
-        say(
+        phrase(
             to,
             format_args!(" {name} has one number, (g), and this deck has two"),
         );
@@ -215,7 +215,7 @@ fn u_card_broken(to: &impl Print, asked: Asked) {
         || copy_broken(to, mode, format, asked.first)
         || sizes_broken(to, asked);
     if !is_said {
-        say(to, "the parameters do not go together");
+        phrase(to, "the parameters do not go together");
     }
 }
 
@@ -235,7 +235,7 @@ fn fs_card_broken(to: &impl Print, asked: Asked, place: usize) {
         format,
     );
     if !is_said {
-        say(
+        phrase(
             to,
             "(K,r) goes only with a key in A, (K=l,D=l), and this deck has none",
         );

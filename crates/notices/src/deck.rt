@@ -4,11 +4,11 @@ use crate::{combination, half};
 use cards::CardRefusal;
 use std::io::Print;
 use terms::Asked;
-use words::say;
+use words::phrase;
 
 // What refusal 3 says.
 fn unread(to: &impl Print) {
-    say(
+    phrase(
         to,
         "what stands on this card cannot be read from this column on; look at its letters, commas, slashes and parentheses, and for a blank that ends it too early",
     );
@@ -16,7 +16,7 @@ fn unread(to: &impl Print) {
 
 // What refusal 4 says.
 fn twice(to: &impl Print, deck: &[u8], place: usize, column: usize) {
-    say(
+    phrase(
         to,
         "a parameter, or CV, stands here for the second time; the first stands at ",
     );
@@ -44,7 +44,7 @@ fn read(deck: &[u8]) -> Result<Asked, CardRefusal> {
 // What refusals 8 and 9, of cards that could be read, say.
 fn asking(to: &impl Print, deck: &[u8], refusal: usize, place: usize) {
     let Ok(asked) = read(deck) else {
-        say(to, "the cards do not go together");
+        phrase(to, "the cards do not go together");
         return;
     };
     if refusal == 8 {
@@ -64,9 +64,9 @@ fn key(deck: &[u8]) -> usize {
 
 // A card and a column, a field, a half byte.
 fn where_it_is(to: &impl Print, deck: &[u8], refusal: usize, place: usize, column: usize) {
-    say(to, ", at ");
+    phrase(to, ", at ");
     match refusal {
-        9 => say(to, format_args!("field {place}")),
+        9 => phrase(to, format_args!("field {place}")),
         10 => half(to, place, key(deck)),
         _ => line_words::spot(to, place, column),
     }
@@ -74,11 +74,11 @@ fn where_it_is(to: &impl Print, deck: &[u8], refusal: usize, place: usize, colum
 
 pub(crate) fn explain(to: &impl Print, deck: &[u8], refusal: usize, place: usize, column: usize) {
     where_it_is(to, deck, refusal, place, column);
-    say(to, ": ");
+    phrase(to, ": ");
     match refusal {
-        6 => say(to, "the 65th field stands on this card; 64 are allowed"),
+        6 => phrase(to, "the 65th field stands on this card; 64 are allowed"),
         8 | 9 => asking(to, deck, refusal, place),
-        10 => say(
+        10 => phrase(
             to,
             "no value of this half byte would do for all fields that read it",
         ),

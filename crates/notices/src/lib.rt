@@ -14,65 +14,65 @@ pub use field::{Numbered, last_reader, last_writer};
 use plans::DeckPlan;
 use std::io::Print;
 pub use taken::{left_out, none_taken};
-pub use words::{because, fail, many, say, say_bytes};
+pub use words::{because, fail, many, number, phrase, say};
 
 // The numbers on standard output, with a blank between.
 pub fn line(rt: &HostRuntime, numbers: &[usize]) {
     for (i, number) in numbers.iter().enumerate() {
         if i > 0 {
-            say(rt, " ");
+            phrase(rt, " ");
         }
-        say(rt, number);
+        phrase(rt, number);
     }
     if let Err(why) = rt.write_all(b"\n") {
-        fail(&rt.stderr(), "standard output", why);
+        fail(&rt.stderr(), b"standard output", why);
     }
 }
 
 // A byte of an input record, from 1: behind a key of so many bytes people count those of the data from 1 again, as cards do.
 fn byte(to: &impl Print, n: usize, key: usize) {
     if key == 0 {
-        say(to, n);
+        phrase(to, n);
     } else if n <= key {
-        say(to, format_args!("{n} of the key"));
+        phrase(to, format_args!("{n} of the key"));
     } else {
-        say(to, format_args!("{} of the data", n - key));
+        phrase(to, format_args!("{} of the data", n - key));
     }
 }
 
 // Half 2i is the high half of byte i, from 0, through the key first.
 pub fn half_of_byte(to: &impl Print, place: usize, key: usize) {
     let half = if place % 2 == 0 { "high" } else { "low" };
-    say(to, format_args!("the {half} half of byte "));
+    phrase(to, format_args!("the {half} half of byte "));
     byte(to, place / 2 + 1, key);
 }
 
 fn half(to: &impl Print, place: usize, key: usize) {
-    say(to, format_args!("half byte {place}, "));
+    phrase(to, format_args!("half byte {place}, "));
     half_of_byte(to, place, key);
-    say(to, " of the input record");
+    phrase(to, " of the input record");
 }
 
 // A refusal of a deck, by its number, its place and its column, or 0 for none; the deck has the card.
 pub fn refused(to: &impl Print, deck: &[u8], refusal: usize, place: usize, column: usize) {
-    say(to, format_args!("refused by {refusal}"));
+    phrase(to, format_args!("refused by {refusal}"));
     if refusal < 11 {
         deck::explain(to, deck, refusal, place, column);
     } else {
-        say(
+        phrase(
             to,
             ": the plan keeps: no two records become alike, so there are no twins to show",
         );
     }
-    say(to, "\n");
+    phrase(to, "\n");
     line_words::show(to, deck, place, column);
 }
 
 // A half byte of the first n bytes is lost, or the tail, whose place is 2n.
 fn lost(to: &impl Print, n: usize, key: usize, place: usize) {
-    say(to, "the plan loses: ");
+    phrase(to, "the plan loses: ");
     if place / 2 == n {
-        say(
+        phrase(
             to,
             format_args!(
                 "the tail, all data past the first {n} bytes, is dropped; records that differ only there become alike\n"
@@ -81,7 +81,7 @@ fn lost(to: &impl Print, n: usize, key: usize, place: usize) {
         return;
     }
     half(to, place, key);
-    say(
+    phrase(
         to,
         ", is not in the output; records that differ only there become alike\n",
     );
@@ -93,6 +93,6 @@ pub fn loss(to: &impl Print, plan: DeckPlan) {
         let asked = plan.asked;
         let input = asked.input;
         lost(to, terms::record_length(input), asked.key, plan.answer.lost);
-        say(to, "'./bhexodana twins DECK' shows two such records\n");
+        phrase(to, "'./bhexodana twins DECK' shows two such records\n");
     }
 }

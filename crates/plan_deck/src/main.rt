@@ -43,6 +43,6 @@ fn main(rt: HostRuntime) {
         Ok(n) => whole(&rt, &room[..n]),
         // A deck that is longer than the room is refused without a column, so its cards are not asked for.
         Err(NoDeck::Refused(refusal)) => refused(&rt, b"", refusal.number, refusal.place, 0),
-        Err(NoDeck::Failed { why, .. }) => notices::fail(&rt.stderr(), "standard input", why),
+        Err(NoDeck::Failed { why, .. }) => notices::fail(&rt.stderr(), b"standard input", why),
     }
 }

@@ -1,7 +1,7 @@
 // Refusal 13: which byte of a record a field may not read. Document 01, "Half bytes".
 use std::io::Print;
 use terms::{Asked, Field, Kind, ZONE};
-use words::{say, say_bytes};
+use words::{phrase, say};
 
 // A half of a byte, by its value: the one that comes first, or the other.
 #[derive(Clone, Copy)]
@@ -92,11 +92,11 @@ fn first_refused(fields: &[u16], record: &[u8]) -> Option<Refused> {
 // Says a position of a record, behind a key of so many bytes.
 fn say_position(to: &impl Print, position: usize, key: usize) {
     if key == 0 {
-        say(to, format_args!("byte {position} of the record"));
+        phrase(to, format_args!("byte {position} of the record"));
     } else if position <= key {
-        say(to, format_args!("byte {position} of the key"));
+        phrase(to, format_args!("byte {position} of the key"));
     } else {
-        say(to, format_args!("byte {} of the data", position - key));
+        phrase(to, format_args!("byte {} of the data", position - key));
     }
 }
 
@@ -115,12 +115,12 @@ fn asked_by(kind: Kind, is_last: bool) -> &'static str {
 fn say_refused(to: &impl Print, deck: &[u8], key: usize, refused: Refused) {
     let field = refused.field;
     notices::field_on_card(to, deck, key, refused.number, field);
-    say(to, ", reads ");
+    phrase(to, ", reads ");
     say_position(to, refused.position, key);
-    say(to, ", which is hex ");
-    say_bytes(to, &hexadecimal::hex(refused.byte));
-    say(to, ": ");
-    say(
+    phrase(to, ", which is hex ");
+    say(to, &hexadecimal::hex(refused.byte));
+    phrase(to, ": ");
+    phrase(
         to,
         asked_by(field.kind, left(field, refused.position) == Some(1)),
     );
@@ -128,7 +128,7 @@ fn say_refused(to: &impl Print, deck: &[u8], key: usize, refused: Refused) {
 
 // What is said where nothing else was found.
 fn say_wrong(to: &impl Print) {
-    say(to, "this record has a half byte that a field may not read");
+    phrase(to, "this record has a half byte that a field may not read");
 }
 
 // Says the first byte of the record of a place that a field may not read, and the first such field.
@@ -151,7 +151,7 @@ fn say_record(
 
 // Says which byte of the record of a place, from 1, a field may not read. A deck that runs has a plan.
 pub(crate) fn explain(to: &impl Print, deck: &[u8], reel: &[u8], place: usize) {
-    say(to, format_args!(", at record {place} of the input: "));
+    phrase(to, format_args!(", at record {place} of the input: "));
     let mut row = [0u16; 320];
     let plan = plans::plan_deck(deck, &mut row);
     if plan.answer.refusal != 0 {

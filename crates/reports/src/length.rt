@@ -2,7 +2,7 @@
 use pieces::Cursor;
 use std::io::Print;
 use terms::{Asked, Task};
-use words::say;
+use words::phrase;
 
 // What an output block comes to behind a record of the input: the record's number, how many of its input block are taken, the bytes of their output with the block's
 // word, and the bytes of this record's alone, with its own word.
@@ -77,8 +77,8 @@ fn behind_record(task: Task, reel: &[u8], place: usize) -> Filled {
 fn say_before(to: &impl Print, taken: usize) {
     match taken {
         0 | 1 => (),
-        2 => say(to, "with the record before it in its block"),
-        _ => say(
+        2 => phrase(to, "with the record before it in its block"),
+        _ => phrase(
             to,
             format_args!("with the {} records before it in its block", taken - 1),
         ),
@@ -86,7 +86,7 @@ fn say_before(to: &impl Print, taken: usize) {
 }
 
 fn say_sizes(to: &impl Print, bytes: usize, limit: usize) {
-    say(
+    phrase(
         to,
         format_args!(" has {bytes} bytes with its words, and a block of B at most {limit}"),
     );
@@ -94,25 +94,25 @@ fn say_sizes(to: &impl Print, bytes: usize, limit: usize) {
 
 // Says by what length the output of the record of a place, from 1, does not fit a block of B.
 pub(crate) fn explain(to: &impl Print, asked: Asked, reel: &[u8], place: usize) {
-    say(to, format_args!(", at record {place} of the input: "));
+    phrase(to, format_args!(", at record {place} of the input: "));
     let task = tasks::task_of(asked);
     let filled = behind_record(task, reel, place);
     let alone = task.cost.saturating_add(filled.last);
     if alone > task.limit {
-        say(to, "the output of this record");
+        phrase(to, "the output of this record");
         say_sizes(to, alone, task.limit);
     } else if filled.bytes > task.limit {
         say_before(to, filled.taken);
-        say(to, " the output");
+        phrase(to, " the output");
         say_sizes(to, filled.bytes, task.limit);
     } else {
-        say(to, "the output of this record does not fit a block of B");
+        phrase(to, "the output of this record does not fit a block of B");
     }
 }
 
 // Says how long the output reel would be.
 pub(crate) fn too_long(to: &impl Print, length: usize) {
-    say(
+    phrase(
         to,
         format_args!(
             ": the output reel would have {length} bytes, more than the 65,536 that a reel may have; larger blocks in B, or fewer records, make it shorter"

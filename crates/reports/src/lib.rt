@@ -11,7 +11,7 @@ use plans::DeckPlan;
 use std::io::Print;
 use terms::Asked;
 pub use words::many;
-use words::say;
+use words::phrase;
 
 // The plan of a deck, without its fields.
 fn plan_of(deck: &[u8]) -> DeckPlan {
@@ -52,24 +52,24 @@ pub fn refused(
         notices::refused(to, deck, refusal, place, column);
         return;
     }
-    say(to, format_args!("refused by {refusal}"));
+    phrase(to, format_args!("refused by {refusal}"));
     match refusal {
-        11 => block_words::no_reel(to, "the input", reel),
+        11 => block_words::no_reel(to, b"the input", reel),
         12 => block_words::wrong_block(to, by_a(plan_of(deck).asked), reel, place),
         13 => half::explain(to, deck, reel, place),
         14 => length::explain(to, plan_of(deck).asked, reel, place),
         _ => length::too_long(to, place),
     }
-    say(to, "\n");
+    phrase(to, "\n");
 }
 
 // Refusals 17 and 18 of a reel from elsewhere.
 pub fn refused_theirs(to: &impl Print, deck: &[u8], theirs: &[u8], refusal: usize, place: usize) {
-    say(to, format_args!("refused by {refusal}"));
+    phrase(to, format_args!("refused by {refusal}"));
     if refusal == 17 {
-        block_words::no_reel(to, "theirs", theirs);
+        block_words::no_reel(to, b"theirs", theirs);
     } else {
         block_words::wrong_block(to, by_b(plan_of(deck).asked), theirs, place);
     }
-    say(to, "\n");
+    phrase(to, "\n");
 }

@@ -3,7 +3,7 @@
 ghost use Rattle.std.specs.Prelude.{◌+◌, ◌<◌, ◌^◌};
 
 use crate::room;
-use notices::{say, say_bytes};
+use notices::{phrase, say};
 use std::io::{Cursor, Print, Write};
 
 const BLANK: u8 = b' ';
@@ -65,16 +65,16 @@ fn say_record(to: &impl Print, position: Option<usize>, name: &str, bytes: &[u8]
     }
     room::put(&mut row, 8, name.as_bytes());
     put_bytes(&mut row, bytes);
-    say_bytes(to, row.trim_ascii_end());
-    say(to, "\n");
+    say(to, row.trim_ascii_end());
+    phrase(to, "\n");
 }
 
 fn say_carets(to: &impl Print, difference: Difference) {
     let mut row = [BLANK; 52];
     let Difference { byte, high, low } = difference;
     room::put(&mut row, column(byte), &[high, low]);
-    say_bytes(to, row.trim_ascii_end());
-    say(to, "\n");
+    say(to, row.trim_ascii_end());
+    phrase(to, "\n");
 }
 
 // Says the row at a place of a record, or of two with the carets where they differ in this row.
@@ -100,7 +100,7 @@ fn repeats(record: &[u8], at: usize) -> bool {
 
 // Says that the rows above, up to a byte, were left out.
 fn say_left_out(to: &impl Print, byte: usize) {
-    say(to, format_args!("        the same up to byte {byte}\n"));
+    phrase(to, format_args!("        the same up to byte {byte}\n"));
 }
 
 // Says the rows of so many bytes.

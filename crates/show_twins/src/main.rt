@@ -54,7 +54,7 @@ fn write_reel(
     let mut room = io::large_buffer();
     let Some(reel) = blocks::reel(asked.format, asked.first, first, second, &mut room) else {
         files::say_name(&rt.stderr(), path);
-        notices::say(
+        notices::phrase(
             &rt.stderr(),
             ": not written: with the records before R the reel would have more than 65,536 bytes\n",
         );
@@ -76,10 +76,10 @@ fn explain(
 )
     requires { PlanFair asked fields.now }
 {
-    notices::say(to, "two records that this deck makes one:\n");
+    notices::phrase(to, "two records that this deck makes one:\n");
     hex::pair(to, first, second, hex::lost_digits(lost, reason == 4));
     reason::explain(to, deck, asked, fields, reason, lost);
-    notices::say(to, "both become:\n");
+    notices::phrase(to, "both become:\n");
     outcome::show(to, asked, fields, first);
 }
 
@@ -168,7 +168,7 @@ fn show_named(rt: &HostRuntime, wanted: Wanted) {
 fn main(rt: HostRuntime) {
     match arguments::read(&rt) {
         Some(wanted) => show_named(&rt, wanted),
-        None => notices::say(
+        None => notices::phrase(
             &rt.stderr(),
             "usage: show_twins DECK [records FILE] [reel FILE]\n",
         ),

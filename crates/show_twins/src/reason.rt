@@ -1,21 +1,21 @@
 // Why the twins become alike, in words: the reason is that of the last field that reads the lost half.
 use crate::fields;
-use notices::{Numbered, half_of_byte, many, say};
+use notices::{Numbered, half_of_byte, many, phrase};
 use std::io::Print;
 use terms::Asked;
 
 fn not_read(to: &impl Print, key: usize, lost: usize) {
-    say(to, "no field reads ");
+    phrase(to, "no field reads ");
     half_of_byte(to, lost, key);
 }
 
 fn dropped(to: &impl Print, deck: &[u8], key: usize, reader: Numbered, lost: usize) {
     fields::say_field(to, deck, key, reader);
-    say(to, ", has room for ");
-    many(to, fields::digits(reader.field), "digit");
-    say(to, ": the digit in ");
+    phrase(to, ", has room for ");
+    many(to, fields::digits(reader.field), b"digit");
+    phrase(to, ": the digit in ");
     half_of_byte(to, lost, key);
-    say(to, " is dropped");
+    phrase(to, " is dropped");
 }
 
 // The field that covers the half writes its byte last, so that it comes behind the one that reads it.
@@ -29,21 +29,21 @@ fn covered(
 ) {
     let byte = fields::output_byte(reader.field, lost);
     fields::say_field(to, deck, key, reader);
-    say(to, ", is the last that reads ");
+    phrase(to, ", is the last that reads ");
     half_of_byte(to, lost, key);
-    say(
+    phrase(
         to,
         format_args!("; it writes it to byte {byte} of the output, and "),
     );
     if let Some(writer) = notices::last_writer(fields, byte) {
         fields::say_field(to, deck, key, writer);
     }
-    say(to, ", covers that");
+    phrase(to, ", covers that");
 }
 
 fn tail(to: &impl Print, asked: Asked) {
     let length = terms::record_length(asked.input);
-    say(
+    phrase(
         to,
         format_args!(
             "the tail, all data past the first {length} bytes, is dropped: CV is not given"
@@ -68,5 +68,5 @@ pub(crate) fn explain(
         (4, _) => tail(to, asked),
         _ => not_read(to, key, lost),
     }
-    say(to, "\n");
+    phrase(to, "\n");
 }

@@ -8,20 +8,25 @@ pub use reason::{because, fail};
 use std::fmt::Display;
 use std::io::Print;
 
+// Says bytes, which need be no text: the name of a file or a card may be any.
+pub fn say(to: &impl Print, text: &[u8]) {
+    let _ = to.write_all(text);
+}
+
 // Says a text, a number, or what `format_args!` makes of them.
-pub fn say(to: &impl Print, what: impl Display + Drop) {
+pub fn phrase(to: &impl Print, what: impl Display + Drop) {
     let _ = to.print(what);
 }
 
-// Says bytes that need not be text, as the name of a file or a card.
-pub fn say_bytes(to: &impl Print, bytes: &[u8]) {
-    let _ = to.write_all(bytes);
+pub fn number(to: &impl Print, n: usize) {
+    phrase(to, n);
 }
 
 // Says so many of what has this name.
-pub fn many(to: &impl Print, count: usize, name: &str) {
-    say(to, format_args!("{count} {name}"));
+pub fn many(to: &impl Print, count: usize, name: &[u8]) {
+    phrase(to, format_args!("{count} "));
+    say(to, name);
     if count != 1 {
-        say(to, "s");
+        phrase(to, "s");
     }
 }

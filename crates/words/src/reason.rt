@@ -1,7 +1,7 @@
 // Why a call of the system failed, in the system's own words.
 ghost use Rattle.io.specs.Counts.{IsPrefixLen};
 
-use crate::{say, say_bytes};
+use crate::{phrase, say};
 use std::io::{Cursor, Error, Print, Write};
 
 // What std writes behind the system's words: the error's number follows, and a parenthesis. People are told the words alone.
@@ -25,13 +25,13 @@ pub fn because(to: &impl Print, why: Error) {
     let _ = write!(written, "{why}");
     let room = written.into_inner();
     let n = words_length(&room);
-    say(to, ": ");
-    say_bytes(to, &room[..n]);
-    say(to, "\n");
+    phrase(to, ": ");
+    say(to, &room[..n]);
+    phrase(to, "\n");
 }
 
 // Says a line: what failed, as the caller names it, a colon and why.
-pub fn fail(to: &impl Print, what: &str, why: Error) {
+pub fn fail(to: &impl Print, what: &[u8], why: Error) {
     say(to, what);
     because(to, why);
 }
