@@ -79,7 +79,7 @@ fn convert_named(
     requires { PlanFair asked fields.now }
 {
     let mut blocks = files::reel_room();
-    let Some(reel) = files::reel(rt, name, &mut blocks) else {
+    let Ok(reel) = files::reel(rt, name, &mut blocks) else {
         return;
     };
     let mut room = io::large_buffer();

@@ -1,10 +1,10 @@
 // What the arguments give: names of files, and the deck and the reel that two of them name. What fails is said on standard error.
-ghost use Rattle.std.specs.Prelude.{◌≡◌, ◌≤◌, length, replicate, IfSome};
+ghost use Rattle.std.specs.Prelude.{◌≡◌, ◌≤◌, length, replicate, IfSome, IfOk, IfErr};
 ghost use Rattle.io.specs.Counts.{IsPrefixLen};
 ghost use Rattle.inputs.specs.Reading.{known_of, bytes_known};
 
 use crate::{paths, shown};
-use inputs::NoDeck;
+use inputs::{NoDeck, ReadFailure};
 use std::fs::File;
 use std::io::Result as IoResult;
 
@@ -60,16 +60,21 @@ pub fn reel_room() -> [u8; 65537]
     [0; 65537]
 }
 
-// The first bytes of a file, as many as the room takes, in the room. Where they cannot be read, that is said.
-pub fn reel<'a>(rt: &HostRuntime, path: &[u8], room: &'a mut [u8]) -> Option<&'a [u8]>
-    ensures { IfSome result (λ reel. length reel.now ≤ length room.old) }
+// The first bytes of a file, as many as the room takes, in the room. Where they cannot be read, that is said, and the failure has how many were read before: none where
+// the file cannot be opened.
+pub fn reel<'a>(rt: &HostRuntime, path: &[u8], room: &'a mut [u8]) -> Result<&'a [u8], ReadFailure>
+    ensures read { IfOk result (λ reel. length reel.now ≤ length room.old) }
+    ensures failed { IfErr result (λ failure. failure.length ≤ length room.old) }
 {
-    let mut from = open(rt, path).ok()?;
+    let mut from = match open(rt, path) {
+        Ok(file) => file,
+        Err(why) => return Err(ReadFailure { length: 0, why }),
+    };
     match inputs::fill(&mut from, room) {
-        Ok(n) => Some(&room[..n]),
+        Ok(n) => Ok(&room[..n]),
         Err(failure) => {
             shown::fail(&rt.stderr(), path, failure.why);
-            None
+            Err(failure)
         }
     }
 }

@@ -83,11 +83,11 @@ fn judge_files(rt: &HostRuntime, deck: &[u8], ours: &[u8], theirs: &[u8]) {
         return;
     }
     let mut blocks = files::reel_room();
-    let Some(ours) = files::reel(rt, ours, &mut blocks) else {
+    let Ok(ours) = files::reel(rt, ours, &mut blocks) else {
         return;
     };
     let mut others = files::reel_room();
-    let Some(theirs) = files::reel(rt, theirs, &mut others) else {
+    let Ok(theirs) = files::reel(rt, theirs, &mut others) else {
         return;
     };
     match read {
