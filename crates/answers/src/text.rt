@@ -79,7 +79,9 @@ fn put_part(part: &[u8], out: &mut [u8]) -> usize
 }
 
 // Puts the bytes of all parts, as far as there is room, and answers them.
-pub(crate) fn decode<'a>(s: &[u8], room: &'a mut [u8]) -> &'a [u8] {
+pub(crate) fn decode<'a>(s: &[u8], room: &'a mut [u8]) -> &'a [u8]
+    ensures { length result.now ≤ length room.old }
+{
     let mut done = 0;
     for part in s.split(|b| *b == b'+') {
         done += put_part(part, &mut room[done..]);

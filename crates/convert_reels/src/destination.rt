@@ -1,5 +1,5 @@
 // Where the outputs go, as the arguments give it: a folder, or a file and its mode.
-ghost use Rattle.std.specs.Prelude.{◌≤◌, length, IfSome};
+ghost use Rattle.std.specs.Prelude.{◌≡◌, ◌≤◌, ◌⊎◌, length, IfSome};
 
 use crate::form::Form;
 use crate::mode;
@@ -38,11 +38,9 @@ fn mode(rt: &HostRuntime, form: Form) -> Result<Option<u32>, NoMode> {
 }
 
 // None where the mode or the name is wrong; all that is wrong is said.
-pub(crate) fn read<'a>(
-    rt: &HostRuntime,
-    form: Form,
-    room: &'a mut [u8],
-) -> Option<Destination<'a>> {
+pub(crate) fn read<'a>(rt: &HostRuntime, form: Form, room: &'a mut [u8]) -> Option<Destination<'a>>
+    ensures { IfSome result (λ destination. IfSome destination.out (λ out. length out.now ≤ length room.old)) }
+{
     let mode = mode(rt, form);
     let out = match form.out {
         Some(argument) => Some(files::name(rt, argument, room)?),
@@ -55,7 +53,9 @@ pub(crate) fn read<'a>(
 }
 
 // The output's name, in the room. One that fills the room is longer than any that a file may have.
-pub(crate) fn name<'a>(form: Form, out: &'a [u8], reel: &[u8], room: &'a mut [u8]) -> &'a [u8] {
+pub(crate) fn name<'a>(form: Form, out: &'a [u8], reel: &[u8], room: &'a mut [u8]) -> &'a [u8]
+    ensures { (length result.now ≤ length room.old) ⊎ (result.now ≡ out.now) }
+{
     if form.folder {
         return files::put_in(room, out, reel);
     }

@@ -1,4 +1,5 @@
 // Which files the arguments ask for behind the deck: `records FILE` and `reel FILE`, in either order, each at most once.
+ghost use Rattle.std.specs.Prelude.{◌≤◌, length, IfOk, IfSome};
 
 // The argument that names each file, if it is asked for.
 #[derive(Clone, Copy)]
@@ -48,7 +49,9 @@ pub(crate) fn file<'a>(
     rt: &HostRuntime,
     argument: Option<usize>,
     room: &'a mut [u8],
-) -> Result<Option<&'a [u8]>, NoName> {
+) -> Result<Option<&'a [u8]>, NoName>
+    ensures { IfOk result (λ given. IfSome given (λ name. length name.now ≤ length room.old)) }
+{
     match argument {
         Some(argument) => match files::name(rt, argument, room) {
             Some(name) => Ok(Some(name)),
