@@ -3,7 +3,7 @@ ghost use Rattle.std.specs.Prelude.{◌≤◌, length};
 ghost use Rattle.rows.specs.Flat.{Fielded};
 ghost use Rattle.rows.specs.Fair.{PlanFair};
 
-use notices::{Numbered, phrase};
+use notices::{Numbered, phrase, say};
 use std::io::Print;
 use terms::{Asked, Task};
 
@@ -60,10 +60,10 @@ fn say_byte(
     else {
         return;
     };
-    phrase(
-        to,
-        format_args!(" in byte {position}: ours gives {ours:02X}, theirs has {theirs:02X}"),
-    );
+    phrase(to, format_args!(" in byte {position}: ours gives "));
+    say(to, &hexadecimal::hex(ours));
+    phrase(to, ", theirs has ");
+    say(to, &hexadecimal::hex(theirs));
     say_writer(to, deck, asked, fields, position);
 }
 
