@@ -10,7 +10,7 @@ use terms::{Asked, Field};
 
 // A word and numbers.
 fn line(rt: &HostRuntime, word: &str, numbers: &[usize]) {
-    notices::say(rt, word);
+    notices::phrase(rt, word);
     notices::line(rt, numbers);
 }
 
@@ -58,30 +58,35 @@ fn all_fields(rt: &HostRuntime, deck: &[u8], fields: &[u16]) {
     }
 }
 
-// Whether the run of lost halves that has a half goes on in the next: both are lost for one reason, and the same field is the last that reads them.
-fn is_lost_alike(fields: &[u16], halves: &[u8; 8192], h: usize) -> bool
-    requires row_inside { RowInside fields.now 4096 4096 }
-    requires next_in_bounds { h + 1 < 8192 }
+// The last field that reads a lost half; of a half that is not lost, or behind the last, none is looked for: that takes a walk over all fields.
+fn lost_reader(fields: &[u16], halves: &[u8; 8192], h: usize) -> Option<usize>
+    requires { RowInside fields.now 4096 4096 }
 {
-    halves[h] == halves[h + 1]
-        && losses::last_reader(fields, h) == losses::last_reader(fields, h + 1)
+    if h < 8192 && halves[h] > 0 {
+        return losses::last_reader(fields, h);
+    }
+    None
 }
 
-// Each run of lost halves: the first and the last, why (1 never read, 2 dropped by a short field, 3 covered later), and the last field that reads them, or 0.
+// Each run of lost halves: the first and the last, why (1 never read, 2 dropped by a short field, 3 covered later), and the last field that reads them, or 0. A run goes on
+// as long as its halves are lost for one reason and the same field is the last that reads them.
 fn lost_runs(rt: &HostRuntime, fields: &[u16], halves: &[u8; 8192], many: usize)
     requires row_inside { RowInside fields.now 4096 4096 }
     requires many_bound { many ≤ 8192 }
 {
     let mut first = 0;
+    let mut reader = lost_reader(fields, halves, 0);
     for h in 0..many {
-        if h + 1 < many && is_lost_alike(fields, halves, h) {
+        let next = lost_reader(fields, halves, h + 1);
+        if h + 1 < many && halves[h] == halves[h + 1] && reader == next {
             continue;
         }
         if halves[h] > 0 {
-            let reader = losses::last_reader(fields, h).unwrap_or(0);
-            line(rt, "lost ", &[first, h, usize::from(halves[h]), reader]);
+            let why = usize::from(halves[h]);
+            line(rt, "lost ", &[first, h, why, reader.unwrap_or(0)]);
         }
         first = h + 1;
+        reader = next;
     }
 }
 
@@ -107,19 +112,21 @@ fn tail(rt: &HostRuntime, asked: Asked)
     line(rt, "tail ", &[becomes]);
 }
 
-// Each run of output bytes: the first and the last, from 1, and the field that writes them last, or 0 for blanks.
+// Each run of output bytes: the first and the last, from 1, and the field that writes them last, or 0 for blanks. That field is looked for once for each byte.
 fn all_written(rt: &HostRuntime, fields: &[u16], width: usize)
     requires row_inside { RowInside fields.now 4096 4096 }
     requires width_bound { width ≤ 4096 }
 {
     let mut first = 1;
+    let mut writer = losses::last_writer(fields, 1);
     for i in 1..=width {
-        let writer = losses::last_writer(fields, i);
-        if i < width && losses::last_writer(fields, i + 1) == writer {
+        let next = losses::last_writer(fields, i + 1);
+        if i < width && writer == next {
             continue;
         }
         line(rt, "output ", &[first, i, writer.unwrap_or(0)]);
         first = i + 1;
+        writer = next;
     }
 }
 
