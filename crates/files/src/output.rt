@@ -78,15 +78,29 @@ fn fill_and_rename(
     paths::rename(rt, part, path)
 }
 
-// Makes the part, fills it and renames it. Where that fails the part is gone.
-fn replace(rt: &HostRuntime, path: &[u8], bytes: &[u8], mode: Option<u32>) -> Result<()> {
-    let Part { file, name } = make_part(rt, path)?;
-    let part = room::written(&name);
-    let replaced = fill_and_rename(rt, file, part, bytes, mode, path);
-    if replaced.is_err() {
-        let _ = paths::remove(rt, part);
+// Fills the part and renames it, and answers whether that is done. Where it fails, that is said, and then the part is gone.
+fn complete(rt: &HostRuntime, part: Part, bytes: &[u8], mode: Option<u32>, path: &[u8]) -> bool {
+    let Part { file, name } = part;
+    let named = room::written(&name);
+    match fill_and_rename(rt, file, named, bytes, mode, path) {
+        Ok(()) => true,
+        Err(why) => {
+            shown::fail(&rt.stderr(), path, why);
+            let _ = paths::remove(rt, named);
+            false
+        }
     }
-    replaced
+}
+
+// Makes the part, fills it and renames it, and answers whether that is done.
+fn replace(rt: &HostRuntime, path: &[u8], bytes: &[u8], mode: Option<u32>) -> bool {
+    match make_part(rt, path) {
+        Ok(part) => complete(rt, part, bytes, mode, path),
+        Err(why) => {
+            shown::fail(&rt.stderr(), path, why);
+            false
+        }
+    }
 }
 
 // Whether a device or a pipe has the name, from which a rename would take it: the system refuses to bring these onto a device as invalid. What cannot be opened is left
@@ -108,11 +122,5 @@ pub fn write(rt: &HostRuntime, path: &[u8], bytes: &[u8], mode: Option<u32>) -> 
         );
         return false;
     }
-    match replace(rt, path, bytes, mode) {
-        Ok(()) => true,
-        Err(why) => {
-            shown::fail(&rt.stderr(), path, why);
-            false
-        }
-    }
+    replace(rt, path, bytes, mode)
 }
