@@ -105,12 +105,12 @@ pub start_bad : (f : Format) (b : List ℕ) → good_start f b ≡ false → Non
 unfolding start_in
 start_bad f b e = rw e
 
-variable_good : (b : List ℕ) (v : ℕ) → length_word_of 0 4 b ≡ Some v → v ≡ length b → Some (record { at = 4 }) ≡ variable_start b
+pub variable_good : (b : List ℕ) (v : ℕ) → length_word_of 0 4 b ≡ Some v → v ≡ length b → Some (record { at = 4 }) ≡ variable_start b
 variable_good b v e l =
     let h = length_told 0 4 b v e in
     start_good fv b (rw h.0 (eq-eqb (word_length b) (length b) (sym h.1 ∙ l)))
 
-variable_other : (b : List ℕ) (v : ℕ) → length_word_of 0 4 b ≡ Some v → (v ≡ length b → ⊥) → None ≡ variable_start b
+pub variable_other : (b : List ℕ) (v : ℕ) → length_word_of 0 4 b ≡ Some v → (v ≡ length b → ⊥) → None ≡ variable_start b
 variable_other b v e f =
     let h = length_told 0 4 b v e in
     start_bad fv b (rw h.0 (ne_eqb (word_length b) (length b) (λ q. f (h.1 ∙ q))))

@@ -25,7 +25,7 @@ pub no_reel : (s : List ℕ) → is_reel s ≡ false → None ≡ header_of s
 unfolding header_of
 no_reel s e = rw e
 
-a_reel : (s : List ℕ) (k : ℕ) → is_reel s ≡ true → block_count s ≡ k → Some k ≡ header_of s
+pub a_reel : (s : List ℕ) (k : ℕ) → is_reel s ≡ true → block_count s ≡ k → Some k ≡ header_of s
 unfolding header_of
 a_reel s k e c = rw (e, c)
 

@@ -63,10 +63,10 @@ pub fn field_at(fields: &[u16], i: usize) -> Field
     let at = 5 * i;
     Field {
         kind: kind_at(fields[at]),
-        r: usize::from(fields[at + 1]),
-        input: usize::from(fields[at + 2]),
-        output: usize::from(fields[at + 3]),
-        t: usize::from(fields[at + 4]),
+        r: wide(fields[at + 1]),
+        input: wide(fields[at + 2]),
+        output: wide(fields[at + 3]),
+        t: wide(fields[at + 4]),
     }
 }
 
