@@ -142,7 +142,7 @@ fn case(to: &impl Print, line: &[u8]) {
     let (name, rest) = text::cut(line, b' ');
     let (subject, words) = text::cut(rest, b' ');
     say(to, name);
-    phrase(to, " ");
+    say(to, b" ");
     match subject {
         b"half" => half(to, words),
         b"deck" => deck(to, words),
@@ -153,7 +153,7 @@ fn case(to: &impl Print, line: &[u8]) {
         b"judge" => deck_and_two_reels(to, words),
         _ => phrase(to, "is no case"),
     }
-    phrase(to, "\n");
+    say(to, b"\n");
 }
 
 // An empty line is a comment too.
