@@ -1,9 +1,10 @@
--- The last field that passes a test, field by field: one more field of the row takes the number one step on, by going along the fields. And which positions a
+-- The last field that passes a test, from the last field back: as long as none passes, the fields behind leave the last what it is. And which positions a
 -- field of the code writes is what the rules say of its meaning.
-use mathlib.Core.Path.{◌≡◌, ap, ap₂, sym, ◌∙◌}
+use mathlib.Core.Path.{◌≡◌, refl, ap, sym, ◌∙◌}
 use mathlib.Core.Bool.{Bool, true, false, cond, ◌&&◌}
-use mathlib.Core.List.{List, ◌∷◌}
-use Prim.Native.Nat.{ℕ, ◌+◌, ◌*◌, ◌/◌, ◌≤◌, ◌<◌}
+use mathlib.Core.List.{List, [], ◌∷◌}
+use Prim.Native.Nat.{ℕ, zero, suc, ◌+◌, ◌*◌, ◌/◌, ◌≤◌, ◌<◌}
+use native.Mathlib.Omega.{arith}
 use native.Mathlib.Numerals.{add-one}
 use lib.Dec.{ltb, leb}
 use lib.ListN.{length, drop}
@@ -21,24 +22,42 @@ use Rattle.sources.specs.Promise.{FieldInside}
 
 -- ---- the last field
 
+-- the first k fields make of the last so far some number, from which the others go on
+pub last_split : (q : RuleField → Bool) (x i k : ℕ) (fs : List RuleField) → (y : ℕ) × (last_from q x i fs ≡ last_from q y (i + k) (drop k fs))
+last_split q x i zero fs =
+    let e : i ≡ i + 0 = omega arith in
+    (x, ap (λ (n : ℕ). last_from q x n fs) e)
+last_split q x i (suc k) [] = (x, refl)
+last_split q x i (suc k) (f ∷ fs) =
+    let s = last_split q (cond (q f) i x) (suc i) k fs in
+    let e : suc i + k ≡ i + suc k = omega arith in
+    (s.0, s.1 ∙ ap (λ (n : ℕ). last_from q s.0 n (drop k fs)) e)
+
 module _ (q : RuleField → Bool) (row : List ℕ) where
-  -- one more field, which is f: the last is x before it and y behind it, and z in the end
-  module _ (k : ℕ) (l : 5 * k + 5 ≤ length row) (f : Field) (read : f ≡ field_at row k) (x y z : ℕ) (left : last_from q x (k + 1) (drop k (fields_in row)) ≡ z) where
-    one_more : y ≡ cond (q (field_of f)) (k + 1) x → last_from q y (k + 1 + 1) (drop (k + 1) (fields_in row)) ≡ z
-    one_more e =
-        ap₂ (λ (last next : ℕ). last_from q last next (drop (k + 1) (fields_in row))) e (add-one (k + 1))
-        ∙ sym (ap (last_from q x (k + 1)) (fields_on row k l ∙ ap (λ (g : Field). field_of g ∷ drop (k + 1) (fields_in row)) (sym read)))
-        ∙ left
+  -- the fields behind the first k leave the last what it is
+  abbrev pub Quiet : ℕ → Type 0
+  Quiet k = (x : ℕ) → last_from q x (k + 1) (drop k (fields_in row)) ≡ x
 
-    pub last_here : (t : Bool) → t ≡ q (field_of f) → t ≡ true → y ≡ k + 1 → last_from q y (k + 1 + 1) (drop (k + 1) (fields_in row)) ≡ z
-    last_here t s e p = one_more (rw (← s, e) p)
+  -- one field before those, which is f
+  module _ (k : ℕ) (l : 5 * k + 5 ≤ length row) (f : Field) (read : f ≡ field_at row k) (quiet : Quiet (k + 1)) where
+    one_before : (x : ℕ) → last_from q x (k + 1) (drop k (fields_in row)) ≡ cond (q (field_of f)) (k + 1) x
+    one_before x =
+        ap (last_from q x (k + 1)) (fields_on row k l ∙ ap (λ (g : Field). field_of g ∷ drop (k + 1) (fields_in row)) (sym read))
+        ∙ sym (ap (λ (next : ℕ). last_from q (cond (q (field_of f)) (k + 1) x) next (drop (k + 1) (fields_in row))) (add-one (k + 1)))
+        ∙ quiet (cond (q (field_of f)) (k + 1) x)
 
-    pub last_before : (t : Bool) → t ≡ q (field_of f) → t ≡ false → y ≡ x → last_from q y (k + 1 + 1) (drop (k + 1) (fields_in row)) ≡ z
-    last_before t s e p = one_more (rw (← s, e) p)
+    pub last_passed : (t : Bool) → t ≡ q (field_of f) → t ≡ false → Quiet k
+    last_passed t s e x = one_before x ∙ rw (← s, e)
 
-  -- after all fields the last is what it is
-  pub last_all : (k x : ℕ) → k ≡ length row / 5 → last_from q x (k + 1) (drop k (fields_in row)) ≡ x
-  last_all k x e = ap (last_from q x (k + 1)) (fields_end row k e)
+    pub last_here : (t : Bool) → t ≡ q (field_of f) → t ≡ true → k + 1 ≡ last_from q 0 1 (fields_in row)
+    last_here t s e =
+        let before = last_split q 0 1 k (fields_in row) in
+        let n : 1 + k ≡ k + 1 = omega arith in
+        sym (before.1 ∙ ap (λ (next : ℕ). last_from q before.0 next (drop k (fields_in row))) n ∙ one_before before.0 ∙ rw (← s, e))
+
+  -- behind all fields the last is what it is
+  pub last_all : (k : ℕ) → k ≡ length row / 5 → Quiet k
+  last_all k e x = ap (last_from q x (k + 1)) (fields_end row k e)
 
 -- ---- the positions that a field writes
 

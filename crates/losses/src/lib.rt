@@ -81,13 +81,12 @@ fn last<F: Fn(Field, usize) -> bool>(fields: &[u16], at: usize, passes: F) -> Op
     requires tests { (f : Field) → FieldInside 4096 4096 f → F.pre passes f at × ((r : Bool) → F.post passes f at r → r ≡ test (field_of f)) }
     ensures { result ≡ place_of (last_from test 0 1 (fields_in fields.now)) }
 {
-    let mut last = None;
-    for k in 0..fields.len() / 5 {
+    for k in (0..fields.len() / 5).rev() {
         if passes(rows::field_at(fields, k), at) {
-            last = Some(k + 1);
+            return Some(k + 1);
         }
     }
-    last
+    None
 }
 
 // The number of the last field that reads half h, from 1.

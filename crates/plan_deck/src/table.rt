@@ -58,11 +58,12 @@ fn all_fields(rt: &HostRuntime, deck: &[u8], fields: &[u16]) {
     }
 }
 
-// The last field that reads a lost half; of a half that is not lost, or behind the last, none is looked for: that takes a walk over all fields.
+// The last field that reads a lost half. It is looked for only where there is one, since that takes a walk over the fields: of a half that is not lost none is told, and
+// no field reads one that is lost since it is never read (1).
 fn lost_reader(fields: &[u16], halves: &[u8; 8192], h: usize) -> Option<usize>
     requires { RowInside fields.now 4096 4096 }
 {
-    if h < 8192 && halves[h] > 0 {
+    if h < 8192 && halves[h] > 1 {
         return losses::last_reader(fields, h);
     }
     None
