@@ -1,6 +1,6 @@
 -- The last field that passes a test, from the last field back: as long as none passes, the fields behind leave the last what it is. And which positions a
 -- field of the code writes is what the rules say of its meaning.
-use mathlib.Core.Path.{◌≡◌, refl, ap, sym, ◌∙◌}
+use mathlib.Core.Path.{◌≡◌, refl, ap, sym, subst, ◌∙◌}
 use mathlib.Core.Bool.{Bool, true, false, cond, ◌&&◌}
 use mathlib.Core.List.{List, [], ◌∷◌}
 use Prim.Native.Nat.{ℕ, zero, suc, ◌+◌, ◌*◌, ◌/◌, ◌≤◌, ◌<◌}
@@ -18,7 +18,7 @@ use Rattle.terms.proofs.FieldLaws.{output_of}
 use Rattle.rows.specs.Flat.{field_at}
 use Rattle.rows.specs.Kept.{fields_in}
 use Rattle.rows.proofs.RowLaws.{fields_on, fields_end}
-use Rattle.sources.specs.Promise.{FieldInside}
+use Rattle.sources.specs.Promise.{FieldInside, RowInside}
 
 -- ---- the last field
 
@@ -38,22 +38,24 @@ module _ (q : RuleField → Bool) (row : List ℕ) where
   abbrev pub Quiet : ℕ → Type 0
   Quiet k = (x : ℕ) → last_from q x (k + 1) (drop k (fields_in row)) ≡ x
 
-  -- one field before those, which is f
-  module _ (k : ℕ) (l : 5 * k + 5 ≤ length row) (f : Field) (read : f ≡ field_at row k) (quiet : Quiet (k + 1)) where
-    one_before : (x : ℕ) → last_from q x (k + 1) (drop k (fields_in row)) ≡ cond (q (field_of f)) (k + 1) x
+  -- one field before those, which is f, and what the code's test says of it
+  module _ (k : ℕ) (l : 5 * k + 5 ≤ length row) (f : Field) (read : f ≡ field_at row k) (n : ℕ) (next : n ≡ k + 1) (quiet : Quiet n) (inside : RowInside row 4096 4096) (t : Bool)
+      (says : FieldInside 4096 4096 f → t ≡ q (field_of f)) where
+    one_before : (x : ℕ) → last_from q x (k + 1) (drop k (fields_in row)) ≡ cond t (k + 1) x
     one_before x =
         ap (last_from q x (k + 1)) (fields_on row k l ∙ ap (λ (g : Field). field_of g ∷ drop (k + 1) (fields_in row)) (sym read))
         ∙ sym (ap (λ (next : ℕ). last_from q (cond (q (field_of f)) (k + 1) x) next (drop (k + 1) (fields_in row))) (add-one (k + 1)))
-        ∙ quiet (cond (q (field_of f)) (k + 1) x)
+        ∙ subst Quiet next quiet (cond (q (field_of f)) (k + 1) x)
+        ∙ ap (λ (b : Bool). cond b (k + 1) x) (sym (says (subst (FieldInside 4096 4096) (sym read) (inside.each k l))))
 
-    pub last_passed : (t : Bool) → t ≡ q (field_of f) → t ≡ false → Quiet k
-    last_passed t s e x = one_before x ∙ rw (← s, e)
+    pub last_passed : t ≡ false → Quiet k
+    last_passed e x = one_before x ∙ rw e
 
-    pub last_here : (t : Bool) → t ≡ q (field_of f) → t ≡ true → k + 1 ≡ last_from q 0 1 (fields_in row)
-    last_here t s e =
+    pub last_here : t ≡ true → k + 1 ≡ last_from q 0 1 (fields_in row)
+    last_here e =
         let before = last_split q 0 1 k (fields_in row) in
-        let n : 1 + k ≡ k + 1 = omega arith in
-        sym (before.1 ∙ ap (λ (next : ℕ). last_from q before.0 next (drop k (fields_in row))) n ∙ one_before before.0 ∙ rw (← s, e))
+        let from : 1 + k ≡ k + 1 = omega arith in
+        sym (before.1 ∙ ap (λ (next : ℕ). last_from q before.0 next (drop k (fields_in row))) from ∙ one_before before.0 ∙ rw e)
 
   -- behind all fields the last is what it is
   pub last_all : (k : ℕ) → k ≡ length row / 5 → Quiet k
