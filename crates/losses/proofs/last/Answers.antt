@@ -5,7 +5,7 @@ use native.Mathlib.Omega.{arith}
 use borrow.Author.Tests.{ne_eqb}
 use Rattle.std.specs.Prelude.{Some}
 use Rattle.losses.specs.Promise.{place_of}
-use Rattle.losses.proofs.LastLaws.{last_here, last_passed, last_all}
+use Rattle.losses.proofs.LastLaws.{last_found, last_passed, last_all}
 use Rattle.losses.proofs.last.Goals as goal
 
 pub loop-k-init : goal.loop-k-init
@@ -17,7 +17,7 @@ returns-then-passes g c =
     let some : Some (k + 1) ≡ place_of (k + 1) = rw (ne_eqb (k + 1) 0 (λ z. omega arith)) in
     some
     ∙ ap place_of
-    (last_here g.test c.args.fields.now k (omega (arith, c.loop-k-test.true)) _ c.field_at.ensures _ (omega (arith, c.loop-k-test.true)) c.loop-k.invariant c.requires.1.0 _
+    (last_found g.test c.args.fields.now k (omega (arith, c.loop-k-test.true)) _ c.field_at.ensures _ (omega (arith, c.loop-k-test.true)) c.loop-k.invariant c.requires.1.0 _
     (λ inside. (c.requires.1.1 _ inside).1 _ c.passes.ensures) c.if-passes.true)
 
 pub loop-k-preserved : goal.loop-k-preserved
